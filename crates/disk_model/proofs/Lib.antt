@@ -1,0 +1,4 @@
+pub mod Frames
+pub mod Fields
+pub mod Sectors
+pub mod Protection

@@ -1,0 +1,4 @@
+pub mod Answers
+pub mod Causes
+pub mod FileRefs
+pub mod Memory
