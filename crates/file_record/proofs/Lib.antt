@@ -1,0 +1,3 @@
+pub mod Headers
+pub mod Walking
+pub mod Whole

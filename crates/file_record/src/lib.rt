@@ -1,0 +1,18 @@
+//! File records of an NTFS volume: `FileRec::read` makes a record's header fields and attributes
+//! of its 1,024 bytes, or answers the least rule of the format that they break.
+//!
+//! The layouts are those of the Linux-NTFS documentation, "FILE Record" and "Attribute Header".
+#![tactic(auto)]
+
+mod attribute;
+mod fault;
+mod record;
+#[cfg(test)]
+mod tests;
+mod value;
+mod walk;
+
+pub use fault::RecFault;
+pub use record::FileRec;
+pub use record_model::{Attr, AttrList, Head, OwnForm, RecHead, Sizes};
+pub use utf16_name::Units;

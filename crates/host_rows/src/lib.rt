@@ -1,0 +1,21 @@
+//! Rows of inputs and answers that cross crates: a scan of the tiny image and of images that differ
+//! from it, through the top call, with faults of the device and the sink. The crate has tests and
+//! the builder of their images, and no more.
+#![tactic(auto)]
+
+mod image;
+
+pub use image::tiny_image;
+
+#[cfg(test)]
+mod answers;
+#[cfg(test)]
+mod faults;
+#[cfg(test)]
+mod names;
+#[cfg(test)]
+mod refusals;
+#[cfg(test)]
+mod rules;
+#[cfg(test)]
+mod runs;

@@ -1,0 +1,12 @@
+pub mod Errors
+pub mod Volumes
+pub mod Pieces
+pub mod Links
+pub mod Tables
+pub mod Scan
+pub mod Walks
+pub mod Reading
+pub mod Order
+pub mod Text
+pub mod Words
+pub mod Statuses

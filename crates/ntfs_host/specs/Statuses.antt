@@ -1,0 +1,14 @@
+-- The statuses of a command.
+use Rattle.std.specs.Prelude.{◌≡◌, ◌⊎◌, ℕ, Result, Ok, Err}
+use Rattle.ntfs_host.specs.declared.refusal.WriteError.{WriteError}
+use Rattle.ntfs_host.specs.declared.refusal.WriteError.TheVariants.{Memory, Sink}
+
+-- the status where the text is whole, or why it is not
+abbrev pub written_status : {A : Type 0} → Result A WriteError → ℕ → ℕ
+written_status (Ok x) whole = whole
+written_status (Err Memory) whole = 6
+written_status (Err Sink) whole = 7
+
+-- those of a command that reads: done, refused, no memory, the sink failed, the device failed
+abbrev pub IsQuietStatus : ℕ → Type 0
+IsQuietStatus status = (status ≡ 0) ⊎ (status ≡ 3) ⊎ (status ≡ 6) ⊎ (status ≡ 7) ⊎ (status ≡ 8)

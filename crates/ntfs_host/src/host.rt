@@ -1,0 +1,205 @@
+//! The top call.
+ghost use Rattle.std.specs.Prelude.{◌≡◌, ◌≢◌, ◌⊎◌, ◌↔◌, IsTrue, IsSome, IfSome, IsSomeAnd, IsOk, IsErr, Ok, ◌≤◌};
+ghost use Rattle.std.specs.Io.KnownBytes.{Appends};
+ghost use Rattle.host_base.specs.Causes.{Rose, HasFailed, AppendsPart};
+ghost use Rattle.ntfs_host.specs.Scan.{scan_of};
+ghost use Rattle.ntfs_host.specs.Text.{Prints, PrintsPart};
+ghost use Rattle.ntfs_host.specs.Statuses.{written_status, IsQuietStatus};
+ghost use Rattle.ntfs_host.specs.Words.{IsScan, usage};
+
+use crate::finding::find_links;
+use crate::link::Link;
+use crate::order::sort;
+use crate::output::{write_links, write_refusal};
+use crate::refusal::{ScanError, WriteError};
+use host_base::{Gate, Sink, Source, write_all};
+use sector_device::Device;
+use std::alloc::Global;
+use std::sync::Wait;
+use std::thread::Threads;
+
+const DONE: u8 = 0;
+
+const USAGE: u8 = 2;
+
+const REFUSED: u8 = 3;
+
+const MEMORY: u8 = 6;
+
+const SINK_FAULT: u8 = 7;
+
+const DEVICE_FAULT: u8 = 8;
+
+const USAGE_LINE: &str = "usage: ntfshost IMAGE COMMAND [--time N] [--seed N] [--journal N]\n";
+
+/// How a command ended, and the device.
+///
+/// The status is 0 where the command was done and its whole text written, 2 where the words are no
+/// line of a command, 3 where the image was refused, 6 for want of memory, 7 where a write of the
+/// sink failed and 8 where a call of the device failed.
+#[derive(Drop)]
+pub struct Outcome<D> {
+    pub status: u8,
+    pub device: D,
+}
+
+/// A command that runs no script.
+#[derive(Clone, Copy, Debug, PartialEq, Eq)]
+pub enum Quiet {
+    /// Prints the long names of the volume.
+    Scan,
+}
+
+fn status_of(written: Result<(), WriteError>, whole: u8) -> u8
+    ensures { result ≡ written_status written whole }
+{
+    match written {
+        Ok(()) => whole,
+        Err(WriteError::Memory) => MEMORY,
+        Err(WriteError::Sink) => SINK_FAULT,
+    }
+}
+
+// Prints the links in order.
+fn print_links<K: Sink>(alloc: Global, sink: &mut K, links: Vec<Link>) -> u8
+    ensures status { (result ≡ 0) ⊎ (result ≡ 6) ⊎ (result ≡ 7) }
+    ensures done { result ≡ 0 → Prints (K.taken sink.old) (K.taken sink.new) (Ok links.items) }
+    ensures memory { result ≡ 6 → (K.taken sink.new ≡ K.taken sink.old) ⊎ PrintsPart (K.taken sink.old) (K.taken sink.new) (Ok links.items) }
+    ensures part { result ≡ 7 → PrintsPart (K.taken sink.old) (K.taken sink.new) (Ok links.items) }
+    ensures failed { result ≡ 7 → Rose (K.faults sink.old) (K.faults sink.new) }
+    ensures later { K.faults sink.old ≤ K.faults sink.new }
+{
+    let mut links = links;
+    if sort(&mut links).is_err() {
+        return MEMORY;
+    }
+    status_of(write_links(alloc, sink, &links), DONE)
+}
+
+// Scans the device and prints the answer.
+fn scan_into<K: Sink, D: Device>(alloc: Global, sink: &mut K, device: &mut D) -> u8
+    ensures status { IsQuietStatus result }
+    ensures done { result ≡ 0 → IfSome (D.gives device.old) (λ disk. IsOk (scan_of disk) × Prints (K.taken sink.old) (K.taken sink.new) (scan_of disk)) }
+    ensures refused { result ≡ 3 → IfSome (D.gives device.old) (λ disk. IsErr (scan_of disk) × Prints (K.taken sink.old) (K.taken sink.new) (scan_of disk)) }
+    ensures memory { result ≡ 6 → IfSome (D.gives device.old) (λ disk. (K.taken sink.new ≡ K.taken sink.old) ⊎ PrintsPart (K.taken sink.old) (K.taken sink.new) (scan_of disk)) }
+    ensures part { result ≡ 7 → IfSome (D.gives device.old) (λ disk. PrintsPart (K.taken sink.old) (K.taken sink.new) (scan_of disk)) }
+    ensures sink_failed { result ≡ 7 → Rose (K.faults sink.old) (K.faults sink.new) }
+    ensures device_failed { result ≡ 8 → HasFailed (D.fault_count device.old) (D.fault_count device.new) (D.moment_of device.new) }
+    ensures silent { result ≡ 8 → K.taken sink.new ≡ K.taken sink.old }
+    ensures gives { D.gives device.new ≡ D.gives device.old }
+{
+    match find_links(alloc, device) {
+        Ok(links) => print_links(alloc, sink, links),
+        Err(ScanError::Refused(refusal)) => status_of(write_refusal(alloc, sink, refusal), REFUSED),
+        Err(ScanError::Memory) => MEMORY,
+        Err(ScanError::Device) => DEVICE_FAULT,
+    }
+}
+
+/// Does a command that runs no script, on the device; its text goes to the sink.
+///
+/// `Scan` prints a line for each long name of a file record in use, `N S P Q NAME` with the number
+/// and sequence of the file and of its directory, by file number, directory number and raw units,
+/// and then `links K`; or the line of the first refusal that applies. It reads each record once, in
+/// reads of 64 KiB, in memory that grows with the links, and sorts them.
+pub fn quiet_command<K: Sink, D: Device>(
+    alloc: Global,
+    command: &Quiet,
+    sink: &mut K,
+    device: D,
+) -> Outcome<D>
+    ensures status { IsQuietStatus result.status }
+    ensures done { result.status ≡ 0 → IfSome (D.gives device) (λ disk. IsOk (scan_of disk) × Prints (K.taken sink.old) (K.taken sink.new) (scan_of disk)) }
+    ensures refused { result.status ≡ 3 → IfSome (D.gives device) (λ disk. IsErr (scan_of disk) × Prints (K.taken sink.old) (K.taken sink.new) (scan_of disk)) }
+
+    // A front of the text was written; for want of memory it may come before there is one.
+    ensures memory { result.status ≡ 6 → IfSome (D.gives device) (λ disk. (K.taken sink.new ≡ K.taken sink.old) ⊎ PrintsPart (K.taken sink.old) (K.taken sink.new) (scan_of disk)) }
+    ensures part { result.status ≡ 7 → IfSome (D.gives device) (λ disk. PrintsPart (K.taken sink.old) (K.taken sink.new) (scan_of disk)) }
+
+    // Faults have their cause, and where the device failed nothing is written.
+    ensures sink_failed { result.status ≡ 7 → Rose (K.faults sink.old) (K.faults sink.new) }
+    ensures device_failed { result.status ≡ 8 → HasFailed (D.fault_count device) (D.fault_count result.device) (D.moment_of result.device) }
+    ensures silent { result.status ≡ 8 → K.taken sink.new ≡ K.taken sink.old }
+
+    // The device is read and not written.
+    ensures gives { D.gives result.device ≡ D.gives device }
+
+    // With no refusal and no fault the command is done, or memory is wanting.
+    ensures complete { IsSomeAnd (D.gives device) (λ disk. IsOk (scan_of disk)) → ¬ Rose (K.faults sink.old) (K.faults sink.new) → ¬ HasFailed (D.fault_count device) (D.fault_count result.device) (D.moment_of result.device) → (result.status ≡ 0) ⊎ (result.status ≡ 6) }
+{
+    let mut device = device;
+    let status = match command {
+        Quiet::Scan => scan_into(alloc, sink, &mut device),
+    };
+    Outcome { status, device }
+}
+
+// The command that the words name: the program's name, an image and a command.
+fn command_of(words: &[String]) -> Option<Quiet>
+    ensures { IsSome result ↔ IsScan words.now }
+{
+    match words {
+        [_, _, command] if command.as_str() == "scan" => Some(Quiet::Scan),
+        _ => None,
+    }
+}
+
+fn write_usage<K: Sink>(sink: &mut K) -> u8
+    ensures status { (result ≡ 2) ⊎ (result ≡ 7) }
+    ensures usage { result ≡ 2 → Appends (K.taken sink.old) (K.taken sink.new) usage }
+    ensures part { result ≡ 7 → AppendsPart (K.taken sink.old) (K.taken sink.new) usage }
+    ensures failed { result ≡ 7 → Rose (K.faults sink.old) (K.faults sink.new) }
+{
+    match write_all(sink, USAGE_LINE.as_bytes()) {
+        Ok(()) => USAGE,
+        Err(_) => SINK_FAULT,
+    }
+}
+
+/// Does the command that the words name, on the volume image of the device; its text, or the line
+/// of a refusal, goes to the sink.
+///
+/// `words` has the program's name, the image and the command; `scan` is the one command so far, and
+/// `source`, `gate` and `rt` are for commands that run a script. The status is that of `Outcome`.
+pub fn ntfs_host<R: Threads + Wait + Sync, S: Source, K: Sink, D: Device + Send, G: Gate + Sync>(
+    _rt: &R,
+    alloc: Global,
+    words: &[String],
+    _source: &mut S,
+    sink: &mut K,
+    device: D,
+    _gate: &G,
+) -> Outcome<D>
+    ensures status { (result.status ≡ 2) ⊎ IsQuietStatus result.status }
+    ensures done { result.status ≡ 0 → IfSome (D.gives device) (λ disk. IsOk (scan_of disk) × Prints (K.taken sink.old) (K.taken sink.new) (scan_of disk)) }
+    ensures refused { result.status ≡ 3 → IfSome (D.gives device) (λ disk. IsErr (scan_of disk) × Prints (K.taken sink.old) (K.taken sink.new) (scan_of disk)) }
+
+    // The usage line comes exactly where the words are no line of a command.
+    ensures words { result.status ≡ 2 → ¬ IsScan words.now }
+    ensures command { ¬ IsScan words.now → (result.status ≡ 2) ⊎ (result.status ≡ 7) }
+    ensures usage { result.status ≡ 2 → Appends (K.taken sink.old) (K.taken sink.new) usage }
+
+    // A front of the text was written, or of the usage line.
+    ensures memory { result.status ≡ 6 → IfSome (D.gives device) (λ disk. (K.taken sink.new ≡ K.taken sink.old) ⊎ PrintsPart (K.taken sink.old) (K.taken sink.new) (scan_of disk)) }
+    ensures part { result.status ≡ 7 → IsScan words.now → IfSome (D.gives device) (λ disk. PrintsPart (K.taken sink.old) (K.taken sink.new) (scan_of disk)) }
+    ensures usage_part { result.status ≡ 7 → ¬ IsScan words.now → AppendsPart (K.taken sink.old) (K.taken sink.new) usage }
+
+    // Faults have their cause, and where the device failed nothing is written.
+    ensures sink_failed { result.status ≡ 7 → Rose (K.faults sink.old) (K.faults sink.new) }
+    ensures device_failed { result.status ≡ 8 → HasFailed (D.fault_count device) (D.fault_count result.device) (D.moment_of result.device) }
+    ensures silent { result.status ≡ 8 → K.taken sink.new ≡ K.taken sink.old }
+
+    // The device is read and not written.
+    ensures gives { D.gives result.device ≡ D.gives device }
+
+    // With no refusal and no fault the command is done, or memory is wanting.
+    ensures complete { IsScan words.now → IsSomeAnd (D.gives device) (λ disk. IsOk (scan_of disk)) → ¬ Rose (K.faults sink.old) (K.faults sink.new) → ¬ HasFailed (D.fault_count device) (D.fault_count result.device) (D.moment_of result.device) → (result.status ≡ 0) ⊎ (result.status ≡ 6) }
+{
+    match command_of(words) {
+        Some(command) => quiet_command(alloc, &command, sink, device),
+        None => Outcome {
+            status: write_usage(sink),
+            device,
+        },
+    }
+}

@@ -1,0 +1,23 @@
+//! Commands over the image of an NTFS volume: the words of a command line, the refusals of an image
+//! and the text that is printed.
+//!
+//! The contract of the top call: at status 0 the sink took the scan text of what a read of the
+//! device gives, at 3 the line of the first refusal that applies, and each other status has its
+//! cause. A scan reads the layouts of the Linux-NTFS documentation, "$Boot", "$MFT" and "FILE
+//! Record".
+#![tactic(auto)]
+
+mod boot;
+mod finding;
+mod host;
+mod link;
+mod names;
+mod order;
+mod output;
+mod piece;
+mod refusal;
+mod table;
+mod text;
+mod walk;
+
+pub use host::{Outcome, Quiet, ntfs_host, quiet_command};

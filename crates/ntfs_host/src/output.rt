@@ -1,0 +1,45 @@
+//! Text that goes to the sink.
+ghost use Rattle.std.specs.Prelude.{◌≡◌, ◌≤◌, OnOk, OnErr, IsErrOf};
+ghost use Rattle.std.specs.Io.KnownBytes.{Appends};
+ghost use Rattle.host_base.specs.Causes.{Rose, AppendsPart};
+ghost use Rattle.ntfs_host.specs.Text.{links_text, refusal_line};
+
+use crate::link::Link;
+use crate::refusal::{Refusal, WriteError};
+use crate::text::{link_line, refusal_line, total_line};
+use host_base::{Sink, write_all};
+use std::alloc::Global;
+
+/// Writes a line for each link, and how many there are.
+#[tactic(auto, using(host_base::proofs::Appending::nothing))]
+pub fn write_links<K: Sink>(alloc: Global, sink: &mut K, links: &[Link]) -> Result<(), WriteError>
+    ensures ok { OnOk result (Appends (K.taken sink.old) (K.taken sink.new) (links_text links.now)) }
+    ensures err { OnErr result (AppendsPart (K.taken sink.old) (K.taken sink.new) (links_text links.now)) }
+    ensures later { K.faults sink.old ≤ K.faults sink.new }
+    ensures fault { IsErrOf result WriteError.Sink → Rose (K.faults sink.old) (K.faults sink.new) }
+{
+    for link in links {
+        let line = link_line(alloc, link)?;
+        write_all(sink, line.as_bytes())?;
+    }
+    let line = total_line(alloc, links.len())?;
+    write_all(sink, line.as_bytes())?;
+    Ok(())
+}
+
+/// Writes the refusal's line.
+#[tactic(auto, using(host_base::proofs::Appending::nothing))]
+pub fn write_refusal<K: Sink>(
+    alloc: Global,
+    sink: &mut K,
+    refusal: Refusal,
+) -> Result<(), WriteError>
+    ensures ok { OnOk result (Appends (K.taken sink.old) (K.taken sink.new) (refusal_line refusal)) }
+    ensures err { OnErr result (AppendsPart (K.taken sink.old) (K.taken sink.new) (refusal_line refusal)) }
+    ensures later { K.faults sink.old ≤ K.faults sink.new }
+    ensures fault { IsErrOf result WriteError.Sink → Rose (K.faults sink.old) (K.faults sink.new) }
+{
+    let line = refusal_line(alloc, refusal)?;
+    write_all(sink, line.as_bytes())?;
+    Ok(())
+}

@@ -1,0 +1,52 @@
+//! The lines that a scan prints.
+ghost use Rattle.std.specs.Prelude.{◌≡◌, IfOk, string_bytes};
+ghost use Rattle.ntfs_host.specs.Text.{link_start, link_line, total_line, refusal_line};
+
+use crate::link::Link;
+use crate::refusal::Refusal;
+use host_base::Memory;
+use std::alloc::{AllocError, Global};
+
+#[tactic(auto, unfolding(crate::specs::Text::link_start))]
+fn link_start(alloc: Global, link: &Link) -> Result<String, AllocError>
+    ensures { IfOk result (λ line. string_bytes line ≡ link_start link.now) }
+{
+    let child = link.child;
+    let parent = link.parent;
+    let (n, s, p, q) = (child.number, child.seq, parent.number, parent.seq);
+    format!(in alloc; "{n} {s} {p} {q} ")
+}
+
+/// The link's line: child number and sequence, parent number and sequence, and the name.
+#[tactic(auto, unfolding(crate::specs::Text::link_line))]
+pub fn link_line(alloc: Global, link: &Link) -> Result<String, Memory>
+    ensures { IfOk result (λ line. string_bytes line ≡ link_line link.now) }
+{
+    let mut line = link_start(alloc, link)?;
+    link.name.append_text(&mut line)?;
+    line.push('\n')?;
+    Ok(line)
+}
+
+/// The line that says how many links there are.
+#[tactic(auto, unfolding(crate::specs::Text::total_line))]
+pub fn total_line(alloc: Global, count: usize) -> Result<String, AllocError>
+    ensures { IfOk result (λ line. string_bytes line ≡ total_line count) }
+{
+    format!(in alloc; "links {count}\n")
+}
+
+/// The refusal's line: its number, its name and its values.
+#[tactic(auto, unfolding(crate::specs::Text::refusal_line))]
+pub fn refusal_line(alloc: Global, refusal: Refusal) -> Result<String, AllocError>
+    ensures { IfOk result (λ line. string_bytes line ≡ refusal_line refusal) }
+{
+    match refusal {
+        Refusal::NotNtfs { rule } => format!(in alloc; "refused 1 NotNtfs {rule}\n"),
+        Refusal::BadFixup { number } => format!(in alloc; "refused 5 BadFixup {number}\n"),
+        Refusal::BadRecord { number, rule } => {
+            format!(in alloc; "refused 6 BadRecord {number} {rule}\n")
+        }
+        Refusal::Unbuilt { rule } => format!(in alloc; "refused 17 Unbuilt {rule}\n"),
+    }
+}

@@ -1,0 +1,15 @@
+pub mod Answering
+pub mod Attributes
+pub mod Pieces
+pub mod Records
+pub mod UnitBytes
+pub mod ResidentSpelling
+pub mod MappedSpelling
+pub mod Spellings
+pub mod RecordSpelling
+pub mod Rules
+pub mod PairsSigned
+pub mod PairsRead
+pub mod PairsSpelled
+pub mod PairsBack
+pub mod PairsShortest

@@ -1,0 +1,6 @@
+pub mod Attributes
+pub mod Values
+pub mod Records
+pub mod RecordLaws
+pub mod Pairs
+pub mod PairsLaws

@@ -1,0 +1,25 @@
+//! Definitions of what stands in the blocks of an NTFS volume: file records with their attributes
+//! and the values of attributes, each as a reader that answers the least broken rule, a table that
+//! relates bytes and values field by field, and the one canonical spelling that is written.
+//!
+//! The layouts are those of the Linux-NTFS documentation, "FILE Record", "Attribute Header",
+//! "$STANDARD_INFORMATION", "$FILE_NAME" and "Data runs".
+#![tactic(auto)]
+
+mod attribute;
+mod pairs_laws;
+mod record;
+mod record_laws;
+mod runs;
+
+pub use attribute::{Attr, AttrList, Head, OwnForm, Sizes};
+pub use pairs_laws::{
+    pairs_vectors, read_pairs_are_spelled, spelled_pairs_are_read, written_pairs_are_read,
+    written_pairs_are_shortest, written_pairs_are_spelled,
+};
+pub use record::RecHead;
+pub use record_laws::{
+    attr_read_again, attr_read_is_table, attr_table_is_read, read_is_table, record_is_body,
+    record_read_again, rule_is_least, spells_one_record, table_is_read,
+};
+pub use runs::{PairsFault, Run, Runs};

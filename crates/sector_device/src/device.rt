@@ -1,0 +1,84 @@
+ghost use Rattle.std.specs.Prelude.{◌≡◌, ◌+◌, ◌*◌, ◌/◌, ◌%◌, ◌^◌, ◌<◌, ◌≤◌, ℕ, List, Option, length, OnOk, OnErr, IfSome};
+ghost use Rattle.std.specs.Option.{option_map};
+ghost use Rattle.disk_model.specs.Bytes.{written};
+ghost use Rattle.disk_model.specs.Sectors.{sector_of, raw_from};
+ghost use Rattle.host_base.specs.Causes.{FailsByCause, last_moment};
+ghost use Rattle.sector_device.specs.Moments.{moment_after, DoesNothing};
+ghost use Rattle.sector_device.specs.Sectors.{sectors_of, IsDiskOf, IsTornBy};
+
+use host_base::Failed;
+
+/// The bytes of a sector.
+pub const SECTOR_BYTES: usize = 512;
+
+/// From this moment on a device answers `Failed` and does nothing else.
+pub const LAST_MOMENT: u64 = 1 << 62;
+
+/// A list of 512-byte sectors.
+///
+/// Each read, write and sync begins a moment, and its return begins another. From `LAST_MOMENT`
+/// on each of the three answers `Failed`, does nothing else and begins no moment. Before it each
+/// answers `Failed` only where the count of faults rose in this call, or stood at its end.
+pub trait Device {
+    /// The sectors that reads give, where they are known.
+    ghost gives: { Self → Option (List (List ℕ)) };
+
+    /// Stays for the device's life.
+    ghost sector_count: { Self → ℕ };
+
+    /// The calls begun and the calls returned.
+    ghost moment_of: { Self → ℕ };
+
+    /// Never falls.
+    ghost fault_count: { Self → ℕ };
+
+    /// The number of sectors; the offset of each of their bytes fits a `u64`.
+    fn sectors(&self) -> u64
+        ensures { result ≡ sector_count self.now };
+
+    /// The calls of `read`, `write` and `sync` begun, and those returned.
+    fn moment(&self) -> u64
+        ensures { result ≡ moment_of self.now };
+
+    /// The failures so far. The count stops at `u64::MAX`.
+    fn faults(&self) -> u64
+        ensures { result ≡ fault_count self.now };
+
+    /// Fills the buffer, a whole number of sectors, from the sector with the number `first` on.
+    /// After `Failed` any bytes may stand in it.
+    fn read(&mut self, first: u64, out: &mut [u8]) -> Result<(), Failed>
+        requires whole { length out.old % 512 ≡ 0 }
+        requires within { 512 * first + length out.old ≤ 512 * sector_count self.old }
+        ensures bytes { OnOk result (IfSome (gives self.old) (λ disk. out.new ≡ raw_from (sector_of disk) first (length out.old / 512))) }
+        ensures gives { gives self.new ≡ gives self.old }
+        ensures sectors { sector_count self.new ≡ sector_count self.old }
+        ensures moment { moment_of self.new ≡ moment_after (moment_of self.old) }
+        ensures cause { FailsByCause (fault_count self.old) (fault_count self.new) (moment_of self.new) result }
+        ensures ended { last_moment ≤ moment_of self.old → DoesNothing (gives self.old) (gives self.new) (fault_count self.old) (fault_count self.new) result };
+
+    /// Writes the bytes, a whole number of sectors, from the sector with the number `first` on.
+    /// After `Failed` each of those sectors, by itself, has its old bytes or the new ones.
+    fn write(&mut self, first: u64, bytes: &[u8]) -> Result<(), Failed>
+        requires whole { length bytes.now % 512 ≡ 0 }
+        requires within { 512 * first + length bytes.now ≤ 512 * sector_count self.old }
+        ensures written { OnOk result (gives self.new ≡ option_map (written first (sectors_of bytes.now)) (gives self.old)) }
+        ensures torn { OnErr result (IsTornBy first (sectors_of bytes.now) (gives self.old) (gives self.new)) }
+        ensures sectors { sector_count self.new ≡ sector_count self.old }
+        ensures moment { moment_of self.new ≡ moment_after (moment_of self.old) }
+        ensures cause { FailsByCause (fault_count self.old) (fault_count self.new) (moment_of self.new) result }
+        ensures ended { last_moment ≤ moment_of self.old → DoesNothing (gives self.old) (gives self.new) (fault_count self.old) (fault_count self.new) result };
+
+    /// Makes durable what was written. After `Failed` nothing more is durable.
+    fn sync(&mut self) -> Result<(), Failed>
+        ensures gives { gives self.new ≡ gives self.old }
+        ensures sectors { sector_count self.new ≡ sector_count self.old }
+        ensures moment { moment_of self.new ≡ moment_after (moment_of self.old) }
+        ensures cause { FailsByCause (fault_count self.old) (fault_count self.new) (moment_of self.new) result }
+        ensures ended { last_moment ≤ moment_of self.old → DoesNothing (gives self.old) (gives self.new) (fault_count self.old) (fault_count self.new) result };
+
+    /// Law: what reads give is `sector_count` sectors of 512 bytes each.
+    ghost whole: { (d : Self) → IfSome (gives d) (IsDiskOf (sector_count d)) };
+
+    /// Law: the offset of each byte fits a `u64`.
+    ghost few: { (d : Self) → sector_count d < 2 ^ 55 };
+}

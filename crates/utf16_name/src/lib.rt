@@ -1,0 +1,16 @@
+//! Names of files: which lists of UTF-16 units are names, and how a name is printed.
+//!
+//! The contract: units are a name exactly where there are 1 to 255 of them and none is 0 or `/`,
+//! and each other list is refused by its first fault. Names are those of the Linux-NTFS
+//! documentation, "Attribute - $FILE_NAME".
+#![tactic(auto)]
+
+mod name;
+mod text;
+mod units;
+
+pub use name::{Name, NameFault, check};
+pub use units::Units;
+
+#[cfg(test)]
+mod tests;
