@@ -8,15 +8,17 @@ mod block;
 mod fixups;
 mod laws;
 mod numbers;
+mod putting;
 
-pub use block::{Block, BlockKind, Body, Change};
+pub use block::{Block, BlockKind, Body, Change, MOST_BYTES};
 pub use fixups::FixupFault;
 pub use laws::{
     body_has_its_size, byte_after_writes, first_torn_is_first, fixups_vector, frame_of_writes,
     frame_on_disk, mixed_is_torn, protected_is_read, raw_in_raw, read_is_protected,
     write_out_frame, writes_commute, writes_in_two_parts,
 };
-pub use numbers::{u16_at, u32_at, u64_at};
+pub use numbers::{put_u16, put_u32, put_u64, u16_at, u32_at, u64_at};
+pub use putting::put_bytes;
 
 #[cfg(test)]
 mod tests;

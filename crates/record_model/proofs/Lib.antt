@@ -13,3 +13,6 @@ pub mod PairsRead
 pub mod PairsSpelled
 pub mod PairsBack
 pub mod PairsShortest
+pub mod ValueFields
+pub mod FixedValues
+pub mod FileNames

@@ -4,3 +4,5 @@ pub mod Records
 pub mod RecordLaws
 pub mod Pairs
 pub mod PairsLaws
+pub mod StdValues
+pub mod StdValuesLaws

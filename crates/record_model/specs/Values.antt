@@ -36,9 +36,13 @@ space_of value = field 0x41 1 value
 unfoldable pub units_of : List ℕ → List ℕ
 units_of value = units_at 0x42 (field 0x40 1 value) value
 
--- a file-name value: 42 bytes (hexadecimal) and its units, a namespace of 0 to 3, and a lawful name
+-- a file-name value has 42 bytes (hexadecimal) and its units
+abbrev pub has_name_length : List ℕ → Bool
+has_name_length value = nat_le 0x42 (length value) && length value == 0x42 + 2 * field 0x40 1 value
+
+-- a file-name value: its length, a namespace of 0 to 3, and a lawful name
 unfoldable pub is_file_name : List ℕ → Bool
-is_file_name value = nat_le 0x42 (length value) && length value == 0x42 + 2 * field 0x40 1 value && nat_le (space_of value) 3 && is_ok (name_of (units_of value))
+is_file_name value = has_name_length value && nat_le (space_of value) 3 && is_ok (name_of (units_of value))
 
 -- the value is resident and passes the test
 abbrev pub is_resident_and : (List ℕ → Bool) → OwnForm → Bool

@@ -1,0 +1,4 @@
+pub mod Headers
+pub mod Whole
+pub mod Pushed
+pub mod Spelled

@@ -1,0 +1,64 @@
+ghost use Rattle.std.specs.Prelude.{◌≡◌, Some};
+ghost use Rattle.block_view.specs.Memory.{held_content, content_of_memory};
+ghost use Rattle.block_view.specs.Sizes.{sized_held};
+
+use super::fault::ViewFault;
+use super::held::Held;
+use super::view::View;
+use disk_model::{Block, Body};
+
+/// A view in memory, for tests: the bodies that it was given, the first one of a block, and zeros
+/// in other blocks; with the numbers of the calls that are to fail, the first call being 1.
+#[derive(Drop)]
+pub struct MemoryView {
+    held: Vec<Held>,
+    failing: Vec<u64>,
+    calls: u64,
+    faults: u64,
+}
+
+impl MemoryView {
+    /// These bodies, and the numbers of the calls that are to fail.
+    pub fn new(held: Vec<Held>, failing: Vec<u64>) -> Self
+        ensures { content_of_memory result ≡ held_content held.items }
+    {
+        MemoryView {
+            held,
+            failing,
+            calls: 0,
+            faults: 0,
+        }
+    }
+}
+
+fn give(held: &[Held], block: Block, out: &mut Body)
+    ensures { out.new ≡ held_content held.now block }
+{
+    for h in held {
+        if block == h.block {
+            out.set(h.bytes.as_slice(), h.torn);
+            return;
+        }
+    }
+    out.set_zeros(512 * block.kind.sectors());
+}
+
+impl View for MemoryView {
+    ghost content = { λ v. Some (held_content v.held.items) };
+
+    ghost faults = { λ v. v.faults };
+
+    /// Linear in the bodies held.
+    fn body(&mut self, block: Block, out: &mut Body) -> Result<(), ViewFault> {
+        let call = self.calls.saturating_add(1);
+        self.calls = call;
+        if self.failing.contains(&call) {
+            self.faults = self.faults.saturating_add(1);
+            return Err(ViewFault::Fault);
+        }
+        give(&self.held, block, out);
+        Ok(())
+    }
+
+    ghost sized = { λ v. sized_held v.held.items };
+}

@@ -1,0 +1,2 @@
+pub mod BootSectors
+pub mod BootLaws

@@ -1,0 +1,139 @@
+ghost use Rattle.std.specs.Prelude.{◌≡◌, true, ℕ, List, Result, ◌+◌, ◌*◌, ◌<◌, ◌≤◌, ◌^◌, length};
+ghost use Rattle.host_base.specs.Answers.{Gives};
+ghost use Rattle.record_model.specs.declared.values.ValueFault.{ValueFault};
+ghost use Rattle.record_model.specs.Values.{units_of, has_name_length};
+ghost use Rattle.record_model.specs.StdValues.{value_cause, name_head_over};
+ghost use Rattle.std_values.specs.Naming.{lawful_name};
+
+use crate::bytes::{byte_at, put_byte, put_units, units_at};
+use disk_model::{put_u32, put_u64, u32_at, u64_at};
+use host_base::FileRef;
+use record_model::{FileNameValue, ValueFault};
+use std::alloc::Global;
+use utf16_name::{Name, NameFault};
+
+/// The last namespace: Win32 and DOS.
+const LAST_SPACE: u8 = 3;
+
+/// A value with a name of its own length.
+pub trait NamedValue: Sized {
+    /// Whether so many bytes are the value's.
+    ghost has_size: { Self → List ℕ → Type 0 };
+
+    /// Whether the value's fields have a spelling.
+    ghost fits: { Self → Type 0 };
+
+    /// The fields of a value, or what refuses it.
+    ghost fields_of: { List ℕ → Result Self ValueFault };
+
+    /// A value after these fields are written.
+    ghost over: { Self → List ℕ → List ℕ };
+
+    /// Reads the fields, in time and memory linear in the bytes. `Length` comes where the value has
+    /// not exactly 42 (hexadecimal) bytes and those of its units; `Shape` where the namespace is
+    /// above 3, or where the units are no name; `Memory` is want of memory.
+    fn read(alloc: Global, value: &[u8]) -> Result<Self, ValueFault>
+        ensures { Gives (λ fields. fields) value_cause result (fields_of value.now) };
+
+    /// Sets the bytes of the fields, the name among them, and leaves the others. The parent's
+    /// number is below 2^48, and the value has 42 (hexadecimal) bytes and those of the name.
+    fn write(&self, out: &mut [u8])
+        requires fits { fits self.now }
+        requires size { has_size self.now out.old }
+        ensures { out.new ≡ over self.now out.old };
+}
+
+/// The bytes of a file-name value before its units.
+const HEAD: usize = 0x42;
+
+// Whether a value has its 42 (hexadecimal) bytes and those of its units.
+fn has_name_length(value: &[u8]) -> bool
+    ensures { result ≡ has_name_length value.now }
+{
+    value.len() >= HEAD && value.len() == HEAD + 2 * usize::from(byte_at(value, 0x40))
+}
+
+// The name of these units. `Shape` is the answer where they are none.
+fn checked(alloc: Global, units: &[u16]) -> Result<Name, ValueFault>
+    ensures { Gives (λ name. name) value_cause result (lawful_name units.now) }
+{
+    match Name::checked(alloc, units) {
+        Ok(name) => Ok(name),
+        Err(NameFault::Memory) => Err(ValueFault::Memory),
+        Err(_) => Err(ValueFault::Shape),
+    }
+}
+
+// The name in a value of the right length.
+#[tactic(auto, using(crate::proofs::Naming::units_inside), unfolding(record_model::specs::Values::units_of))]
+fn name(alloc: Global, value: &[u8]) -> Result<Name, ValueFault>
+    requires { has_name_length value.now ≡ true }
+    ensures { Gives (λ name. name) value_cause result (lawful_name (units_of value.now)) }
+{
+    let units = units_at(alloc, HEAD, usize::from(byte_at(value, 0x40)), value)?;
+    checked(alloc, units.as_slice())
+}
+
+// Sets the fields before the name.
+#[tactic(auto, unfolding(record_model::specs::StdValues::name_head_over))]
+fn write_head(fields: &FileNameValue, out: &mut [u8])
+    requires parent { fields.now.parent.number < 2 ^ 48 }
+    requires size { 0x42 ≤ length out.old }
+    ensures { out.new ≡ name_head_over fields.now out.old }
+{
+    put_u64(out, 0x00, fields.parent.pack());
+    put_u64(out, 0x08, fields.created);
+    put_u64(out, 0x10, fields.modified);
+    put_u64(out, 0x18, fields.changed);
+    put_u64(out, 0x20, fields.read_at);
+    put_u64(out, 0x28, fields.allocated);
+    put_u64(out, 0x30, fields.real);
+    put_u32(out, 0x38, fields.flags);
+}
+
+impl NamedValue for FileNameValue {
+    ghost use Rattle.record_model.specs.declared.values.FileNameValue.{FileNameValue};
+    ghost use Rattle.record_model.specs.StdValues.{file_name_of, file_name_over};
+
+    ghost has_size = { λ f value. length value ≡ 0x42 + 2 * length f.name };
+
+    ghost fits = { λ f. f.parent.number < 2 ^ 48 };
+
+    ghost fields_of = { file_name_of };
+
+    ghost over = { file_name_over };
+
+    #[tactic(auto, using(crate::proofs::Naming::answers), unfolding(record_model::specs::Values::parent_of, record_model::specs::Values::space_of))]
+    fn read(alloc: Global, value: &[u8]) -> Result<Self, ValueFault> {
+        if !has_name_length(value) {
+            return Err(ValueFault::Length {
+                len: value.len() as u64,
+            });
+        }
+        if byte_at(value, 0x41) > LAST_SPACE {
+            return Err(ValueFault::Shape);
+        }
+        let name = name(alloc, value)?;
+        Ok(FileNameValue {
+            parent: FileRef::unpack(u64_at(value, 0x00)),
+            created: u64_at(value, 0x08),
+            modified: u64_at(value, 0x10),
+            changed: u64_at(value, 0x18),
+            read_at: u64_at(value, 0x20),
+            allocated: u64_at(value, 0x28),
+            real: u64_at(value, 0x30),
+            flags: u32_at(value, 0x38),
+            space: byte_at(value, 0x41),
+            name,
+        })
+    }
+
+    #[tactic(auto, unfolding(record_model::specs::StdValues::file_name_over))]
+    fn write(&self, out: &mut [u8]) {
+        write_head(self, out);
+        let units = self.name.units();
+        put_byte(out, 0x40, units.len() as u8);
+        put_byte(out, 0x41, self.space);
+        put_units(out, HEAD, units);
+    }
+}
