@@ -1,11 +1,10 @@
 #!/usr/bin/env python3
-"""Writes docs/DEFINITIONS.md: each definition of specs/ with the sentence above it, by crate and file.
+"""Writes docs/DEFINITIONS.md: each definition of specs/ with the sentence above it, by crate and file. One whose name says
+enough to have no sentence is listed by its name.
 
 Run it at the top of the repository:
 
     python3 tools/definitions.py > docs/DEFINITIONS.md
-
-A definition without a sentence is left out: it is a part of the one below it.
 """
 import re
 from pathlib import Path
@@ -25,7 +24,7 @@ def entries(path):
                 comment.append(text)
             continue
         found = HEAD.match(line)
-        if found and not line.startswith("pub mod") and comment:
+        if found and not line.startswith("pub mod"):
             yield found.group(1), " ".join(comment)
         if line.strip():
             comment = []
@@ -62,7 +61,8 @@ def main():
                 continue
             print(f"\n### {path.stem}\n\n{title(path)}\n")
             for name, sentence in found:
-                print(f"- `{name}`: {sentence[0].lower() + sentence[1:] if sentence[:2].istitle() else sentence}")
+                start = sentence[:1].lower() + sentence[1:] if sentence[:2].istitle() else sentence
+                print(f"- `{name}`" + (f": {start}" if start else ""))
 
 
 if __name__ == "__main__":
