@@ -45,12 +45,6 @@ only_run (a ∷ b ∷ attrs) = None
 unfoldable pub data_run : Record → Option DataRun
 data_run r = only_run (filter is_unnamed_data r.attrs)
 
-abbrev pub piece_run : Piece → Option DataRun
-piece_run Torn = None
-piece_run Free = None
-piece_run (Broken rule) = None
-piece_run (Used r) = data_run r
-
 -- ---- the log and the table
 
 -- where a run of at least so many clusters begins, if it lies in the volume

@@ -254,8 +254,8 @@ fn read_volume<D: Device>(device: &mut D) -> Result<Volume, ScanError>
 }
 
 /// The links of the volume on the device, by record and then as they stand in it: each long name
-/// of a record in use. It reads each record once, in reads of 64 KiB, and takes memory for one
-/// read and the links.
+/// of a record in use. It reads records 2 and 0, and then goes over the file table once, in reads
+/// of 64 KiB, in memory for one read and the links.
 ///
 /// The errors are want of memory, a failure of the device, and the first refusal that applies.
 pub fn find_links<D: Device>(alloc: Global, device: &mut D) -> Result<Vec<Link>, ScanError>

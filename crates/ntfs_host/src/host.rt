@@ -100,8 +100,9 @@ fn scan_into<K: Sink, D: Device>(alloc: Global, sink: &mut K, device: &mut D) ->
 ///
 /// `Scan` prints a line for each long name of a file record in use, `N S P Q NAME` with the number
 /// and sequence of the file and of its directory, by file number, directory number and raw units,
-/// and then `links K`; or the line of the first refusal that applies. It reads each record once, in
-/// reads of 64 KiB, in memory that grows with the links, and sorts them.
+/// and then `links K`; or the line of the first refusal that applies. It reads records 2 and 0, and
+/// then goes over the file table once, in reads of 64 KiB; its memory grows with the links, which
+/// it sorts.
 pub fn quiet_command<K: Sink, D: Device>(
     alloc: Global,
     command: &Quiet,
@@ -121,7 +122,7 @@ pub fn quiet_command<K: Sink, D: Device>(
     ensures device_failed { result.status ≡ 8 → HasFailed (D.fault_count device) (D.fault_count result.device) (D.moment_of result.device) }
     ensures silent { result.status ≡ 8 → K.taken sink.new ≡ K.taken sink.old }
 
-    // The device is read and not written.
+    // What a read of the device gives stays.
     ensures gives { D.gives result.device ≡ D.gives device }
 
     // With no refusal and no fault the command is done, or memory is wanting.
@@ -189,7 +190,7 @@ pub fn ntfs_host<R: Threads + Wait + Sync, S: Source, K: Sink, D: Device + Send,
     ensures device_failed { result.status ≡ 8 → HasFailed (D.fault_count device) (D.fault_count result.device) (D.moment_of result.device) }
     ensures silent { result.status ≡ 8 → K.taken sink.new ≡ K.taken sink.old }
 
-    // The device is read and not written.
+    // What a read of the device gives stays.
     ensures gives { D.gives result.device ≡ D.gives device }
 
     // With no refusal and no fault the command is done, or memory is wanting.
