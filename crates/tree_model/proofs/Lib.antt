@@ -1,0 +1,2 @@
+pub mod NameOrders
+pub mod Refusing

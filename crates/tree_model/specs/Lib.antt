@@ -1,0 +1,4 @@
+pub mod Names
+pub mod Trees
+pub mod Walks
+pub mod Steps

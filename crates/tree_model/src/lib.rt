@@ -8,25 +8,25 @@
 
 mod journal;
 mod link;
-//mod listing;
+mod looking;
 mod node;
-//mod ordering;
+mod ordering;
 mod path;
+mod plain;
 mod reply;
 mod script;
-//mod stepping;
-//cfg
-//mod tests;
+mod stepping;
 mod tree;
 
 pub use host_base::{Bytes, FileRef};
 pub use journal::{Journal, Usn, UsnList};
 pub use link::{FileRefList, Link, LinkList};
+pub use looking::Lookup;
 pub use node::{Kind, Node, NodeList, Why};
-//pub use ordering::{compare_names, is_same_name};
+pub use ordering::{compare_names, is_same_name};
 pub use path::Path;
 pub use reply::{NameList, Reply};
 pub use script::{Command, Op, Script, What};
-//pub use stepping::step;
+pub use stepping::{answer, step};
 pub use tree::Tree;
 pub use utf16_name::{Name, Units};

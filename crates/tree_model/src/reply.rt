@@ -85,13 +85,19 @@ pub enum Reply {
         read_at: u64,
     },
     /// The long names of a directory, in order.
-    Names { names: NameList },
+    Names {
+        names: NameList,
+    },
     /// A part of a path is no name.
     BadName,
     /// The walk finds no file for this part; 0 is the root.
-    NotFound { part: u64 },
+    NotFound {
+        part: u64,
+    },
     /// The file that this part names must be a directory and isn't; 0 is the root.
-    NotDirectory { part: u64 },
+    NotDirectory {
+        part: u64,
+    },
     /// A call of the device failed.
     Fault,
     /// Memory was wanting.

@@ -1,0 +1,203 @@
+ghost use Rattle.std.specs.Prelude.{◌≡◌, ◌≢◌, ◌<◌, ◌^◌, ◌+◌, IfOk, length};
+ghost use Rattle.std.specs.List.{list_any};
+ghost use Rattle.host_base.specs.Answers.{Gives};
+ghost use Rattle.tree_model.specs.Trees.{is_directory, is_directory_kind};
+ghost use Rattle.tree_model.specs.Walks.{entered, reached, reached_directory, is_bad_part, has_bad_part};
+ghost use Rattle.tree_model.specs.Steps.{stat_of, reply_cause, Lists, Replies, IsStep};
+
+use crate::looking::Lookup;
+use crate::node::{Kind, Node};
+use crate::path::Path;
+use crate::plain::Plain;
+use crate::reply::Reply;
+use crate::script::Op;
+use crate::tree::Tree;
+use host_base::Memory;
+use std::alloc::{AllocError, Global};
+use utf16_name::{Units, check};
+
+// The root's number.
+const ROOT: u64 = 5;
+
+impl From<AllocError> for Reply {
+    ghost use Rattle.std.specs.Prelude.{◌≡◌};
+    ghost use Rattle.tree_model.specs.declared.reply.Reply.TheVariants.{Memory as no_memory};
+
+    ghost from_gives = { λ _ e. e ≡ no_memory };
+
+    fn from(_: AllocError) -> Self {
+        Reply::Memory
+    }
+}
+
+fn is_directory_kind(kind: Kind) -> bool
+    ensures { result ≡ is_directory_kind kind }
+{
+    kind == Kind::Directory
+}
+
+#[tactic(auto, unfolding(crate::specs::Trees::is_directory))]
+fn is_directory<L: Lookup>(tree: &L, number: u64) -> bool
+    ensures { result ≡ is_directory (L.nodes tree.now) number }
+{
+    match tree.node(number) {
+        Some(node) => is_directory_kind(node.kind),
+        None => false,
+    }
+}
+
+// The number that a part leads to.
+#[tactic(auto, unfolding(crate::specs::Walks::entered))]
+fn entered<L: Lookup>(
+    alloc: Global,
+    tree: &L,
+    at: u64,
+    number: u64,
+    part: &[u16],
+) -> Result<u64, Reply>
+    requires { at + 1 < 2 ^ 64 }
+    ensures { Gives (λ child. child) reply_cause result (entered (L.upper tree.now) (L.nodes tree.now) (L.links tree.now) at number part.now) }
+{
+    if !is_directory(tree, number) {
+        return Err(Reply::NotDirectory { part: at });
+    }
+    match tree.child(alloc, number, part)? {
+        Some(child) => Ok(child),
+        None => Err(Reply::NotFound { part: at + 1 }),
+    }
+}
+
+// The node that a path names.
+#[tactic(auto, unfolding(crate::specs::Walks::reached, crate::specs::Walks::walk))]
+fn reached<'a, L: Lookup>(alloc: Global, tree: &'a L, path: &[Units]) -> Result<&'a Node, Reply>
+    ensures { Gives (λ node. node.now) reply_cause result (reached (L.upper tree.now) (L.nodes tree.now) (L.links tree.now) path.now) }
+{
+    let mut number = ROOT;
+    for (at, part) in path.iter().enumerate() {
+        number = entered(alloc, tree, at as u64, number, part.as_slice())?;
+    }
+    match tree.node(number) {
+        Some(node) => Ok(node),
+        None => Err(Reply::NotFound {
+            part: path.len() as u64,
+        }),
+    }
+}
+
+// The directory that a path names.
+#[tactic(auto, unfolding(crate::specs::Walks::reached_directory))]
+fn reached_directory<'a, L: Lookup>(
+    alloc: Global,
+    tree: &'a L,
+    path: &[Units],
+) -> Result<&'a Node, Reply>
+    ensures { Gives (λ node. node.now) reply_cause result (reached_directory (L.upper tree.now) (L.nodes tree.now) (L.links tree.now) path.now) }
+{
+    let node = reached(alloc, tree, path)?;
+    if !is_directory_kind(node.kind) {
+        return Err(Reply::NotDirectory {
+            part: path.len() as u64,
+        });
+    }
+    Ok(node)
+}
+
+// Whether a part of the path is no name.
+#[tactic(auto, unfolding(crate::specs::Walks::has_bad_part))]
+fn has_bad_part(path: &[Units]) -> bool
+    ensures { result ≡ has_bad_part path.now }
+{
+    path.iter().any(|part| check(part.as_slice()).is_some())
+}
+
+#[tactic(auto, unfolding(crate::specs::Steps::stat_of))]
+fn stat_of<L: Lookup>(tree: &L, node: &Node) -> Reply
+    ensures { result ≡ stat_of (L.links tree.now) node.now }
+{
+    Reply::Stat {
+        number: node.number,
+        seq: node.seq,
+        kind: node.kind,
+        links: tree.long_names_of(node.number),
+        size: node.size,
+        clusters: node.clusters,
+        created: node.created,
+        modified: node.modified,
+        changed: node.changed,
+        read_at: node.read_at,
+    }
+}
+
+#[tactic(auto, using(crate::proofs::Refusing::refused_by_cause), unfolding(crate::specs::Steps::refusal, crate::specs::Steps::stat_of))]
+fn stat<L: Lookup>(alloc: Global, tree: &L, path: &Path) -> Reply
+    ensures value { result ≢ Reply.Memory → Replies (L.upper tree.now) (L.nodes tree.now) (L.links tree.now) (Op.Stat path.now) result }
+    ensures fault { result ≢ Reply.Fault }
+{
+    if has_bad_part(path.as_slice()) {
+        return Reply::BadName;
+    }
+    match reached(alloc, tree, path.as_slice()) {
+        Ok(node) => stat_of(tree, node),
+        Err(reply) => reply,
+    }
+}
+
+// The long names of a directory, as a reply.
+fn names_in<L: Lookup>(alloc: Global, tree: &L, directory: u64) -> Reply
+    ensures value { result ≢ Reply.Memory → Lists (L.upper tree.now) (L.links tree.now) directory result }
+    ensures fault { result ≢ Reply.Fault }
+{
+    match tree.listing(alloc, directory) {
+        Ok(names) => Reply::Names { names },
+        Err(_) => Reply::Memory,
+    }
+}
+
+#[tactic(auto, using(crate::proofs::Refusing::refused_by_cause), unfolding(crate::specs::Steps::refusal))]
+fn list<L: Lookup>(alloc: Global, tree: &L, path: &Path) -> Reply
+    ensures value { result ≢ Reply.Memory → Replies (L.upper tree.now) (L.nodes tree.now) (L.links tree.now) (Op.List path.now) result }
+    ensures fault { result ≢ Reply.Fault }
+{
+    if has_bad_part(path.as_slice()) {
+        return Reply::BadName;
+    }
+    match reached_directory(alloc, tree, path.as_slice()) {
+        Ok(node) => names_in(alloc, tree, node.number),
+        Err(reply) => reply,
+    }
+}
+
+/// What is answered to an operation that changes nothing: the first refusal that applies, else
+/// what it asks for; or `Memory` for want of memory. It asks the tree one question for each part
+/// of the path, and one or two more.
+pub fn answer<L: Lookup>(alloc: Global, tree: &L, op: &Op) -> Reply
+    ensures value { result ≢ Reply.Memory → Replies (L.upper tree.now) (L.nodes tree.now) (L.links tree.now) op.now result }
+    ensures fault { result ≢ Reply.Fault }
+{
+    match op {
+        Op::Stat { path } => stat(alloc, tree, path),
+        Op::List { path } => list(alloc, tree, path),
+    }
+}
+
+/// One step of the tree, by going through its lists at each question: a plain program to compare
+/// others with. `upper` gives each of the 65,536 units its upper-case unit; `stamp` is the time of
+/// the step, in 100 ns since 1601-01-01. The error is want of memory. It copies the tree, and
+/// takes time linear in the tree for each part of the path.
+pub fn step(
+    alloc: Global,
+    tree: &Tree,
+    upper: &[u16],
+    op: &Op,
+    _stamp: u64,
+) -> Result<(Tree, Reply), Memory>
+    requires table { length upper.now ≡ 65536 }
+    requires early { _stamp < 2 ^ 63 }
+    ensures value { IfOk result (λ step. IsStep upper.now op.now step.1 tree.now step.0) }
+    ensures given { IfOk result (λ step. (step.1 ≢ Reply.Memory) × (step.1 ≢ Reply.Fault)) }
+{
+    match answer(alloc, &Plain { upper, tree }, op) {
+        Reply::Memory => Err(Memory),
+        reply => Ok((tree.clone()?, reply)),
+    }
+}
