@@ -60,14 +60,14 @@ Replies upper nodes links op reply = RepliesBy (refusal upper nodes links op) (D
 
 -- ---- the step
 
--- what an operation that is done leaves of the tree
-abbrev pub Leaves : Op → Tree → Tree → Type 0
-Leaves (op.Stat path) t t' = t' ≡ t
-Leaves (op.List path) t t' = t' ≡ t
+-- what an operation that is done at this time leaves of the tree
+abbrev pub Leaves : Op → ℕ → Tree → Tree → Type 0
+Leaves (op.Stat path) stamp t t' = t' ≡ t
+Leaves (op.List path) stamp t t' = t' ≡ t
 
-abbrev pub LeavesBy : Option Reply → Op → Tree → Tree → Type 0
-LeavesBy (Some row) op t t' = t' ≡ t
-LeavesBy None op t t' = Leaves op t t'
+abbrev pub LeavesBy : Option Reply → Op → ℕ → Tree → Tree → Type 0
+LeavesBy (Some row) op stamp t t' = t' ≡ t
+LeavesBy None op stamp t t' = Leaves op stamp t t'
 
 -- the operation was given up, by a failed device or for want of memory
 abbrev pub is_given_up : Reply → Bool
@@ -79,9 +79,9 @@ is_given_up (NotDirectory part) = false
 is_given_up Fault = true
 is_given_up Memory = true
 
--- A step with this table of upper-case units, this operation and this reply: what is given up or refused leaves the tree.
-abbrev pub IsStep : List ℕ → Op → Reply → Tree → Tree → Type 0
-IsStep upper op reply t t' = MatchBool (is_given_up reply) (t' ≡ t) (Replies upper t.nodes t.links op reply × LeavesBy (refusal upper t.nodes t.links op) op t t')
+-- A step with this table of upper-case units, this operation, time and reply: what is given up or refused leaves the tree.
+abbrev pub IsStep : List ℕ → Op → ℕ → Reply → Tree → Tree → Type 0
+IsStep upper op stamp reply t t' = MatchBool (is_given_up reply) (t' ≡ t) (Replies upper t.nodes t.links op reply × LeavesBy (refusal upper t.nodes t.links op) op stamp t t')
 
 -- ---- causes
 

@@ -189,13 +189,14 @@ pub fn step(
     tree: &Tree,
     upper: &[u16],
     op: &Op,
-    _stamp: u64,
+    stamp: u64,
 ) -> Result<(Tree, Reply), Memory>
     requires table { length upper.now ≡ 65536 }
-    requires early { _stamp < 2 ^ 63 }
-    ensures value { IfOk result (λ step. IsStep upper.now op.now step.1 tree.now step.0) }
+    requires early { stamp < 2 ^ 63 }
+    ensures value { IfOk result (λ step. IsStep upper.now op.now stamp step.1 tree.now step.0) }
     ensures given { IfOk result (λ step. (step.1 ≢ Reply.Memory) × (step.1 ≢ Reply.Fault)) }
 {
+    let _ = stamp;
     match answer(alloc, &Plain { upper, tree }, op) {
         Reply::Memory => Err(Memory),
         reply => Ok((tree.clone()?, reply)),
