@@ -1,28 +1,18 @@
-ghost use Rattle.std.specs.Prelude.{◌≡◌, ◌+◌, ◌*◌, ◌<◌, ◌≤◌, true, false, length};
-ghost use Rattle.disk_model.specs.Numbers.{field};
+ghost use Rattle.std.specs.Prelude.{◌≡◌, ◌≤◌, true, length};
 ghost use Rattle.record_model.specs.Attributes.{is_mapped, is_thin, has_held, header_length, has_length, is_name_inside, is_value_inside, is_inside, head_of, held_of, sizes_of};
 
-use disk_model::{u16_at, u32_at, u64_at};
+use disk_model::{u8_at, u16_at, u32_at, u64_at};
 use record_model::{Head, Sizes};
 
 // The fields of an attribute's header (Linux-NTFS documentation, "Attribute Header"). `a` is the
 // attribute's own bytes.
-
-// The byte at this place.
-#[tactic(auto, unfolding(disk_model::specs::Numbers::field))]
-pub fn byte_at(bytes: &[u8], at: usize) -> u8
-    requires { at < length bytes.now }
-    ensures { result ≡ field at 1 bytes.now }
-{
-    bytes[at]
-}
 
 // Whether the value stands in clusters.
 pub fn is_mapped(a: &[u8]) -> bool
     requires { 0x18 ≤ length a.now }
     ensures { result ≡ is_mapped a.now }
 {
-    byte_at(a, 0x08) != 0
+    u8_at(a, 0x08) != 0
 }
 
 // Whether the flags say compressed or sparse.
@@ -71,7 +61,7 @@ fn is_name_inside(a: &[u8]) -> bool
     requires { 0x18 ≤ length a.now }
     ensures { result ≡ is_name_inside a.now }
 {
-    let count = byte_at(a, 0x09) as usize;
+    let count = u8_at(a, 0x09) as usize;
     count == 0 || u16_at(a, 0x0a) as usize + 2 * count <= a.len()
 }
 

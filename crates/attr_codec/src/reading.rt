@@ -5,8 +5,8 @@ ghost use Rattle.record_model.specs.Attributes.{is_mapped, header_length, is_nam
 ghost use Rattle.attr_codec.specs.Reading.{own_bytes, attr_at, name_bytes, form_seen, attr_seen, attr_cause};
 
 use crate::borrowed::{AttrFault, AttrRef, Form};
-use crate::header::{byte_at, has_length, head, is_inside, is_mapped, sizes};
-use disk_model::{u16_at, u32_at};
+use crate::header::{has_length, head, is_inside, is_mapped, sizes};
+use disk_model::{u8_at, u16_at, u32_at};
 
 // The bytes of the name; one of no units stands nowhere.
 #[tactic(auto, using(crate::proofs::Headers::places))]
@@ -15,7 +15,7 @@ fn name(a: &[u8]) -> &[u8]
     requires inside { is_name_inside a.now ≡ true }
     ensures { result.now ≡ name_bytes a.now }
 {
-    let count = byte_at(a, 0x09) as usize;
+    let count = u8_at(a, 0x09) as usize;
     if count == 0 {
         return a.split_at(0).0;
     }
@@ -47,7 +47,7 @@ fn resident_form(a: &[u8]) -> Form<'_>
     let later = a.split_at(u16_at(a, 0x14) as usize).1;
     Form::Resident {
         value: later.split_at(u32_at(a, 0x10) as usize).0,
-        indexed: byte_at(a, 0x16),
+        indexed: u8_at(a, 0x16),
     }
 }
 

@@ -3,7 +3,7 @@ ghost use Rattle.disk_model.specs.Numbers.{field};
 ghost use Rattle.disk_model.specs.Bytes.{zeros};
 ghost use Rattle.boot_sector.specs.BootSectors.{IsClusterSize, IsBootSector, FitsBoot, bytes_said, clusters, is_named, is_marked, signs_of, keeps, sizes_fit, places_fit, fields_of, boot_of, boot_spelling};
 
-use disk_model::{put_bytes, put_u16, put_u64, u16_at, u64_at};
+use disk_model::{put_bytes, put_u16, put_u64, u8_at, u16_at, u64_at};
 use thiserror::Error;
 
 /// The fields of a volume's boot sector.
@@ -36,14 +36,6 @@ pub enum BootFault {
 }
 
 const MOST_CLUSTERS: u64 = 16_777_216;
-
-#[tactic(auto, unfolding(disk_model::specs::Numbers::field))]
-fn byte_at(bytes: &[u8], at: usize) -> u8
-    requires { at < length bytes.now }
-    ensures { result ≡ field at 1 bytes.now }
-{
-    bytes[at]
-}
 
 #[tactic(auto, unfolding(crate::specs::BootSectors::is_named))]
 fn has_name(bytes: &[u8]) -> bool
@@ -92,7 +84,7 @@ fn check_sizes(bytes: &[u8]) -> Result<(), BootFault>
     ensures size { OnOk result (IsClusterSize (field 0x0D 1 bytes.now)) }
 {
     let sector = u16_at(bytes, 0x0B);
-    let per_cluster = byte_at(bytes, 0x0D);
+    let per_cluster = u8_at(bytes, 0x0D);
     let sectors = u64_at(bytes, 0x28);
     keep(sector == 512, 0x0B, sector as u64)?;
     keep(
@@ -123,8 +115,8 @@ fn check_places(boot: &Boot, bytes: &[u8]) -> Result<(), BootFault>
     ensures { result ≡ places_fit boot.now bytes.now }
 {
     let clusters = boot.clusters();
-    let record = byte_at(bytes, 0x40);
-    let block = byte_at(bytes, 0x44);
+    let record = u8_at(bytes, 0x40);
+    let block = u8_at(bytes, 0x44);
     keep(boot.mft < clusters, 0x30, boot.mft)?;
     keep(boot.mirror < clusters, 0x38, boot.mirror)?;
     keep(says(boot.per_cluster, record, 10), 0x40, record as u64)?;
@@ -138,7 +130,7 @@ fn fields(bytes: &[u8]) -> Boot
     ensures size { result.per_cluster ≡ field 0x0D 1 bytes.now }
 {
     Boot {
-        per_cluster: byte_at(bytes, 0x0D),
+        per_cluster: u8_at(bytes, 0x0D),
         sectors: u64_at(bytes, 0x28),
         mft: u64_at(bytes, 0x30),
         mirror: u64_at(bytes, 0x38),

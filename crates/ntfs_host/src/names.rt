@@ -1,40 +1,20 @@
 //! The links that a record holds.
 ghost use Rattle.std.specs.Prelude.{◌≡◌, ◌++◌, ◌+◌, ◌*◌, ◌<◌, ◌≤◌, length, IsTrue, IfOk, OnOk};
 ghost use Rattle.utf16_name.specs.Names.{name_of};
-ghost use Rattle.disk_model.specs.Numbers.{field};
-ghost use Rattle.record_model.specs.Attributes.{units_at};
 ghost use Rattle.record_model.specs.Values.{parent_of, space_of, units_of};
 ghost use Rattle.ntfs_host.specs.Links.{has_its_units, named, value_link, attr_link, record_links};
 
 use crate::link::Link;
-use disk_model::{u16_at, u64_at};
+use disk_model::{u8_at, u64_at};
 use file_record::{Attr, FileRec, OwnForm};
 use host_base::{FileRef, Memory};
+use record_model::units_at;
 use std::alloc::{AllocError, Global};
-use utf16_name::{Name, NameFault};
+use utf16_name::{Name, NameFault, Units};
 
 const FILE_NAME: u32 = 0x30;
 
 const SHORT_NAMES: u8 = 2;
-
-fn byte_at(bytes: &[u8], at: usize) -> u8
-    requires { at < length bytes.now }
-    ensures { result ≡ field at 1 bytes.now }
-{
-    bytes[at]
-}
-
-// The units of a file-name value.
-fn units(alloc: Global, value: &[u8], count: usize) -> Result<Vec<u16>, AllocError>
-    requires { 0x42 + 2 * count ≤ length value.now }
-    ensures { IfOk result (λ units. units.items ≡ units_at 0x42 count value.now) }
-{
-    let mut units = Vec::new(alloc);
-    for i in 0..count {
-        units.push(u16_at(value, 0x42 + 2 * i))?;
-    }
-    Ok(units)
-}
 
 // The parent directory of a file-name value.
 #[tactic(auto, unfolding(record_model::specs::Values::parent_of))]
@@ -51,17 +31,16 @@ fn space_of(value: &[u8]) -> u8
     requires { 0x42 ≤ length value.now }
     ensures { result ≡ space_of value.now }
 {
-    byte_at(value, 0x41)
+    u8_at(value, 0x41)
 }
 
 // The units of a file-name value.
 #[tactic(auto, unfolding(record_model::specs::Values::units_of))]
-fn units_of(alloc: Global, value: &[u8]) -> Result<Vec<u16>, AllocError>
+fn units_of(alloc: Global, value: &[u8]) -> Result<Units, AllocError>
     requires { IsTrue (has_its_units value.now) }
-    ensures { IfOk result (λ units. units.items ≡ units_of value.now) }
+    ensures { IfOk result (λ units. units ≡ units_of value.now) }
 {
-    let count = byte_at(value, 0x40) as usize;
-    units(alloc, value, count)
+    units_at(alloc, 0x42, u8_at(value, 0x40) as usize, value)
 }
 
 // The name in its directory, where its units are a name.
@@ -70,7 +49,7 @@ fn named(alloc: Global, child: FileRef, value: &[u8]) -> Result<Option<Link>, Me
     ensures { IfOk result (λ link. link ≡ named child value.now (name_of (units_of value.now))) }
 {
     let units = units_of(alloc, value)?;
-    match Name::checked(alloc, &units) {
+    match Name::checked(alloc, units.as_slice()) {
         Ok(name) => Ok(Some(Link {
             parent: parent_of(value),
             name,
@@ -86,7 +65,7 @@ fn named(alloc: Global, child: FileRef, value: &[u8]) -> Result<Option<Link>, Me
 fn has_its_units(value: &[u8]) -> bool
     ensures { result ≡ has_its_units value.now }
 {
-    value.len() >= 0x42 && value.len() == 0x42 + 2 * byte_at(value, 0x40) as usize
+    value.len() >= 0x42 && value.len() == 0x42 + 2 * u8_at(value, 0x40) as usize
 }
 
 // The link of a file-name value, if it is long.

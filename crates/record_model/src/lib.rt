@@ -11,6 +11,7 @@ mod pairs_laws;
 mod record;
 mod record_laws;
 mod runs;
+mod units;
 mod value_laws;
 mod values;
 
@@ -25,6 +26,7 @@ pub use record_laws::{
     record_read_again, rule_is_least, spells_one_record, table_is_read,
 };
 pub use runs::{PairsFault, Run, Runs};
+pub use units::units_at;
 pub use value_laws::{
     file_name_is_table, file_name_read_again, journal_max_is_table, journal_max_read_again,
     std_info_is_table, std_info_read_again, volume_info_is_table, volume_info_read_again,

@@ -1,8 +1,8 @@
 ghost use Rattle.std.specs.Prelude.{◌≡◌, ℕ, List, Result, ◌≤◌, length};
 ghost use Rattle.record_model.specs.declared.values.ValueFault.{ValueFault};
 
-use crate::bytes::{byte_at, put_byte};
-use disk_model::{put_u16, put_u32, put_u64, u16_at, u32_at, u64_at};
+use crate::bytes::put_byte;
+use disk_model::{put_u16, put_u32, put_u64, u8_at, u16_at, u32_at, u64_at};
 use record_model::{JournalMax, StdInfo, ValueFault, VolumeInfo};
 
 /// A value whose fields stand at fixed places.
@@ -80,8 +80,8 @@ impl FixedValue for VolumeInfo {
             });
         }
         Ok(VolumeInfo {
-            major: byte_at(value, 0x08),
-            minor: byte_at(value, 0x09),
+            major: u8_at(value, 0x08),
+            minor: u8_at(value, 0x09),
             flags: u16_at(value, 0x0a),
         })
     }

@@ -5,10 +5,10 @@ ghost use Rattle.record_model.specs.Values.{units_of, has_name_length};
 ghost use Rattle.record_model.specs.StdValues.{value_cause, name_head_over};
 ghost use Rattle.std_values.specs.Naming.{lawful_name};
 
-use crate::bytes::{byte_at, put_byte, put_units, units_at};
-use disk_model::{put_u32, put_u64, u32_at, u64_at};
+use crate::bytes::{put_byte, put_units};
+use disk_model::{put_u32, put_u64, u8_at, u32_at, u64_at};
 use host_base::FileRef;
-use record_model::{FileNameValue, ValueFault};
+use record_model::{FileNameValue, ValueFault, units_at};
 use std::alloc::Global;
 use utf16_name::{Name, NameFault};
 
@@ -50,7 +50,7 @@ const HEAD: usize = 0x42;
 fn has_name_length(value: &[u8]) -> bool
     ensures { result ≡ has_name_length value.now }
 {
-    value.len() >= HEAD && value.len() == HEAD + 2 * usize::from(byte_at(value, 0x40))
+    value.len() >= HEAD && value.len() == HEAD + 2 * usize::from(u8_at(value, 0x40))
 }
 
 // The name of these units. `Shape` is the answer where they are none.
@@ -70,7 +70,7 @@ fn name(alloc: Global, value: &[u8]) -> Result<Name, ValueFault>
     requires { has_name_length value.now ≡ true }
     ensures { Gives (λ name. name) value_cause result (lawful_name (units_of value.now)) }
 {
-    let units = units_at(alloc, HEAD, usize::from(byte_at(value, 0x40)), value)?;
+    let units = units_at(alloc, HEAD, usize::from(u8_at(value, 0x40)), value)?;
     checked(alloc, units.as_slice())
 }
 
@@ -110,7 +110,7 @@ impl NamedValue for FileNameValue {
                 len: value.len() as u64,
             });
         }
-        if byte_at(value, 0x41) > LAST_SPACE {
+        if u8_at(value, 0x41) > LAST_SPACE {
             return Err(ValueFault::Shape);
         }
         let name = name(alloc, value)?;
@@ -123,7 +123,7 @@ impl NamedValue for FileNameValue {
             allocated: u64_at(value, 0x28),
             real: u64_at(value, 0x30),
             flags: u32_at(value, 0x38),
-            space: byte_at(value, 0x41),
+            space: u8_at(value, 0x41),
             name,
         })
     }

@@ -8,5 +8,5 @@ pub returns : goal.returns
 unfolding parent_of space_of
 returns c =
     let sized : has_name_length c.args.value.now ≡ true = cc in
-    named_value c.args.value.now _ sized (omega (arith, c.byte_at-2.ensures, c.byte_at.ensures)) c.in_ok-name.ensures
-    (c.unpack.ensures.value ∙ ap unpacked c.u64_at.ensures) c.u64_at-2.ensures c.u64_at-3.ensures c.u64_at-4.ensures c.u64_at-5.ensures c.u64_at-6.ensures c.u64_at-7.ensures c.u32_at.ensures c.byte_at-2.ensures
+    named_value c.args.value.now _ sized (omega (arith, c.u8_at-2.ensures.value, c.u8_at.ensures.value)) c.in_ok-name.ensures
+    (c.unpack.ensures.value ∙ ap unpacked c.u64_at.ensures) c.u64_at-2.ensures c.u64_at-3.ensures c.u64_at-4.ensures c.u64_at-5.ensures c.u64_at-6.ensures c.u64_at-7.ensures c.u32_at.ensures c.u8_at-2.ensures.value

@@ -2,7 +2,7 @@ use Rattle.std.proofs.Common.{rules, ℕ, ◌+◌, ◌*◌, sym, ◌∙◌, arit
 use Rattle.std.proofs.lemmas.List.FromFn.{map-range_with_len_more}
 use Rattle.disk_model.specs.Numbers.{field}
 use Rattle.record_model.specs.Attributes.{units_at}
-use Rattle.std_values.proofs.bytes.units_at.Goals as goal
+use Rattle.record_model.proofs.units.units_at.Goals as goal
 
 pub loop-i-preserved : goal.loop-i-preserved
 unfolding units_at
