@@ -58,6 +58,7 @@ fn named(alloc: Global, child: FileRef, value: &[u8]) -> Result<Option<Link>, Me
         })),
         Err(NameFault::BadUnit { .. }) => Ok(None),
         Err(NameFault::Length { .. }) => Ok(None),
+        Err(NameFault::Text { .. }) => Ok(None),
         Err(NameFault::Memory) => Err(Memory),
     }
 }

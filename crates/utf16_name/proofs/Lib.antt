@@ -1,1 +1,3 @@
 pub mod Naming
+pub mod Printed
+pub mod Walks

@@ -1,3 +1,6 @@
+pub mod Elements
 pub mod Lawful
 pub mod Names
+pub mod Reading
+pub mod Spelled
 pub mod Texts

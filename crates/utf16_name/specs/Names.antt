@@ -2,7 +2,7 @@
 use Rattle.std.specs.Prelude.{ℕ, Bool, ◌&&◌, ◌||◌, ◌==◌, nat_le, if◌then◌else◌, List, length, position, Option, Some, None, Result, Ok, Err}
 use Rattle.host_base.specs.Answers.{Cause, refused, no_memory}
 use Rattle.utf16_name.specs.declared.name.NameFault.{NameFault}
-use Rattle.utf16_name.specs.declared.name.NameFault.TheVariants.{BadUnit, Length, Memory}
+use Rattle.utf16_name.specs.declared.name.NameFault.TheVariants.{BadUnit, Length, Text, Memory}
 
 -- a unit that no name holds: 0 or `/`
 abbrev pub is_bad_unit : ℕ → Bool
@@ -33,4 +33,5 @@ name_of units = ok_unless (name_fault units) units
 abbrev pub name_cause : NameFault → Cause NameFault
 name_cause (BadUnit at) = refused (BadUnit at)
 name_cause (Length len) = refused (Length len)
+name_cause (Text at) = refused (Text at)
 name_cause Memory = no_memory

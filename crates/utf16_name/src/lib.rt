@@ -5,11 +5,15 @@
 //! documentation, "Attribute - $FILE_NAME".
 #![tactic(auto)]
 
+mod elements;
+pub mod laws;
 mod name;
+mod reading;
 mod text;
 mod units;
 
 pub use name::{Name, NameFault, check};
+pub use reading::text_units;
 pub use units::Units;
 
 #[cfg(test)]

@@ -3,8 +3,10 @@ ghost use Rattle.host_base.specs.Answers.{Gives};
 ghost use Rattle.utf16_name.specs.declared.name.NameFault.TheVariants.{Memory as no_memory};
 ghost use Rattle.utf16_name.specs.Lawful.{IsName};
 ghost use Rattle.utf16_name.specs.Names.{is_bad_unit, name_fault, name_of, name_cause};
+ghost use Rattle.utf16_name.specs.Reading.{name_of_text};
 ghost use Rattle.utf16_name.specs.Texts.{name_text};
 
+use crate::reading::text_units;
 use crate::text::shown;
 use crate::units::Units;
 use host_base::Memory;
@@ -21,6 +23,9 @@ pub enum NameFault {
     /// There are no units, or more than 255.
     #[error("a name can't have {len} units")]
     Length { len: u64 },
+    /// The text's first element at fault begins at this byte.
+    #[error("the name's text is at fault at byte {at}")]
+    Text { at: u64 },
     #[error("no memory")]
     Memory,
 }
@@ -91,6 +96,18 @@ impl Name {
         Ok(Name {
             units: Units::copy_of(alloc, units)?,
         })
+    }
+
+    /// The name that a text spells, in time linear in the text. The errors are `Text` as of `text_units`,
+    /// then those of `check`, and want of memory.
+    pub fn from_text(alloc: Global, text: &str) -> Result<Name, NameFault>
+        ensures value { Gives (λ name. name) name_cause result (name_of_text text.now) }
+    {
+        let units = text_units(alloc, text)?;
+        if let Some(fault) = check(units.as_slice()) {
+            return Err(fault);
+        }
+        Ok(Name { units })
     }
 
     /// The name's units.
