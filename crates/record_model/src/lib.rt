@@ -7,6 +7,7 @@
 #![tactic(auto)]
 
 mod attribute;
+mod entry;
 mod pairs_laws;
 mod record;
 mod record_laws;
@@ -15,6 +16,7 @@ mod value_laws;
 mod values;
 
 pub use attribute::{Attr, AttrList, Head, OwnForm, Sizes};
+pub use entry::{Entry, EntryList};
 pub use pairs_laws::{
     pairs_vectors, read_pairs_are_spelled, spelled_pairs_are_read, written_pairs_are_read,
     written_pairs_are_shortest, written_pairs_are_spelled,
