@@ -16,3 +16,6 @@ pub mod PairsShortest
 pub mod ValueFields
 pub mod FixedValues
 pub mod FileNames
+pub mod NodePieces
+pub mod NodeTables
+pub mod NodeSpelling

@@ -7,3 +7,4 @@ pub mod PairsLaws
 pub mod StdValues
 pub mod StdValuesLaws
 pub mod Nodes
+pub mod NodeLaws
