@@ -19,3 +19,4 @@ pub mod FileNames
 pub mod NodePieces
 pub mod NodeTables
 pub mod NodeSpelling
+pub mod NodeRoom

@@ -2,6 +2,7 @@
 use Rattle.std.proofs.Common.{◌≡◌, ℕ, true, ◌+◌, ◌-◌, ◌*◌, ◌/◌, ◌%◌, ◌^◌, ◌<◌, ◌≤◌, List, [], ◌∷◌, ◌++◌, length, map, take, drop, Option, Some, None, All, refl, sym, ap, ◌∙◌, subst, arith}
 use Rattle.std.specs.Prelude.{◌==◌}
 use Rattle.std.specs.List.{concat, flat_map}
+use Rattle.std.proofs.lemmas.List.Sums.{sum_by-cons}
 use Rattle.std.proofs.lemmas.List.{append-nil, length-append, length-drop, drop-drop, take_at, drop_at}
 use Rattle.host_base.specs.FileRefs.{packed, unpacked}
 use Rattle.disk_model.specs.declared.block.BlockKind.TheVariants.{Index}
@@ -137,8 +138,10 @@ last_spells e fits short =
 
 entries_spell : (entries : List Entry) → FitEntries entries → entries_length entries < 2 ^ 16 → SpellEntries (map entry_spelling entries) entries
 entries_spell [] fit short = absurd fit
-entries_spell (e ∷ []) fit short = last_spells e fit (omega arith)
-entries_spell (e ∷ f ∷ entries) fit short = (entry_spells e fit.0 (omega arith), entries_spell (f ∷ entries) fit.1 (omega arith))
+entries_spell (e ∷ []) fit short = last_spells e fit (omega (arith, sum_by-cons entry_length e []))
+entries_spell (e ∷ f ∷ entries) fit short =
+    let parts = sum_by-cons entry_length e (f ∷ entries) in
+    (entry_spells e fit.0 (omega (arith, parts)), entries_spell (f ∷ entries) fit.1 (omega (arith, parts)))
 
 joined_spellings : (entries : List Entry) → flat_map entry_spelling entries ≡ concat (map entry_spelling entries)
 joined_spellings [] = refl
@@ -146,7 +149,7 @@ joined_spellings (e ∷ entries) = ap (λ (x : List ℕ). entry_spelling e ++ x)
 
 pub length-entry_spellings : (entries : List Entry) → length (flat_map entry_spelling entries) ≡ entries_length entries
 length-entry_spellings [] = refl
-length-entry_spellings (e ∷ entries) = omega (arith, length-append (entry_spelling e) (flat_map entry_spelling entries), length-entry_spelling e, length-entry_spellings entries)
+length-entry_spellings (e ∷ entries) = omega (arith, length-append (entry_spelling e) (flat_map entry_spelling entries), length-entry_spelling e, length-entry_spellings entries, sum_by-cons entry_length e entries)
 
 -- ---- the body
 

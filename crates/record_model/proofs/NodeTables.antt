@@ -45,7 +45,7 @@ down_spelled s =
       | inr none ↦ subst (SpellsDown s) (sym (ap (λ (n : ℕ). if n == 1 then Some (field (length s - 8) 8 s) else None) none)) none
     ]
 
-flag_spelled : (s : List ℕ) (down : Option ℕ) → SpellsDown s down → down_flag down ≡ child_flag s
+pub flag_spelled : (s : List ℕ) (down : Option ℕ) → SpellsDown s down → down_flag down ≡ child_flag s
 flag_spelled s (Some vcn) is = sym is.0
 flag_spelled s None is = sym is
 

@@ -1,7 +1,7 @@
 -- Index nodes of directories: reading the entries behind a node header, rule by rule, the table, and the spelling that is
 -- written. A node's bytes begin with its header: 00 first entry, 04 used, 08 allocated, all from the header on; 0C flags.
 use Rattle.std.specs.Prelude.{◌≡◌, ℕ, zero, suc, ◌+◌, ◌-◌, ◌*◌, ◌/◌, ◌%◌, ◌<◌, ◌≤◌, ◌^◌, List, [], ◌∷◌, ◌++◌, length, map, take, drop, Option, Some, None, Result, Ok, Bool, true, false, ◌&&◌, ◌||◌, nat_le, nat_lt, ◌==◌, if◌then◌else◌, All}
-use Rattle.std.specs.List.{list_all, flat_map, concat}
+use Rattle.std.specs.List.{list_all, flat_map, concat, sum_by}
 use Rattle.host_base.specs.declared.file_ref.FileRef.{FileRef}
 use Rattle.host_base.specs.Answers.{◌>>=◌, needs}
 use Rattle.host_base.specs.FileRefs.{packed, unpacked}
@@ -224,9 +224,9 @@ unfoldable pub entry_spelling : Entry → List ℕ
 entry_spelling e =
     spell 8 (packed e.child) ++ spell 2 (entry_length e) ++ spell 2 (length e.key) ++ spell 2 (down_flag e.down + last_flag e.key) ++ zeros 2 ++ filled 0x10 e.key ++ down_bytes e.down
 
+-- the bytes of entries, one after the other
 abbrev pub entries_length : List Entry → ℕ
-entries_length [] = 0
-entries_length (e ∷ entries) = entry_length e + entries_length entries
+entries_length entries = sum_by entry_length entries
 
 -- the used bytes of a block's node as it is written, from its node header on; the first entry stands at 28
 unfoldable pub node_used : List Entry → ℕ

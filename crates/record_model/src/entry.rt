@@ -1,4 +1,4 @@
-ghost use Rattle.std.specs.Prelude.{◌≡◌, ◌<◌, ◌≤◌, [], ◌∷◌, ◌++◌, OnOk, OnErr, IfOk, insert, remove, take, drop, length};
+ghost use Rattle.std.specs.Prelude.{◌≡◌, ◌<◌, ◌≤◌, [], ◌∷◌, ◌++◌, OnOk, OnErr, IfOk, insert, remove, set, slice_get, take, drop, length};
 
 use host_base::{Bytes, FileRef};
 use std::alloc::{AllocError, Global};
@@ -56,6 +56,11 @@ impl EntryList {
         &self.items
     }
 
+    /// The allocator that the list has its memory from.
+    pub fn allocator(&self) -> Global {
+        *self.items.allocator()
+    }
+
     /// How many entries there are.
     pub fn len(&self) -> usize
         ensures { result ≡ length self.now }
@@ -81,6 +86,15 @@ impl EntryList {
         ensures entry { self.old ≡ insert self.new at result }
     {
         self.items.remove(at)
+    }
+
+    /// Puts an entry in the place of the one at `at`, which it answers.
+    pub fn replace(&mut self, at: usize, entry: Entry) -> Entry
+        requires { at < length self.old }
+        ensures list { self.new ≡ set self.old at entry }
+        ensures entry { Some result ≡ slice_get self.old at }
+    {
+        std::mem::replace(&mut self.items[at], entry)
     }
 
     /// Takes the entries from `at` on out. The error is want of memory, and leaves the list.
