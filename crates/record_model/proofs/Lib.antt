@@ -16,3 +16,7 @@ pub mod PairsShortest
 pub mod ValueFields
 pub mod FixedValues
 pub mod FileNames
+pub mod NodePieces
+pub mod NodeTables
+pub mod NodeSpelling
+pub mod NodeRoom

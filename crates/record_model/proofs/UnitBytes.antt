@@ -67,7 +67,7 @@ pub length-filled : (header : ℕ) (bytes : List ℕ) → length (filled header 
 unfolding filled
 length-filled header bytes = omega (arith, length-append bytes (zeros (up8 (header + length bytes) - (header + length bytes))), length-zeros (up8 (header + length bytes) - (header + length bytes)))
 
-filled_front : (header : ℕ) (bytes rest : List ℕ) → filled header bytes ++ rest ≡ bytes ++ (zeros (up8 (header + length bytes) - (header + length bytes)) ++ rest)
+pub filled_front : (header : ℕ) (bytes rest : List ℕ) → filled header bytes ++ rest ≡ bytes ++ (zeros (up8 (header + length bytes) - (header + length bytes)) ++ rest)
 unfolding filled
 filled_front header bytes rest = append_assoc bytes (zeros (up8 (header + length bytes) - (header + length bytes))) rest
 

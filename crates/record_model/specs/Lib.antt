@@ -6,3 +6,5 @@ pub mod Pairs
 pub mod PairsLaws
 pub mod StdValues
 pub mod StdValuesLaws
+pub mod Nodes
+pub mod NodeLaws

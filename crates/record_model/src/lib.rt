@@ -1,12 +1,15 @@
-//! Definitions of what stands in the blocks of an NTFS volume: file records with their attributes
-//! and the values of attributes, each as a reader that answers the least broken rule, a table that
-//! relates bytes and values field by field, and the one canonical spelling that is written.
+//! Definitions of what stands in the blocks of an NTFS volume: file records with their attributes,
+//! the values of attributes and index nodes, each as a reader that answers the least broken rule, a
+//! table that relates bytes and values field by field, and the one canonical spelling that is
+//! written.
 //!
 //! The layouts are those of the Linux-NTFS documentation, "FILE Record", "Attribute Header",
-//! "$STANDARD_INFORMATION", "$FILE_NAME" and "Data runs".
+//! "$STANDARD_INFORMATION", "$FILE_NAME", "Data runs", "$INDEX_ROOT" and "Index Record".
 #![tactic(auto)]
 
 mod attribute;
+mod entry;
+mod node_laws;
 mod pairs_laws;
 mod record;
 mod record_laws;
@@ -16,6 +19,10 @@ mod value_laws;
 mod values;
 
 pub use attribute::{Attr, AttrList, Head, OwnForm, Sizes};
+pub use entry::{Entry, EntryList};
+pub use node_laws::{
+    node_is_body, node_is_table, node_read_again, root_is_table, spells_one_node, written_no_longer,
+};
 pub use pairs_laws::{
     pairs_vectors, read_pairs_are_spelled, spelled_pairs_are_read, written_pairs_are_read,
     written_pairs_are_shortest, written_pairs_are_spelled,
