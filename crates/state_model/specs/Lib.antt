@@ -1,0 +1,5 @@
+pub mod Files
+pub mod Indexes
+pub mod Trees
+pub mod Rules
+pub mod Laws

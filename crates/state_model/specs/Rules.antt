@@ -1,0 +1,158 @@
+-- The rules under which a file table stands for a tree, each a test at the number of a record.
+use Rattle.std.specs.Prelude.{◌≡◌, ℕ, zero, suc, ◌+◌, Bool, true, false, not, ◌&&◌, ◌||◌, ◌==◌, nat_le, nat_eq, if◌then◌else◌, List, [], ◌∷◌, length, count_by, find, Option, Some, None, Result, Ok, Err}
+use Rattle.std.specs.List.{list_all, list_any, range_with_len}
+use Rattle.std.specs.Cmp.Lexicographic.{pointwise}
+use Rattle.host_base.specs.declared.file_ref.FileRef.{FileRef}
+use Rattle.record_model.specs.declared.entry.Entry.{Entry}
+use Rattle.record_model.specs.Values.{standard_information}
+use Rattle.record_model.specs.Records.{Record}
+use Rattle.tree_model.specs.declared.link.Link.{Link}
+use Rattle.tree_model.specs.declared.tree.Tree.{Tree}
+use Rattle.tree_model.specs.Names.{comes_before}
+use Rattle.tree_model.specs.Trees.{is_long}
+use Rattle.state_model.specs.Files.{Table, file_at, links_at, record_links, reference, is_directory_record, has_type}
+use Rattle.state_model.specs.Indexes.{index_of, entry_links}
+use Rattle.state_model.specs.Trees.{leads, first_user_record, tree_of}
+
+abbrev pub implies : Bool → Bool → Bool
+implies a b = not a || b
+
+abbrev pub same_reference : FileRef → FileRef → Bool
+same_reference a b = a.number == b.number && a.seq == b.seq
+
+-- the names agree in file, directory, namespace and units
+abbrev pub same_link : Link → Link → Bool
+same_link a b = same_reference a.child b.child && same_reference a.parent b.parent && a.space == b.space && pointwise nat_eq a.name b.name
+
+-- ---- rule 1: the names of a record
+
+abbrev pub is_short : Link → Bool
+is_short l = l.space == 2
+
+-- the namespace of Win32 is 1
+abbrev pub is_partner : Link → Link → Bool
+is_partner short l = l.space == 1 && same_reference l.parent short.parent
+
+-- a short name has a Win32 name of the same directory beside it
+unfoldable pub has_partner : List Link → Link → Bool
+has_partner links l = implies (is_short l) (list_any (is_partner l) links)
+
+abbrev pub is_short_in : FileRef → Link → Bool
+is_short_in parent l = is_short l && same_reference l.parent parent
+
+-- no second short name of its directory
+unfoldable pub is_only_short : List Link → Link → Bool
+is_only_short links l = implies (is_short l) (count_by (is_short_in l.parent) links == 1)
+
+abbrev pub long_count : List Link → ℕ
+long_count links = count_by is_long links
+
+-- A file of a user has a long name, a directory exactly one, and a file of a user that is no directory standard
+-- information; each short name has its partner, and is the only one of its directory.
+unfoldable pub keeps_names : ℕ → Record → List Link → Bool
+keeps_names n r links =
+    implies (nat_le first_user_record n) (nat_le 1 (long_count links))
+    && implies (is_directory_record r) (long_count links == 1)
+    && implies (nat_le first_user_record n && not (is_directory_record r)) (has_type standard_information r)
+    && list_all (has_partner links) links
+    && list_all (is_only_short links) links
+
+-- what is asked of files holds where there is none
+abbrev pub at_file : (Record → Bool) → Option Record → Bool
+at_file test None = true
+at_file test (Some r) = test r
+
+unfoldable pub keeps_1 : Table → ℕ → Bool
+keeps_1 p n = at_file (λ r. keeps_names n r (record_links n r)) (file_at p n)
+
+-- ---- rule 2: each name's directory
+
+abbrev pub is_directory_with : ℕ → Option Record → Bool
+is_directory_with seq None = false
+is_directory_with seq (Some r) = is_directory_record r && r.head.seq == seq
+
+-- the reference is that of a directory
+unfoldable pub is_directory_at : Table → FileRef → Bool
+is_directory_at p file = is_directory_with file.seq (file_at p file.number)
+
+unfoldable pub keeps_2 : Table → ℕ → Bool
+keeps_2 p n = list_all (λ (l : Link). is_directory_at p l.parent) (links_at p n)
+
+-- ---- rule 3: each directory's index
+
+-- how many of these names stand in this directory
+unfoldable pub count_in : FileRef → List Link → ℕ
+count_in directory links = count_by (λ (l : Link). same_reference l.parent directory) links
+
+-- how many names of the first n records stand in this directory
+unfoldable pub names_in : Table → FileRef → ℕ → ℕ
+names_in p directory zero = 0
+names_in p directory (suc n) = names_in p directory n + count_in directory (links_at p n)
+
+-- each name comes before the next
+unfoldable pub is_rising : List ℕ → List Link → Bool
+is_rising upper [] = true
+is_rising upper (a ∷ []) = true
+is_rising upper (a ∷ b ∷ links) = comes_before upper a.name b.name && is_rising upper (b ∷ links)
+
+-- the link is a name in this directory of the file that it names
+unfoldable pub is_name_in : Table → FileRef → Link → Bool
+is_name_in p directory l = same_reference l.parent directory && list_any (same_link l) (links_at p l.child.number)
+
+-- The index's names rise, each is a name of its file in this directory, and they are as many as there are such names: so
+-- they are these names in order, and no two have equal units.
+unfoldable pub is_index : List ℕ → Table → ℕ → FileRef → List Link → Bool
+is_index upper p count directory links = is_rising upper links && list_all (is_name_in p directory) links && length links == names_in p directory count
+
+abbrev pub are_index : List ℕ → Table → ℕ → FileRef → Result (List Entry) ℕ → Bool
+are_index upper p count directory (Ok entries) = is_index upper p count directory (entry_links entries)
+are_index upper p count directory (Err rule) = false
+
+unfoldable pub keeps_3 : List ℕ → Table → ℕ → ℕ → Bool
+keeps_3 upper p count n = at_file (λ r. implies (is_directory_record r) (are_index upper p count (reference n r) (index_of r))) (file_at p n)
+
+-- ---- rule 8: each directory's way up
+
+unfoldable pub keeps_8 : Table → ℕ → ℕ → Bool
+keeps_8 p count n = at_file (λ r. implies (is_directory_record r) (leads p count n)) (file_at p n)
+
+-- ---- all rules that are tried
+
+unfoldable pub keeps : List ℕ → Table → ℕ → ℕ → ℕ → Bool
+keeps upper p count rule n =
+    if rule == 1 then keeps_1 p n
+    else if rule == 2 then keeps_2 p n
+    else if rule == 3 then keeps_3 upper p count n
+    else if rule == 8 then keeps_8 p count n
+    else true
+
+-- a broken rule, with the number at which it is broken
+pub record Broken : Type 0 where
+  pub rule : ℕ
+  pub number : ℕ
+
+abbrev pub broken_or : ℕ → Option ℕ → Option Broken → Option Broken
+broken_or rule (Some n) next = Some (record { rule = rule; number = n })
+broken_or rule None next = next
+
+-- the least number below the count at which the test fails
+unfoldable pub first_failing : (ℕ → Bool) → ℕ → Option ℕ
+first_failing test count = find (λ n. not (test n)) (range_with_len 0 count)
+
+-- the first of these rules that is broken, with its least number
+abbrev pub first_broken : List ℕ → Table → ℕ → List ℕ → Option Broken
+first_broken upper p count [] = None
+first_broken upper p count (rule ∷ rules) = broken_or rule (first_failing (keeps upper p count rule) count) (first_broken upper p count rules)
+
+-- the rules that are tried so far
+abbrev pub tried_rules : List ℕ
+tried_rules = 1 ∷ 2 ∷ 3 ∷ 8 ∷ []
+
+unfoldable pub broken_rule : List ℕ → Table → ℕ → Option Broken
+broken_rule upper p count = first_broken upper p count tried_rules
+
+-- The table stands for the tree: no rule that is tried is broken, and the tree is that of its records, with these spare
+-- numbers and free clusters.
+pub record Holds (upper : List ℕ) (p : Table) (count : ℕ) (spare : List FileRef) (room : ℕ) (t : Tree) : Type 0 where
+  pub kept : broken_rule upper p count ≡ None
+  pub tree : t ≡ tree_of p count spare room
