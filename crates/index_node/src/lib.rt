@@ -1,0 +1,19 @@
+//! The nodes of a directory's index: their entries are read from an index block or from an index
+//! root, are put in, taken out and cut in two, and are written as a block.
+//!
+//! The contract: a node is read exactly where its bytes spell it, and is refused by the least rule
+//! that they break; what is written is the one spelling, which is read again. The layouts are those
+//! of the Linux-NTFS documentation, "$INDEX_ROOT", "Index Record" and "Index Entry".
+#![tactic(auto)]
+
+mod entries;
+mod fault;
+mod header;
+mod node;
+#[cfg(test)]
+mod tests;
+mod walk;
+
+pub use fault::NodeFault;
+pub use node::{Node, read_root};
+pub use record_model::{Entry, EntryList};
