@@ -1,6 +1,6 @@
 -- The index of a directory, where it stands in its record.
 use Rattle.std.specs.Prelude.{ℕ, Bool, false, ◌&&◌, ◌==◌, nat_eq, is_some, List, [], ◌∷◌, find, Option, Some, None, Result, Ok, Err}
-use Rattle.std.specs.List.{list_any, filter_map}
+use Rattle.std.specs.List.{list_any, filter_map, range_with_len}
 use Rattle.std.specs.Cmp.Lexicographic.{pointwise}
 use Rattle.record_model.specs.declared.attribute.OwnForm.{OwnForm}
 use Rattle.record_model.specs.declared.attribute.OwnForm.TheVariants.{Resident, Mapped}
@@ -10,7 +10,7 @@ use Rattle.record_model.specs.StdValues.{file_name_of}
 use Rattle.record_model.specs.Records.{Record}
 use Rattle.record_model.specs.Nodes.{root_at}
 use Rattle.tree_model.specs.declared.link.Link.{Link}
-use Rattle.state_model.specs.Files.{named}
+use Rattle.state_model.specs.Files.{Table, file_at, is_directory_record, named}
 
 abbrev pub index_root : ℕ
 index_root = 0x90
@@ -42,6 +42,14 @@ have_children entries = list_any (λ (e : Entry). is_some e.down) entries
 abbrev pub has_children : Result (List Entry) ℕ → Bool
 has_children (Ok entries) = have_children entries
 has_children (Err rule) = false
+
+abbrev pub file_has_children : Option Record → Bool
+file_has_children None = false
+file_has_children (Some r) = is_directory_record r && has_children (index_of r)
+
+-- the index of some directory has blocks below its root
+unfoldable pub any_has_children : Table → ℕ → Bool
+any_has_children p count = list_any (λ n. file_has_children (file_at p n)) (range_with_len 0 count)
 
 -- the name that an entry holds; the last one holds none
 abbrev pub entry_link : Entry → Option Link

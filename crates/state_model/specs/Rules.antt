@@ -10,6 +10,7 @@ use Rattle.tree_model.specs.declared.link.Link.{Link}
 use Rattle.tree_model.specs.declared.tree.Tree.{Tree}
 use Rattle.tree_model.specs.Names.{comes_before}
 use Rattle.tree_model.specs.Trees.{is_long}
+use Rattle.state_model.specs.declared.broken.Broken.{Broken}
 use Rattle.state_model.specs.Files.{Table, file_at, links_at, record_links, reference, is_directory_record, has_type}
 use Rattle.state_model.specs.Indexes.{index_of, entry_links}
 use Rattle.state_model.specs.Trees.{leads, first_user_record, tree_of}
@@ -125,11 +126,6 @@ keeps upper p count rule n =
     else if rule == 3 then keeps_3 upper p count n
     else if rule == 8 then keeps_8 p count n
     else true
-
--- a broken rule, with the number at which it is broken
-pub record Broken : Type 0 where
-  pub rule : ℕ
-  pub number : ℕ
 
 abbrev pub broken_or : ℕ → Option ℕ → Option Broken → Option Broken
 broken_or rule (Some n) next = Some (record { rule = rule; number = n })

@@ -4,6 +4,8 @@
 //! indexes are those of the Linux-NTFS documentation, "FILE Record", "$FILE_NAME" and "$INDEX_ROOT".
 #![tactic(auto)]
 
+mod broken;
 mod laws;
 
+pub use broken::Broken;
 pub use laws::nodes_of_records;
