@@ -14,5 +14,5 @@ mod named;
 mod tests;
 
 pub use fixed::FixedValue;
-pub use named::NamedValue;
+pub use named::{NamedValue, is_file_name};
 pub use record_model::{FileNameValue, JournalMax, StdInfo, ValueFault, VolumeInfo};
