@@ -89,9 +89,9 @@ good_units value count is small good =
     let units = units_of value in
     let size : length units ≡ count = size_is value ∙ sym is in
     let all : position_or_len is_bad_unit units ≡ length units =
-      position_or_len_is is_bad_unit units (length units) 0 (omega arith)
-      (λ k lt. ap is_bad_unit (unit_is value k (omega (arith, size, is))) ∙ good k (omega (arith, size)))
-      (λ lt. absurd (omega arith)) in
+    position_or_len_is is_bad_unit units (length units) 0 (omega arith)
+    (λ k lt. ap is_bad_unit (unit_is value k (omega (arith, size, is))) ∙ good k (omega (arith, size)))
+    (λ lt. absurd (omega arith)) in
     good_place _ _ (length units) units (lt_false (position_or_len is_bad_unit units) (length units) (omega (arith, all)))
     ∙ ap (λ (n : ℕ). nat_le 1 n && nat_le n 255) size
     ∙ sym (few count small)

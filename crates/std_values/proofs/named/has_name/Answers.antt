@@ -1,5 +1,4 @@
-use Rattle.std.proofs.Common.{◌≡◌, true, ℕ, ◌+◌, ◌*◌, Bool, false, not, refl, sym, ap, ◌∙◌, arith}
-use Rattle.disk_model.specs.Numbers.{field}
+use Rattle.std.proofs.Common.{◌≡◌, true, Bool, false, not, refl, sym, ap, ◌∙◌, arith}
 use Rattle.utf16_name.specs.Names.{is_bad_unit}
 use Rattle.std_values.proofs.Naming.{bad_unit, good_units}
 use Rattle.std_values.proofs.named.has_name.Goals as goal
