@@ -1,9 +1,10 @@
 -- What lies inside an attribute's own bytes.
 use Rattle.std.proofs.Common.{◌≡◌, ◌≢◌, ℕ, ◌+◌, ◌*◌, ◌<◌, ◌≤◌, Bool, true, false, ◌||◌, nat_le, ◌==◌, if◌then◌else◌, List, [], length, take, refl, arith}
+use Rattle.std.proofs.lemmas.Bool.{and_parts, leb-true}
 use Rattle.std.proofs.lemmas.Bool.Decides.{nat_tests}
 use Rattle.std.proofs.lemmas.List.{length-take-le}
 use Rattle.disk_model.specs.Numbers.{field}
-use Rattle.record_model.specs.Attributes.{units_at, is_mapped, has_length, is_name_inside, is_value_inside}
+use Rattle.record_model.specs.Attributes.{units_at, is_mapped, header_length, has_length, is_name_inside, is_value_inside}
 use Rattle.record_model.proofs.Attributes.{header_low, header_mapped, header_held, own_from_length}
 
 -- how long a header is, and so which of its fields are there
@@ -14,6 +15,15 @@ long_enough bytes h =
     let n : ℕ = field 0x04 4 bytes in
     let own = own_from_length bytes h in
     omega (arith, own.0, own.1.header, header_low (take n bytes), length-take-le n bytes own.0)
+
+-- the header lies in the bytes, too
+pub length_header : (bytes : List ℕ) → has_length bytes ≡ true → header_length bytes ≤ length bytes
+unfolding has_length
+length_header bytes h =
+    let parts = and_parts _ _ h in
+    let header : header_length bytes ≤ field 0x04 4 bytes = leb-true _ _ (and_parts _ _ parts.0).0 in
+    let within : field 0x04 4 bytes ≤ length bytes = leb-true _ _ parts.1 in
+    omega arith
 
 refuted : (b : Bool) → (b ≡ true → ⊥) → b ≡ false
 refuted true h = absurd (h refl)

@@ -1,4 +1,4 @@
-ghost use Rattle.std.specs.Prelude.{◌≡◌, ◌≤◌, true, length};
+ghost use Rattle.std.specs.Prelude.{◌≡◌, ◌≤◌, true, length, IsTrue};
 ghost use Rattle.record_model.specs.Attributes.{is_mapped, is_thin, has_held, header_length, has_length, is_name_inside, is_value_inside, is_inside, head_of, held_of, sizes_of};
 
 use disk_model::{u8_at, u16_at, u32_at, u64_at};
@@ -44,9 +44,10 @@ fn header_length(a: &[u8]) -> usize
 }
 
 // Whether the length of an attribute at the front of these bytes is lawful.
-#[tactic(auto, using(crate::proofs::Headers::too_short), unfolding(record_model::specs::Attributes::has_length))]
+#[tactic(auto, using(crate::proofs::Headers::too_short, crate::proofs::Headers::length_header), unfolding(record_model::specs::Attributes::has_length))]
 pub fn has_length(bytes: &[u8]) -> bool
-    ensures { result ≡ has_length bytes.now }
+    ensures value { result ≡ has_length bytes.now }
+    ensures header { IsTrue result → header_length bytes.now ≤ length bytes.now }
 {
     if bytes.len() < 0x18 {
         return false;

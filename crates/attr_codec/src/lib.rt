@@ -1,5 +1,5 @@
-//! Attributes of file records: one is read where it stands, without a copy, and one is appended in
-//! its canonical spelling.
+//! Attributes of file records: one is read where it stands, without a copy, and is copied where it
+//! is to be kept; one is appended in its canonical spelling.
 //!
 //! The contract: bytes are read as the attribute that they spell, or refused by the least rule that
 //! they break; what is appended is the one spelling of the attribute. The layout is that of the
@@ -18,5 +18,5 @@ mod writing;
 pub use borrowed::{AttrFault, AttrRef, Form};
 pub use laws::{read_is_spelled, spelled_is_read, written_is_read};
 pub use reading::read;
-pub use record_model::{Head, Sizes};
+pub use record_model::{Attr, Head, OwnForm, Sizes};
 pub use writing::{write_mapped, write_resident};

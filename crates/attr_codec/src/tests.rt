@@ -1,4 +1,5 @@
 use super::*;
+use host_base::Bytes;
 use std::test::Fail;
 
 // Three bytes in a stream `ab`.
@@ -42,6 +43,11 @@ fn resident_attribute(rt: HostRuntime) -> Result<(), Fail> {
         }
         Form::Mapped { .. } => assert!(rt; false),
     }
+    let owned = attr.to_attr(rt.alloc())?;
+    assert_eq!(rt; owned.head, head);
+    assert_eq!(rt; owned.name.as_slice(), NAME.as_slice());
+    let value = Bytes::copy_of(rt.alloc(), &VALUE)?;
+    assert_eq!(rt; owned.form, OwnForm::Resident { value, indexed: 1 });
     Ok(())
 }
 
@@ -73,6 +79,15 @@ fn mapped_attribute(rt: HostRuntime) -> Result<(), Fail> {
         }
         Form::Resident { .. } => assert!(rt; false),
     }
+    let owned = attr.form.to_own_form(rt.alloc())?;
+    let pairs = Bytes::copy_of(rt.alloc(), &PAIRS)?;
+    assert_eq!(rt;
+        owned,
+        OwnForm::Mapped {
+            sizes: numbers,
+            pairs
+        }
+    );
     Ok(())
 }
 

@@ -1,19 +1,23 @@
 -- What was found so far, and what the bytes that are left come to.
-use Rattle.std.proofs.Common.{◌≡◌, ℕ, suc, ◌+◌, ◌-◌, ◌<◌, ◌≤◌, Bool, true, false, ◌&&◌, nat_le, nat_lt, List, [], ◌∷◌, ◌++◌, length, map, take, drop, Result, Ok, Err, refl, sym, ap, ◌∙◌, append_assoc, subst, arith, if◌then◌else◌}
-use Rattle.std.proofs.lemmas.List.{append-nil}
+use Rattle.std.proofs.Common.{◌≡◌, ◌≢◌, ℕ, suc, ◌+◌, ◌-◌, ◌<◌, ◌≤◌, Bool, true, false, ◌&&◌, nat_le, nat_lt, List, [], ◌∷◌, ◌++◌, length, map, take, drop, Result, Ok, Err, refl, sym, ap, ◌∙◌, append_assoc, arith, if◌then◌else◌}
+use Rattle.std.proofs.lemmas.List.{append-nil, length-take-le}
 use Rattle.std.proofs.lemmas.Bool.Decides.{nat_tests}
 use Rattle.std.specs.List.{list_all}
-use Rattle.host_base.specs.Answers.{◌>>=◌, needs}
+use Rattle.host_base.specs.Answers.{◌>>=◌, needs, Explains}
 use Rattle.disk_model.specs.Numbers.{field}
+use Rattle.disk_model.proofs.Fields.{field-take}
 use Rattle.record_model.specs.declared.attribute.Attr.{Attr}
-use Rattle.record_model.specs.Attributes.{header_length, has_length, is_inside, attr_of}
+use Rattle.record_model.specs.Attributes.{has_length, is_inside, head_of, attr_of}
 use Rattle.record_model.specs.Values.{has_lawful_value}
 use Rattle.record_model.specs.Records.{Pieces, with_piece, is_end_mark, cut, most_attributes, types_rise}
-use Rattle.record_model.proofs.Attributes.{own_from_length}
-use Rattle.file_record.specs.declared.walk.Next.{Next}
-use Rattle.file_record.specs.declared.walk.Next.TheVariants.{Attribute, EndMark, Short, BadLength}
+use Rattle.record_model.proofs.Answering.{needs_from_ok}
+use Rattle.record_model.proofs.Attributes.{own_from_length, header_low}
+use Rattle.attr_codec.specs.Reading.{own_bytes, attr_at}
+use Rattle.file_record.specs.declared.fault.RecFault.{RecFault}
+use Rattle.file_record.specs.declared.fault.RecFault.TheVariants.{Rule, Memory}
 use Rattle.file_record.specs.declared.walk.Found.{Found}
-use Rattle.file_record.specs.Walks.{next_of, nothing_found, with_found, verdict_of, attributes_of, attributes_at}
+use Rattle.file_record.specs.Faults.{rec_cause}
+use Rattle.file_record.specs.Walks.{length_at, nothing_found, with_attr, with_outside, with_found, verdict_of, attributes_of, attributes_at}
 
 -- the rules from 4 on, in their order
 abbrev pub chain : Bool → Bool → Bool → Bool → List Attr → Result (List Attr) ℕ
@@ -50,22 +54,33 @@ and_true : (a : Bool) → (a && true) ≡ a
 and_true true = refl
 and_true false = refl
 
-outside : (r e l m : Bool) (xs ys : List Attr) → chain r e false l xs ≡ chain r e false m ys
-outside true true l m xs ys = refl
-outside true false l m xs ys = refl
-outside false e l m xs ys = refl
+inside_more : (r x rs e i is l z ls : Bool) (xs : List Attr) (a : Attr) (ys : List Attr)
+    → chain ((r && x) && rs) e (i && is) ((l && z) && ls) ((xs ++ a ∷ []) ++ ys) ≡ chain (r && (x && rs)) e (i && is) (l && (z && ls)) (xs ++ (a ∷ ys))
+inside_more r x rs e i is l z ls xs a ys = rw (and_assoc r x rs, and_assoc l z ls, append_assoc xs (a ∷ []) ys) refl
 
-one_more : (i y r x rs e is l z ls : Bool) (xs : List Attr) (a : Attr) (ys : List Attr)
-    → chain ((r && x) && rs) e ((i && y) && is) ((if (i && y) then (l && z) else l) && ls) ((if (i && y) then (xs ++ a ∷ []) else xs) ++ ys) ≡ chain (r && (x && rs)) e (i && (y && is)) (l && (z && ls)) (xs ++ (a ∷ ys))
-one_more true true r x rs e is l z ls xs a ys = rw (and_assoc r x rs, and_assoc l z ls, append_assoc xs (a ∷ []) ys) refl
-one_more true false r x rs e is l z ls xs a ys = rw (and_assoc r x rs) (outside (r && (x && rs)) e (l && ls) (l && (z && ls)) (xs ++ ys) (xs ++ (a ∷ ys)))
-one_more false y r x rs e is l z ls xs a ys = rw (and_assoc r x rs) (outside (r && (x && rs)) e (l && ls) (l && (z && ls)) (xs ++ ys) (xs ++ (a ∷ ys)))
+outside : (r e l m i : Bool) (xs ys : List Attr) → chain r e false l xs ≡ chain r e (i && false) m ys
+outside true true l m true xs ys = refl
+outside true true l m false xs ys = refl
+outside true false l m i xs ys = refl
+outside false e l m i xs ys = refl
+
+outside_more : (r x rs e i l z ls : Bool) (xs : List Attr) (a : Attr) (ys : List Attr)
+    → chain ((r && x) && rs) e false (l && ls) (xs ++ ys) ≡ chain (r && (x && rs)) e (i && false) (l && (z && ls)) (xs ++ (a ∷ ys))
+outside_more r x rs e i l z ls xs a ys = rw (and_assoc r x rs) (outside (r && (x && rs)) e (l && ls) (l && (z && ls)) i (xs ++ ys) (xs ++ (a ∷ ys)))
+
+more_by : (y : Bool) (f : Found) (a : Attr) (p : Pieces) → judged (if y then with_attr f a else with_outside f a.head.kind) p
+    ≡ chain (f.rises && (nat_le f.least a.head.kind && rises_from a.head.kind p.pieces)) p.ended (f.inside && (y && list_all is_inside p.pieces))
+    (f.lawful && (has_lawful_value a && list_all has_lawful_value (map attr_of p.pieces))) (f.attrs ++ (a ∷ map attr_of p.pieces))
+more_by true f a p =
+    inside_more f.rises (nat_le f.least a.head.kind) (rises_from a.head.kind p.pieces) p.ended f.inside (list_all is_inside p.pieces)
+    f.lawful (has_lawful_value a) (list_all has_lawful_value (map attr_of p.pieces)) f.attrs a (map attr_of p.pieces)
+more_by false f a p =
+    outside_more f.rises (nat_le f.least a.head.kind) (rises_from a.head.kind p.pieces) p.ended f.inside
+    f.lawful (has_lawful_value a) (list_all has_lawful_value (map attr_of p.pieces)) f.attrs a (map attr_of p.pieces)
 
 judged_more : (f : Found) (piece : List ℕ) (p : Pieces) → judged (with_found f piece) p ≡ judged f (record { pieces = piece ∷ p.pieces; ended = p.ended })
-unfolding with_found
-judged_more f piece p =
-    one_more f.inside (is_inside piece) f.rises (nat_le f.least (field 0 4 piece)) (rises_from (field 0 4 piece) p.pieces) p.ended (list_all is_inside p.pieces)
-    f.lawful (has_lawful_value (attr_of piece)) (list_all has_lawful_value (map attr_of p.pieces)) f.attrs (attr_of piece) (map attr_of p.pieces)
+unfolding with_found attr_of head_of
+judged_more f piece p = more_by (is_inside piece) f (attr_of piece) p
 
 judged_last : (f : Found) (ended : Bool) → judged f (record { pieces = []; ended = ended }) ≡ verdict_of f ended
 judged_last f ended = rw (and_true f.rises, and_true f.inside, and_true f.lawful, append-nil f.attrs) refl
@@ -88,55 +103,113 @@ cut_step : (most : ℕ) (bytes : List ℕ) → cut (suc most) bytes ≡ cut_by (
 unfolding cut
 cut_step most bytes = refl
 
-abbrev next_by : Bool → Bool → Bool → ℕ → Next
-next_by short mark lawful n = if short then Short else if mark then EndMark else if lawful then Attribute n else BadLength
+cut_on : (s m l : Bool) (later : Result Pieces ℕ) → s ≡ false → m ≡ false → l ≡ true → cut_by s m l later ≡ later
+cut_on true m l later p q r = absurd cc
+cut_on false true l later p q r = absurd cc
+cut_on false false true later p q r = refl
+cut_on false false false later p q r = absurd cc
 
-by_attribute : (s m l : Bool) (n k : ℕ) (later : Result Pieces ℕ) → next_by s m l n ≡ Attribute k → (cut_by s m l later ≡ later) × (n ≡ k)
-by_attribute true m l n k later h = cc
-by_attribute false true l n k later h = cc
-by_attribute false false true n k later h = (refl, cc)
-by_attribute false false false n k later h = cc
+cut_short : (s m l : Bool) (later : Result Pieces ℕ) → s ≡ true → cut_by s m l later ≡ Ok (record { pieces = []; ended = false })
+cut_short true m l later p = refl
+cut_short false m l later p = absurd cc
 
-by_mark : (s m l : Bool) (n : ℕ) (later : Result Pieces ℕ) → next_by s m l n ≡ EndMark → cut_by s m l later ≡ Ok (record { pieces = []; ended = true })
-by_mark true m l n later h = cc
-by_mark false true l n later h = refl
-by_mark false false true n later h = cc
-by_mark false false false n later h = cc
+cut_mark : (s m l : Bool) (later : Result Pieces ℕ) → s ≡ false → m ≡ true → cut_by s m l later ≡ Ok (record { pieces = []; ended = true })
+cut_mark true m l later p q = absurd cc
+cut_mark false true l later p q = refl
+cut_mark false false l later p q = absurd cc
 
-by_short : (s m l : Bool) (n : ℕ) (later : Result Pieces ℕ) → next_by s m l n ≡ Short → cut_by s m l later ≡ Ok (record { pieces = []; ended = false })
-by_short true m l n later h = refl
-by_short false true l n later h = cc
-by_short false false true n later h = cc
-by_short false false false n later h = cc
+cut_bad : (s m l : Bool) (later : Result Pieces ℕ) → s ≡ false → m ≡ false → l ≡ false → cut_by s m l later ≡ Err 3
+cut_bad true m l later p q r = absurd cc
+cut_bad false true l later p q r = absurd cc
+cut_bad false false true later p q r = absurd cc
+cut_bad false false false later p q r = refl
 
-by_bad : (s m l : Bool) (n : ℕ) (later : Result Pieces ℕ) → next_by s m l n ≡ BadLength → cut_by s m l later ≡ Err 3
-by_bad true m l n later h = cc
-by_bad false true l n later h = cc
-by_bad false false true n later h = cc
-by_bad false false false n later h = refl
+is_short : (rest : List ℕ) → length rest < 4 → nat_lt (length rest) 4 ≡ true
+is_short rest lt = grind (arith, nat_tests)
 
-lawful_attribute : (s m l : Bool) (n k : ℕ) → next_by s m l n ≡ Attribute k → (l ≡ true) × (n ≡ k)
-lawful_attribute true m l n k h = cc
-lawful_attribute false true l n k h = cc
-lawful_attribute false false true n k h = (refl, cc)
-lawful_attribute false false false n k h = cc
+is_long : (rest : List ℕ) → 4 ≤ length rest → nat_lt (length rest) 4 ≡ false
+is_long rest le = grind (arith, nat_tests)
 
--- the next attribute's own bytes are there, with its header
-pub next_inside : (rest : List ℕ) (n : ℕ) → next_of rest ≡ Attribute n → n ≤ length rest
-unfolding next_of
-next_inside rest n next =
-    let p = lawful_attribute (nat_lt (length rest) 4) (is_end_mark rest) (has_length rest) (field 0x04 4 rest) n next in
-    omega (arith, (own_from_length rest p.0).0, p.1)
+-- the length of the attribute at the front
+length_parts : (rest : List ℕ) (n : ℕ) → length_at rest ≡ Ok n → (has_length rest ≡ true) × (field 0x04 4 rest ≡ n)
+unfolding length_at
+length_parts rest n e =
+    let p = needs_from_ok (has_length rest) 3 (λ _. Ok (field 0x04 4 rest)) n e in
+    let same : field 0x04 4 rest ≡ n = cc (p.1) in
+    (p.0, same)
 
-pub next_header : (rest : List ℕ) (n : ℕ) → next_of rest ≡ Attribute n → header_length (take n rest) ≤ length (take n rest)
-unfolding next_of
-next_header rest n next =
-    let p = lawful_attribute (nat_lt (length rest) 4) (is_end_mark rest) (has_length rest) (field 0x04 4 rest) n next in
-    let P : ℕ → Type 0 = λ k. header_length (take k rest) ≤ length (take k rest) in
-    subst P p.1 (own_from_length rest p.0).1.header
+refused_length : (b : Bool) (n rule : ℕ) → (needs b 3 >>= λ _. Ok n) ≡ Err rule → (b ≡ false) × (rule ≡ 3)
+refused_length true n rule e = absurd cc
+refused_length false n rule e = (refl, cc)
 
--- what is known of an attribute that is next
-pub ruleset next = (next_inside, next_header)
+pub length_inside : (rest : List ℕ) (n : ℕ) → length_at rest ≡ Ok n → n ≤ length rest
+length_inside rest n e = let p = length_parts rest n e in omega (arith, (own_from_length rest p.0).0, p.1)
+
+-- what a read of the attribute at the front says
+length_ok : (bytes : List ℕ) (n : ℕ) → has_length bytes ≡ true → n ≡ field 0x04 4 bytes → length_at bytes ≡ Ok n
+unfolding length_at
+length_ok bytes n h same = rw h (ap Ok (sym same))
+
+read_parts : (bytes : List ℕ) (a : Attr) → attr_at bytes ≡ Ok a → (has_length bytes ≡ true) × (is_inside (own_bytes bytes) ≡ true) × (attr_of (own_bytes bytes) ≡ a)
+unfolding attr_at
+read_parts bytes a e =
+    let p = needs_from_ok (has_length bytes) 3 (λ _. needs (is_inside (own_bytes bytes)) 6 >>= λ _. Ok (attr_of (own_bytes bytes))) a e in
+    let q = needs_from_ok (is_inside (own_bytes bytes)) 6 (λ _. Ok (attr_of (own_bytes bytes))) a p.1 in
+    let same : attr_of (own_bytes bytes) ≡ a = cc (q.1) in
+    (p.0, q.0, same)
+
+refused_by : (l i : Bool) (a : Attr) (rule : ℕ) → (needs l 3 >>= λ _. needs i 6 >>= λ _. Ok a) ≡ Err rule → rule ≢ 3 → (l ≡ true) × (i ≡ false)
+refused_by true true a rule e other = absurd cc
+refused_by true false a rule e other = (refl, refl)
+refused_by false i a rule e other = absurd (other (cc e))
+
+outside_parts : (bytes : List ℕ) (rule : ℕ) → attr_at bytes ≡ Err rule → rule ≢ 3 → (has_length bytes ≡ true) × (is_inside (own_bytes bytes) ≡ false)
+unfolding attr_at
+outside_parts bytes rule e other = refused_by (has_length bytes) (is_inside (own_bytes bytes)) (attr_of (own_bytes bytes)) rule e other
+
+is_three : (n : ℕ) → n ≡ 6 → n ≢ 3
+is_three n six three = omega (arith, six, three)
+
+length_by : (l i : Bool) (a : Attr) (n six : ℕ) → six ≡ 6 → (needs {F = ℕ} l 3 >>= λ _. needs {F = ℕ} i six >>= λ _. Ok a) ≡ Err 3 → (needs {F = ℕ} l 3 >>= λ _. Ok n) ≡ Err 3
+length_by true true a n six is e = absurd cc
+length_by true false a n six is e = absurd (is_three six is cc)
+length_by false i a n six is e = refl
+
+pub breaks_length : (bytes : List ℕ) → attr_at bytes ≡ Err 3 → length_at bytes ≡ Err 3
+unfolding attr_at length_at
+breaks_length bytes e = length_by (has_length bytes) (is_inside (own_bytes bytes)) (attr_of (own_bytes bytes)) (field 0x04 4 bytes) 6 refl e
+
+pub length_read : (bytes : List ℕ) (a : Attr) (n : ℕ) → attr_at bytes ≡ Ok a → n ≡ field 0x04 4 bytes → length_at bytes ≡ Ok n
+length_read bytes a n e same = length_ok bytes n (read_parts bytes a e).0 same
+
+pub found_read : (f : Found) (bytes : List ℕ) (a : Attr) → attr_at bytes ≡ Ok a → with_found f (own_bytes bytes) ≡ with_attr f a
+unfolding with_found
+found_read f bytes a e = let p = read_parts bytes a e in rw (p.1, p.2) refl
+
+pub length_outside : (bytes : List ℕ) (rule n : ℕ) → attr_at bytes ≡ Err rule → rule ≢ 3 → n ≡ field 0x04 4 bytes → length_at bytes ≡ Ok n
+length_outside bytes rule n e other same = length_ok bytes n (outside_parts bytes rule e other).0 same
+
+long_enough : (bytes : List ℕ) → has_length bytes ≡ true → 0x18 ≤ field 0x04 4 bytes
+long_enough bytes h =
+    let n : ℕ = field 0x04 4 bytes in
+    let own = own_from_length bytes h in
+    omega (arith, own.0, own.1.header, header_low (take n bytes), length-take-le n bytes own.0)
+
+pub found_outside : (f : Found) (bytes : List ℕ) (rule kind : ℕ) → attr_at bytes ≡ Err rule → rule ≢ 3 → kind ≡ field 0x00 4 bytes → with_found f (own_bytes bytes) ≡ with_outside f kind
+unfolding with_found
+found_outside f bytes rule kind e other same =
+    let p = outside_parts bytes rule e other in
+    let n : ℕ = field 0x04 4 bytes in
+    let front : field 0x00 4 (take n bytes) ≡ kind = field-take 0x00 4 n bytes (omega (arith, long_enough bytes p.0)) ∙ sym same in
+    rw p.1 (ap (with_outside f) front)
+
+pub outside_long : (bytes : List ℕ) (rule : ℕ) → attr_at bytes ≡ Err rule → rule ≢ 3 → 8 ≤ length bytes
+outside_long bytes rule e other =
+    let p = outside_parts bytes rule e other in
+    omega (arith, long_enough bytes p.0, (own_from_length bytes p.0).0)
+
+-- what stands at the front
+pub ruleset front = (breaks_length, length_read, found_read, length_outside, found_outside, outside_long)
 
 later_piece : (f : Found) (piece : List ℕ) (read : Result Pieces ℕ) → (with_piece piece read >>= judged f) ≡ (read >>= judged (with_found f piece))
 later_piece f piece (Ok p) = sym (judged_more f piece p)
@@ -152,31 +225,34 @@ one_step count i rest f lt = ap (λ (n : ℕ). still n rest f) (omega arith)
 bound_same : (r s : Result Pieces ℕ) (f : Found) → r ≡ s → (r >>= judged f) ≡ (s >>= judged f)
 bound_same r s f e = ap (λ (t : Result Pieces ℕ). t >>= judged f) e
 
-pub goes_on : (count i : ℕ) (rest : List ℕ) (f : Found) (n : ℕ) → i < count → next_of rest ≡ Attribute n → still (count - i) rest f ≡ still (count - (i + 1)) (drop n rest) (with_found f (take n rest))
-unfolding next_of
-goes_on count i rest f n lt next =
+pub goes_on : (count i : ℕ) (rest : List ℕ) (f : Found) (n : ℕ) → i < count → 4 ≤ length rest → is_end_mark rest ≡ false → length_at rest ≡ Ok n → still (count - i) rest f ≡ still (count - (i + 1)) (drop n rest) (with_found f (own_bytes rest))
+goes_on count i rest f n lt long mark read =
     let m : ℕ = count - (i + 1) in
     let own : ℕ = field 0x04 4 rest in
-    let p = by_attribute (nat_lt (length rest) 4) (is_end_mark rest) (has_length rest) own n (with_piece (take own rest) (cut m (drop own rest))) next in
+    let p = length_parts rest n read in
     one_step count i rest f lt
-    ∙ bound_same _ _ f (cut_step m rest ∙ p.0)
+    ∙ bound_same _ _ f (cut_step m rest ∙ cut_on _ _ _ (with_piece (take own rest) (cut m (drop own rest))) (is_long rest long) mark p.0)
     ∙ later_piece f (take own rest) (cut m (drop own rest))
-    ∙ ap (λ (k : ℕ). still m (drop k rest) (with_found f (take k rest))) p.1
+    ∙ ap (λ (k : ℕ). still m (drop k rest) (with_found f (take own rest))) p.1
 
-pub ends_at_mark : (count i : ℕ) (rest : List ℕ) (f : Found) → i < count → next_of rest ≡ EndMark → still (count - i) rest f ≡ verdict_of f true
-unfolding next_of
-ends_at_mark count i rest f lt next =
-    one_step count i rest f lt ∙ bound_same _ _ f (cut_step (count - (i + 1)) rest ∙ by_mark (nat_lt (length rest) 4) (is_end_mark rest) (has_length rest) (field 0x04 4 rest) _ next) ∙ judged_last f true
+pub ends_at_mark : (count i : ℕ) (rest : List ℕ) (f : Found) → i < count → 4 ≤ length rest → is_end_mark rest ≡ true → still (count - i) rest f ≡ verdict_of f true
+ends_at_mark count i rest f lt long mark =
+    one_step count i rest f lt ∙ bound_same _ _ f (cut_step (count - (i + 1)) rest ∙ cut_mark (nat_lt (length rest) 4) (is_end_mark rest) (has_length rest) _ (is_long rest long) mark) ∙ judged_last f true
 
-pub ends_short : (count i : ℕ) (rest : List ℕ) (f : Found) → i < count → next_of rest ≡ Short → still (count - i) rest f ≡ verdict_of f false
-unfolding next_of
-ends_short count i rest f lt next =
-    one_step count i rest f lt ∙ bound_same _ _ f (cut_step (count - (i + 1)) rest ∙ by_short (nat_lt (length rest) 4) (is_end_mark rest) (has_length rest) (field 0x04 4 rest) _ next) ∙ judged_last f false
+pub ends_short : (count i : ℕ) (rest : List ℕ) (f : Found) → i < count → length rest < 4 → still (count - i) rest f ≡ verdict_of f false
+ends_short count i rest f lt short =
+    one_step count i rest f lt ∙ bound_same _ _ f (cut_step (count - (i + 1)) rest ∙ cut_short (nat_lt (length rest) 4) (is_end_mark rest) (has_length rest) _ (is_short rest short)) ∙ judged_last f false
 
-pub ends_bad : (count i : ℕ) (rest : List ℕ) (f : Found) → i < count → next_of rest ≡ BadLength → still (count - i) rest f ≡ Err 3
-unfolding next_of
-ends_bad count i rest f lt next =
-    one_step count i rest f lt ∙ bound_same _ _ f (cut_step (count - (i + 1)) rest ∙ by_bad (nat_lt (length rest) 4) (is_end_mark rest) (has_length rest) (field 0x04 4 rest) _ next)
+ends_bad : (count i : ℕ) (rest : List ℕ) (f : Found) (rule : ℕ) → i < count → 4 ≤ length rest → is_end_mark rest ≡ false → length_at rest ≡ Err rule → still (count - i) rest f ≡ Err rule
+unfolding length_at
+ends_bad count i rest f rule lt long mark read =
+    let p = refused_length (has_length rest) (field 0x04 4 rest) rule read in
+    one_step count i rest f lt ∙ bound_same _ _ f (cut_step (count - (i + 1)) rest ∙ cut_bad (nat_lt (length rest) 4) (is_end_mark rest) (has_length rest) _ (is_long rest long) mark p.0) ∙ ap Err (sym p.1)
+
+-- an error of the attribute at the front is the walk's
+pub ends_refused : (e : RecFault) (count i : ℕ) (rest : List ℕ) (f : Found) → i < count → 4 ≤ length rest → is_end_mark rest ≡ false → Explains (rec_cause e) (length_at rest) → Explains (rec_cause e) (still (count - i) rest f)
+ends_refused (Rule rule) count i rest f lt long mark read = ends_bad count i rest f rule lt long mark read
+ends_refused Memory count i rest f lt long mark read = tt
 
 pub ends_full : (count i : ℕ) (rest : List ℕ) (f : Found) → count ≤ i → still (count - i) rest f ≡ verdict_of f false
 unfolding cut

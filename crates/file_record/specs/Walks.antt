@@ -1,39 +1,41 @@
 -- The walk over the bytes of a record's attributes.
-use Rattle.std.specs.Prelude.{ℕ, nat_lt, nat_le, ◌&&◌, Bool, true, if◌then◌else◌, List, [], ◌∷◌, ◌++◌, length, map, Result, Ok}
+use Rattle.std.specs.Prelude.{ℕ, nat_le, ◌&&◌, Bool, true, false, if◌then◌else◌, List, [], ◌∷◌, ◌++◌, map, Result, Ok}
 use Rattle.std.specs.List.{list_all}
 use Rattle.host_base.specs.Answers.{◌>>=◌, needs}
 use Rattle.disk_model.specs.Numbers.{field}
 use Rattle.record_model.specs.declared.attribute.Attr.{Attr}
 use Rattle.record_model.specs.Attributes.{has_length, is_inside, attr_of}
 use Rattle.record_model.specs.Values.{has_lawful_value}
-use Rattle.record_model.specs.Records.{Pieces, is_end_mark, cut, most_attributes, types_rise}
-use Rattle.file_record.specs.declared.walk.Next.{Next}
-use Rattle.file_record.specs.declared.walk.Next.TheVariants.{Attribute, EndMark, Short, BadLength}
+use Rattle.record_model.specs.Records.{Pieces, cut, most_attributes, types_rise}
 use Rattle.file_record.specs.declared.walk.Found.{Found}
 
--- what these bytes begin with
-unfoldable pub next_of : List ℕ → Next
-next_of bytes =
-    if nat_lt (length bytes) 4 then Short
-    else if is_end_mark bytes then EndMark
-    else if has_length bytes then Attribute (field 0x04 4 bytes)
-    else BadLength
+-- the length of the attribute at the front of these bytes, or rule 3
+unfoldable pub length_at : List ℕ → Result ℕ ℕ
+length_at bytes = needs (has_length bytes) 3 >>= λ _. Ok (field 0x04 4 bytes)
 
 -- before the first attribute
 abbrev pub nothing_found : Found
 nothing_found = record { attrs = []; least = 0; rises = true; inside = true; lawful = true }
 
--- one attribute more; from the first one on that isn't inside its bytes, attributes and values aren't read
-unfoldable pub with_found : Found → List ℕ → Found
-with_found found piece =
-    let inside = found.inside && is_inside piece in
+-- one attribute more
+abbrev pub with_attr : Found → Attr → Found
+with_attr found attr =
     record {
-      attrs = if inside then found.attrs ++ attr_of piece ∷ [] else found.attrs;
-      least = field 0x00 4 piece;
-      rises = found.rises && nat_le found.least (field 0x00 4 piece);
-      inside = inside;
-      lawful = if inside then found.lawful && has_lawful_value (attr_of piece) else found.lawful;
+      attrs = found.attrs ++ attr ∷ [];
+      least = attr.head.kind;
+      rises = found.rises && nat_le found.least attr.head.kind;
+      inside = found.inside;
+      lawful = found.lawful && has_lawful_value attr;
     }
+
+-- one more of this type that isn't inside its bytes
+abbrev pub with_outside : Found → ℕ → Found
+with_outside found kind =
+    record { attrs = found.attrs; least = kind; rises = found.rises && nat_le found.least kind; inside = false; lawful = found.lawful }
+
+-- one more, by its own bytes
+unfoldable pub with_found : Found → List ℕ → Found
+with_found found piece = if is_inside piece then with_attr found (attr_of piece) else with_outside found (field 0x00 4 piece)
 
 -- the attributes that were found, or the least rule that is broken
 abbrev pub verdict_of : Found → Bool → Result (List Attr) ℕ

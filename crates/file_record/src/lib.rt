@@ -4,12 +4,10 @@
 //! The layouts are those of the Linux-NTFS documentation, "FILE Record" and "Attribute Header".
 #![tactic(auto)]
 
-mod attribute;
 mod fault;
 mod record;
 #[cfg(test)]
 mod tests;
-mod value;
 mod walk;
 
 pub use fault::RecFault;

@@ -1,35 +1,34 @@
 ghost use Rattle.std.specs.Prelude.{◌≡◌, ◌≤◌, OnOk, length};
 ghost use Rattle.host_base.specs.Answers.{Gives};
-ghost use Rattle.record_model.specs.Attributes.{header_length};
 ghost use Rattle.record_model.specs.Records.{is_end_mark};
+ghost use Rattle.record_model.specs.Values.{has_lawful_value};
+ghost use Rattle.attr_codec.specs.Reading.{own_bytes, attr_seen};
 ghost use Rattle.file_record.specs.Faults.{rec_cause};
-ghost use Rattle.file_record.specs.Walks.{next_of, nothing_found, with_found, verdict_of, attributes_at};
+ghost use Rattle.file_record.specs.Walks.{length_at, nothing_found, with_attr, with_outside, with_found, verdict_of, attributes_at};
 
-use crate::attribute::{has_length, is_inside, read};
 use crate::fault::RecFault;
-use crate::value::has_lawful_value;
+use attr_codec::{AttrFault, AttrRef, Form, read};
 use disk_model::u32_at;
-use record_model::AttrList;
+use record_model::{AttrList, StdInfo};
 use std::alloc::{AllocError, Global};
+use std_values::{FixedValue, is_file_name};
 
 const END_MARK: u32 = 0xffff_ffff;
+
+const STANDARD_INFORMATION: u32 = 0x10;
+
+const FILE_NAME: u32 = 0x30;
+
+// The rule that an attribute's length breaks.
+const LENGTH_RULE: u32 = 3;
 
 // An attribute has at least 18 bytes (hexadecimal): 1,024 bytes have at most 42, and the end mark.
 const MOST_ATTRIBUTES: u32 = 43;
 
-// What stands at the front of the bytes that are left.
-enum Next {
-    // An attribute of this length, which lies inside the bytes.
-    Attribute { length: usize },
-    EndMark,
-    // There is no room for a type.
-    Short,
-    BadLength,
-}
-
 // What the attributes so far come to.
 #[derive(Drop)]
 struct Found {
+    // Those whose parts lie inside them.
     attrs: AttrList,
     // The least type that may follow.
     least: u32,
@@ -48,22 +47,26 @@ fn is_end_mark(bytes: &[u8]) -> bool
     u32_at(bytes, 0) == END_MARK
 }
 
-#[tactic(auto, using(crate::proofs::Headers::long_enough), unfolding(crate::specs::Walks::next_of))]
-fn next_of(bytes: &[u8]) -> Next
-    ensures { result ≡ next_of bytes.now }
+// Whether standard information or a file name is resident and in shape (Linux-NTFS documentation,
+// "$STANDARD_INFORMATION" and "$FILE_NAME"); other attributes are free.
+#[tactic(auto, unfolding(record_model::specs::Values::has_lawful_value, record_model::specs::StdValues::std_info_of))]
+fn has_lawful_value(attr: &AttrRef<'_>) -> bool
+    ensures { result ≡ has_lawful_value (attr_seen attr.now) }
 {
-    if bytes.len() < 4 {
-        return Next::Short;
+    match attr.form {
+        Form::Resident { value, .. } => {
+            if attr.head.kind == STANDARD_INFORMATION {
+                StdInfo::read(value).is_ok()
+            } else if attr.head.kind == FILE_NAME {
+                is_file_name(value)
+            } else {
+                true
+            }
+        }
+        Form::Mapped { .. } => {
+            attr.head.kind != STANDARD_INFORMATION && attr.head.kind != FILE_NAME
+        }
     }
-    if is_end_mark(bytes) {
-        return Next::EndMark;
-    }
-    if has_length(bytes) {
-        return Next::Attribute {
-            length: u32_at(bytes, 4) as usize,
-        };
-    }
-    Next::BadLength
 }
 
 impl Found {
@@ -80,22 +83,44 @@ impl Found {
         }
     }
 
-    // One attribute more. After one that isn't inside its bytes no attribute is kept.
-    #[tactic(auto, using(crate::proofs::Headers::headers), unfolding(crate::specs::Walks::with_found))]
-    fn add(&mut self, alloc: Global, piece: &[u8]) -> Result<(), AllocError>
-        requires { header_length piece.now ≤ length piece.now }
-        ensures { OnOk result (self.new ≡ with_found self.old piece.now) }
+    // One attribute more.
+    fn keep(&mut self, alloc: Global, attr: &AttrRef<'_>) -> Result<(), AllocError>
+        ensures { OnOk result (self.new ≡ with_attr self.old (attr_seen attr.now)) }
     {
-        let kind = u32_at(piece, 0);
+        self.attrs.push(attr.to_attr(alloc)?)?;
+        self.rises = self.rises && self.least <= attr.head.kind;
+        self.least = attr.head.kind;
+        self.lawful = self.lawful && has_lawful_value(attr);
+        Ok(())
+    }
+
+    // One more of this type, whose name or value lies outside it.
+    fn pass_over(&mut self, kind: u32)
+        ensures { self.new ≡ with_outside self.old kind }
+    {
         self.rises = self.rises && self.least <= kind;
         self.least = kind;
-        self.inside = self.inside && is_inside(piece);
-        if self.inside {
-            let attr = read(alloc, piece)?;
-            self.lawful = self.lawful && has_lawful_value(alloc, &attr)?;
-            self.attrs.push(attr)?;
+        self.inside = false;
+    }
+
+    // Adds the attribute at the front of these bytes, and answers its length. `Rule` is 3, where
+    // the length is at fault.
+    #[tactic(auto, using(crate::proofs::Walking::front))]
+    fn add(&mut self, alloc: Global, bytes: &[u8]) -> Result<usize, RecFault>
+        ensures length { Gives (λ n. n) rec_cause result (length_at bytes.now) }
+        ensures found { OnOk result (self.new ≡ with_found self.old (own_bytes bytes.now)) }
+    {
+        match read(bytes) {
+            Ok(attr) => {
+                self.keep(alloc, &attr)?;
+                Ok(attr.length as usize)
+            }
+            Err(AttrFault::Rule { rule: LENGTH_RULE }) => Err(RecFault::Rule { rule: LENGTH_RULE }),
+            Err(AttrFault::Rule { .. }) => {
+                self.pass_over(u32_at(bytes, 0));
+                Ok(u32_at(bytes, 4) as usize)
+            }
         }
-        Ok(())
     }
 
     // The attributes, or the least rule that is broken.
@@ -120,23 +145,21 @@ impl Found {
 
 /// The attributes in these bytes up to the end mark, in one walk. `Rule` has the least rule from 3 on
 /// that they break; a length at fault ends the walk.
-#[tactic(auto, using(crate::proofs::Walking::next))]
+#[tactic(auto, using(crate::proofs::Walking::length_inside))]
 pub fn attributes_at(alloc: Global, bytes: &[u8]) -> Result<AttrList, RecFault>
     ensures { Gives (λ attrs. attrs) rec_cause result (attributes_at bytes.now) }
 {
     let mut found = Found::new(alloc);
     let mut rest = bytes;
     for _ in 0..MOST_ATTRIBUTES {
-        match next_of(rest) {
-            Next::Attribute { length } => {
-                let (piece, after) = rest.split_at(length);
-                found.add(alloc, piece)?;
-                rest = after;
-            }
-            Next::EndMark => return found.verdict(true),
-            Next::Short => return found.verdict(false),
-            Next::BadLength => return Err(RecFault::Rule { rule: 3 }),
+        if rest.len() < 4 {
+            return found.verdict(false);
         }
+        if is_end_mark(rest) {
+            return found.verdict(true);
+        }
+        let length = found.add(alloc, rest)?;
+        rest = rest.split_at(length).1;
     }
     found.verdict(false)
 }

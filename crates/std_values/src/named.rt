@@ -1,16 +1,17 @@
-ghost use Rattle.std.specs.Prelude.{◌≡◌, true, ℕ, List, Result, ◌+◌, ◌*◌, ◌<◌, ◌≤◌, ◌^◌, length};
+ghost use Rattle.std.specs.Prelude.{◌≡◌, true, ℕ, List, Result, ◌+◌, ◌*◌, ◌<◌, ◌≤◌, ◌^◌, length, not, is_ok};
 ghost use Rattle.host_base.specs.Answers.{Gives};
+ghost use Rattle.utf16_name.specs.Names.{is_bad_unit, name_of};
 ghost use Rattle.record_model.specs.declared.values.ValueFault.{ValueFault};
-ghost use Rattle.record_model.specs.Values.{units_of, has_name_length};
+ghost use Rattle.record_model.specs.Values.{units_of, has_name_length, is_file_name};
 ghost use Rattle.record_model.specs.StdValues.{value_cause, name_head_over};
 ghost use Rattle.std_values.specs.Naming.{lawful_name};
 
 use crate::bytes::{put_byte, put_units};
-use disk_model::{put_u32, put_u64, u8_at, u32_at, u64_at};
+use disk_model::{put_u32, put_u64, u8_at, u16_at, u32_at, u64_at};
 use host_base::FileRef;
 use record_model::{FileNameValue, ValueFault, units_at};
 use std::alloc::Global;
-use utf16_name::{Name, NameFault};
+use utf16_name::{Name, NameFault, check};
 
 /// The last namespace: Win32 and DOS.
 const LAST_SPACE: u8 = 3;
@@ -51,6 +52,38 @@ fn has_name_length(value: &[u8]) -> bool
     ensures { result ≡ has_name_length value.now }
 {
     value.len() >= HEAD && value.len() == HEAD + 2 * usize::from(u8_at(value, 0x40))
+}
+
+// Whether a unit may stand in a name: alone it is one then.
+#[tactic(auto, using(crate::proofs::Naming::one_unit))]
+fn is_name_unit(unit: u16) -> bool
+    ensures { result ≡ not (is_bad_unit unit) }
+{
+    check(&[unit]).is_none()
+}
+
+// Whether the units in a value of the right length are a name.
+fn has_name(value: &[u8]) -> bool
+    requires { has_name_length value.now ≡ true }
+    ensures { result ≡ is_ok (name_of (units_of value.now)) }
+{
+    let count = usize::from(u8_at(value, 0x40));
+    for i in 0..count {
+        if !is_name_unit(u16_at(value, HEAD + 2 * i)) {
+            return false;
+        }
+    }
+    count > 0
+}
+
+/// Whether a value is a file name: it has exactly 42 (hexadecimal) bytes and those of its units, a
+/// namespace of 0 to 3, and units that are a name (Linux-NTFS documentation, "$FILE_NAME"). It takes
+/// no memory, and time linear in the bytes.
+#[tactic(auto, unfolding(record_model::specs::Values::is_file_name, record_model::specs::Values::space_of))]
+pub fn is_file_name(value: &[u8]) -> bool
+    ensures value { result ≡ is_file_name value.now }
+{
+    has_name_length(value) && u8_at(value, 0x41) <= LAST_SPACE && has_name(value)
 }
 
 // The name of these units. `Shape` is the answer where they are none.

@@ -1,6 +1,5 @@
 use super::*;
 use host_base::FileRef;
-use std::alloc::Global;
 use std::test::Fail;
 use utf16_name::Name;
 
@@ -86,13 +85,13 @@ fn name_of_a_root(rt: HostRuntime) -> Result<(), Fail> {
     Ok(())
 }
 
-// What is answered for the root's name with this byte at this place.
-fn fault_with(alloc: Global, at: usize, byte: u8) -> Option<ValueFault> {
+// The root's name with this byte at this place.
+fn name_with(at: usize, byte: u8) -> [u8; 0x44] {
     let mut value = ROOT_NAME;
     if at < value.len() {
         value[at] = byte;
     }
-    FileNameValue::read(alloc, &value).err()
+    value
 }
 
 #[test]
@@ -112,7 +111,13 @@ fn faults_of_a_name(rt: HostRuntime) {
         (0x42, 0x2f, shape),
     ];
     for (at, byte, fault) in table {
-        assert_eq!(rt; fault_with(rt.alloc(), at, byte), fault, "{at}");
+        let value = name_with(at, byte);
+        assert_eq!(rt;
+            FileNameValue::read(rt.alloc(), &value).err(),
+            fault,
+            "{at}"
+        );
+        assert_eq!(rt; is_file_name(&value), fault.is_none(), "{at}");
     }
 }
 
@@ -127,4 +132,5 @@ fn short_values(rt: HostRuntime) {
     assert_eq!(rt; JournalMax::read(&ROOT_NAME[..0x20]).err(), None);
     let name = FileNameValue::read(rt.alloc(), &ROOT_NAME[..0x41]);
     assert_eq!(rt; name.err(), length(0x41));
+    assert!(rt; !is_file_name(&ROOT_NAME[..0x41]));
 }
