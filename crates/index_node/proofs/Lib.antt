@@ -1,3 +1,4 @@
 pub mod Keys
 pub mod Walking
 pub mod Whole
+pub mod Sizes

@@ -10,6 +10,7 @@ mod entries;
 mod fault;
 mod header;
 mod node;
+mod room;
 #[cfg(test)]
 mod tests;
 mod walk;
