@@ -2,3 +2,4 @@ pub mod Keys
 pub mod Walking
 pub mod Whole
 pub mod Sizes
+pub mod Placing

@@ -1,3 +1,4 @@
 pub mod Faults
 pub mod Walks
 pub mod Edits
+pub mod Spelling

@@ -14,6 +14,7 @@ mod room;
 #[cfg(test)]
 mod tests;
 mod walk;
+mod writing;
 
 pub use fault::NodeFault;
 pub use node::{Node, read_root};

@@ -3,13 +3,14 @@ ghost use Rattle.host_base.specs.Answers.{Gives};
 ghost use Rattle.disk_model.specs.Content.{is_signed};
 ghost use Rattle.disk_model.specs.declared.block.BlockKind.TheVariants.{Index as index_block};
 ghost use Rattle.record_model.specs.Values.{is_file_name};
-ghost use Rattle.record_model.specs.Nodes.{node_used, node_at, root_at};
+ghost use Rattle.record_model.specs.Nodes.{node_used, node_at, root_at, node_spelling, FitsNode};
 ghost use Rattle.index_node.specs.Faults.{rule_cause, full_cause};
 ghost use Rattle.index_node.specs.Edits.{inserted, without_entry, left_entries, left_half, right_half};
 
 use crate::fault::NodeFault;
 use crate::header::{has_root_header, node_entries};
 use crate::room::{named_length, node_used};
+use crate::writing::{children_of, put_block_head, put_entries, put_zeros};
 use disk_model::u64_at;
 use host_base::{Bytes, FileRef};
 use record_model::{Entry, EntryList};
@@ -84,6 +85,21 @@ impl Node {
         ensures value { result.now ≡ self.now.entries }
     {
         &self.entries
+    }
+
+    /// Writes the node as the 4,096 bytes of an index block, with the array of the update sequence as
+    /// zeros; bytes that nothing names are zeros. The node's used bytes are at most 4,072. Linear in
+    /// the bytes.
+    pub fn write(&self, out: &mut [u8])
+        requires fits { FitsNode self.now }
+        requires whole { length out.old ≡ 4096 }
+        ensures { out.new ≡ node_spelling self.now }
+    {
+        let entries = self.entries.as_slice();
+        let used = node_used(entries) as u32;
+        put_block_head(out, self.lsn, self.vcn, used, children_of(entries));
+        let end = put_entries(out, entries);
+        put_zeros(out, end, out.len() - end);
     }
 
     /// Puts a copy of an entry before the one at `at`, and so before the last entry. Its key is a

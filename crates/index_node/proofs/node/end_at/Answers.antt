@@ -1,4 +1,4 @@
-use Rattle.std.proofs.Common.{ℕ, List, set, get_or, None, sym, ◌∙◌, ap, arith}
+use Rattle.std.proofs.Common.{ℕ, List, set, get_or, None, ◌∙◌, ap, arith}
 use Rattle.std.proofs.lemmas.List.{get_or_default}
 use Rattle.record_model.specs.declared.entry.Entry.{Entry}
 use Rattle.record_model.specs.Nodes.{no_file}

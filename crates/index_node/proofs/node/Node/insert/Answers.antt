@@ -1,6 +1,6 @@
-use Rattle.std.proofs.Common.{◌≡◌, ◌+◌, ◌≤◌, Ok, sym, ap, ◌∙◌, subst, arith}
+use Rattle.std.proofs.Common.{◌+◌, ◌≤◌, sym, ap, ◌∙◌, arith}
 use Rattle.record_model.specs.Nodes.{Node, entry_length, node_used}
-use Rattle.index_node.specs.Edits.{inserted, with_entries}
+use Rattle.index_node.specs.Edits.{inserted}
 use Rattle.index_node.proofs.Sizes.{inserted_ok, inserted_bounded}
 use Rattle.index_node.proofs.node.Node.insert.Goals as goal
 
