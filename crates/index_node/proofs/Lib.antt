@@ -3,3 +3,4 @@ pub mod Walking
 pub mod Whole
 pub mod Sizes
 pub mod Placing
+pub mod EditsFit

@@ -2,3 +2,4 @@ pub mod Faults
 pub mod Walks
 pub mod Edits
 pub mod Spelling
+pub mod EditLaws

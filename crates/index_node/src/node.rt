@@ -80,6 +80,48 @@ impl Node {
         })
     }
 
+    /// A node of these entries, of which the last one has no key, under this VCN, in a block that was
+    /// never written: its LSN is 0. The entries take at most 8,152 bytes.
+    pub fn new(vcn: u64, entries: EntryList) -> Node
+        requires { node_used entries ≤ 8192 }
+        ensures { result ≡ record { vcn = vcn; lsn = 0; entries = entries } }
+    {
+        Node {
+            vcn,
+            lsn: 0,
+            entries,
+        }
+    }
+
+    /// The node's own VCN.
+    pub fn vcn(&self) -> u64
+        ensures { result ≡ self.now.vcn }
+    {
+        self.vcn
+    }
+
+    /// The LSN of its block.
+    pub fn lsn(&self) -> u64
+        ensures { result ≡ self.now.lsn }
+    {
+        self.lsn
+    }
+
+    /// Gives the node this VCN.
+    pub fn set_vcn(&mut self, vcn: u64)
+        ensures { self.new ≡ record { vcn = vcn; lsn = self.old.lsn; entries = self.old.entries } }
+    {
+        self.vcn = vcn;
+    }
+
+    /// The used bytes of the node's block, counted from its node header as it is written; above
+    /// 4,072 they have no room. Linear in the entries.
+    pub fn used(&self) -> u32
+        ensures { result ≡ node_used self.now.entries }
+    {
+        node_used(self.entries.as_slice()) as u32
+    }
+
     /// The entries in order, the last one among them.
     pub fn entries(&self) -> &EntryList
         ensures value { result.now ≡ self.now.entries }

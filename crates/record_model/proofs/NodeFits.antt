@@ -62,7 +62,7 @@ entries_fit (s ∷ t ∷ spellings) (e ∷ f ∷ entries) behind bytes each =
 
 -- ---- the node
 
-flags_fit : (flag : ℕ) (entries : List Entry) → AllByRecursion (λ e. down_flag e.down ≡ flag) entries → AllByRecursion (λ e. down_flag e.down ≡ children_of entries) entries
+pub flags_fit : (flag : ℕ) (entries : List Entry) → AllByRecursion (λ e. down_flag e.down ≡ flag) entries → AllByRecursion (λ e. down_flag e.down ≡ children_of entries) entries
 flags_fit flag [] all = tt
 flags_fit flag (e ∷ entries) all = subst (λ (k : ℕ). AllByRecursion (λ x. down_flag x.down ≡ k) (e ∷ entries)) (sym all.0) all
 
