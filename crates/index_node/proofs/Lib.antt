@@ -1,3 +1,6 @@
 pub mod Keys
 pub mod Walking
 pub mod Whole
+pub mod Sizes
+pub mod Placing
+pub mod EditsFit

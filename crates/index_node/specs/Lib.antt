@@ -1,2 +1,5 @@
 pub mod Faults
 pub mod Walks
+pub mod Edits
+pub mod Spelling
+pub mod EditLaws

@@ -9,11 +9,15 @@
 mod entries;
 mod fault;
 mod header;
+mod laws;
 mod node;
+mod room;
 #[cfg(test)]
 mod tests;
 mod walk;
+mod writing;
 
 pub use fault::NodeFault;
+pub use laws::edits_fit;
 pub use node::{Node, read_root};
 pub use record_model::{Entry, EntryList};

@@ -1,0 +1,279 @@
+ghost use Rattle.std.specs.Prelude.{◌≡◌, true, length, IfOk};
+ghost use Rattle.record_model.specs.Values.{is_file_name};
+
+use super::*;
+use host_base::{Bytes, FileRef};
+use record_model::FileNameValue;
+use std::alloc::{AllocError, Global};
+use std::test::Fail;
+use std_values::NamedValue;
+
+// Bytes that stand from this place on.
+struct Edit(usize, &'static [u8]);
+
+// What is changed in the bytes, and the rule that is broken then.
+struct Row(&'static [Edit], u32);
+
+// The value of the index root of a directory 5/5, a leaf with `$LogFile`, `$MFT` and `.`.
+static ROOT: [Edit; 16] = [
+    Edit(0x00, &[0x30, 0, 0, 0, 1, 0, 0, 0, 0, 0x10, 0, 0, 8]),
+    Edit(0x10, &[0x10, 0, 0, 0, 0x40, 1, 0, 0, 0x40, 1]),
+    Edit(0x20, &[2, 0, 0, 0, 0, 0, 2, 0, 0x68, 0, 0x52]),
+    Edit(0x30, &[5, 0, 0, 0, 0, 0, 5]),
+    Edit(0x70, &[8, 3]),
+    Edit(0x72, b"$\0L\0o\0g\0F\0i\0l\0e"),
+    Edit(0x88, &[0, 0, 0, 0, 0, 0, 1, 0, 0x60, 0, 0x4a]),
+    Edit(0x98, &[5, 0, 0, 0, 0, 0, 5]),
+    Edit(0xd8, &[4, 3]),
+    Edit(0xda, b"$\0M\0F\0T"),
+    Edit(0xe8, &[5, 0, 0, 0, 0, 0, 5, 0, 0x58, 0, 0x44]),
+    Edit(0xf8, &[5, 0, 0, 0, 0, 0, 5]),
+    Edit(0x138, &[1, 3]),
+    Edit(0x13a, b"."),
+    // the last entry, with a file and a key length that don't count
+    Edit(0x140, &[9, 0, 0, 0, 0, 0, 9, 0, 0x10, 0, 0x52]),
+    Edit(0x14c, &[2]),
+];
+
+// An index block with `a`, `b` and the last entry, each with a child, as it is written.
+static BLOCK: [Edit; 12] = [
+    Edit(0x00, b"INDX\x28\0\x09\0\x07"),
+    Edit(0x10, &[1]),
+    Edit(0x18, &[0x28, 0, 0, 0, 0, 1, 0, 0, 0xe8, 0x0f, 0, 0, 1]),
+    Edit(0x40, &[24, 0, 0, 0, 0, 0, 1, 0, 0x60, 0, 0x44, 0, 1]),
+    Edit(0x50, &[5, 0, 0, 0, 0, 0, 5]),
+    Edit(0x90, &[1, 0, 0x61]),
+    Edit(0x98, &[3]),
+    Edit(0xa0, &[25, 0, 0, 0, 0, 0, 1, 0, 0x60, 0, 0x44, 0, 1]),
+    Edit(0xb0, &[5, 0, 0, 0, 0, 0, 5]),
+    Edit(0xf0, &[1, 0, 0x62]),
+    Edit(0xf8, &[4]),
+    Edit(0x108, &[0x18, 0, 0, 0, 3, 0, 0, 0, 5]),
+];
+
+// A leaf without keys.
+static LEAF: [Edit; 3] = [
+    Edit(0x00, b"INDX"),
+    Edit(0x18, &[0x28, 0, 0, 0, 0x38, 0, 0, 0, 0xe8, 0x0f]),
+    Edit(0x48, &[0x10, 0, 0, 0, 2]),
+];
+
+// The name `c` of a file in a directory 5/5.
+static NAME: [Edit; 2] = [
+    Edit(0x00, &[5, 0, 0, 0, 0, 0, 5]),
+    Edit(0x40, &[1, 3, 0x63]),
+];
+
+static ROOT_RULES: [Row; 20] = [
+    Row(&[], 0),
+    // another type, collation or block
+    Row(&[Edit(0x00, &[0x80])], 3),
+    Row(&[Edit(0x04, &[0])], 3),
+    Row(&[Edit(0x09, &[0x08])], 3),
+    // clusters of a block aren't looked at
+    Row(&[Edit(0x0c, &[1])], 0),
+    // the first entry in the header, at no multiple of 8, behind the used bytes
+    Row(&[Edit(0x10, &[8])], 3),
+    Row(&[Edit(0x10, &[0x14])], 3),
+    Row(&[Edit(0x10, &[0x48, 1])], 3),
+    // more used than allocated, more allocated than there is
+    Row(&[Edit(0x14, &[0x48])], 3),
+    Row(&[Edit(0x18, &[0x48])], 3),
+    // a length of 0, of no multiple of 8, past the used bytes
+    Row(&[Edit(0x28, &[0])], 4),
+    Row(&[Edit(0x28, &[0x6c])], 4),
+    Row(&[Edit(0x148, &[0x18])], 4),
+    // a key past its entry, and one of a namespace that there isn't
+    Row(&[Edit(0x92, &[0x52])], 4),
+    Row(&[Edit(0x139, &[4])], 4),
+    // a key at fault behind a child flag against the node's flag
+    Row(&[Edit(0x94, &[1]), Edit(0x139, &[4])], 4),
+    // no last entry: its flag is missing and its key counts, it lies past the used bytes, or there are too few bytes
+    Row(&[Edit(0x14c, &[0])], 4),
+    Row(&[Edit(0x14, &[0x30])], 5),
+    Row(&[Edit(0x14, &[0x38])], 5),
+    // children without the node's flag
+    Row(&[Edit(0x1c, &[1])], 6),
+];
+
+static BLOCK_RULES: [Row; 7] = [
+    Row(&[], 0),
+    Row(&[Edit(0x03, b"Y")], 1),
+    // the signature comes before the header
+    Row(&[Edit(0x00, b"FILE"), Edit(0x18, &[0])], 1),
+    Row(&[Edit(0x20, &[0xf0])], 3),
+    // too short for its child
+    Row(&[Edit(0x108, &[0x10])], 4),
+    Row(&[Edit(0x1c, &[0xe8, 0])], 5),
+    Row(&[Edit(0x10c, &[2])], 6),
+];
+
+fn put(bytes: &mut [u8], edits: &[Edit]) {
+    for edit in edits {
+        for (i, byte) in edit.1.iter().enumerate() {
+            if i < bytes.len() && edit.0 < bytes.len() - i {
+                bytes[edit.0 + i] = *byte;
+            }
+        }
+    }
+}
+
+// So many bytes with these, and then the changed ones.
+fn changed(
+    alloc: Global,
+    size: usize,
+    base: &[Edit],
+    edits: &[Edit],
+) -> Result<Vec<u8>, AllocError> {
+    let mut bytes = vec![in alloc; 0u8; size]?;
+    put(&mut bytes, base);
+    put(&mut bytes, edits);
+    Ok(bytes)
+}
+
+// The rule that is answered, or 0.
+fn rule_of(fault: Option<NodeFault>) -> u32 {
+    match fault {
+        None => 0,
+        Some(NodeFault::Rule { rule }) => rule,
+        Some(NodeFault::Full { .. }) => 100,
+        Some(NodeFault::Memory) => 200,
+    }
+}
+
+#[test]
+fn reads_a_root(rt: HostRuntime) -> Result<(), Fail> {
+    let alloc = rt.alloc();
+    let value = changed(alloc, 0x150, &ROOT, &[])?;
+    assert_eq!(rt; value.len(), 0x150);
+    let list = read_root(alloc, &value)?;
+    let entries = list.as_slice();
+    assert_eq!(rt; entries.len(), 4);
+    assert_eq!(rt; entries[0].child, FileRef { number: 2, seq: 2 });
+    assert_eq!(rt; entries[0].key, Bytes::copy_of(alloc, &value[0x30..0x82])?);
+    assert_eq!(rt; entries[1].child, FileRef { number: 0, seq: 1 });
+    assert_eq!(rt; entries[1].key, Bytes::copy_of(alloc, &value[0x98..0xe2])?);
+    assert_eq!(rt; entries[2].child, FileRef { number: 5, seq: 5 });
+    assert_eq!(rt; entries[2].key, Bytes::copy_of(alloc, &value[0xf8..0x13c])?);
+    assert_eq!(rt; entries[2].down, None);
+    let last = Entry {
+        child: FileRef { number: 0, seq: 0 },
+        key: Bytes::new(alloc),
+        down: None,
+    };
+    assert_eq!(rt; entries[3], last);
+    Ok(())
+}
+
+// The block that is written of the node that is read, where it has room.
+fn rewritten(alloc: Global, body: &[u8]) -> Result<Vec<u8>, NodeFault>
+    requires { length body.now ≡ 4096 }
+{
+    let node = Node::read(alloc, body)?;
+    let mut out = vec![in alloc; 0xaau8; 4096]?;
+    if node.used() <= 4072 {
+        node.write(&mut out);
+    }
+    Ok(out)
+}
+
+#[test]
+fn reads_and_writes_a_block(rt: HostRuntime) -> Result<(), Fail> {
+    let alloc = rt.alloc();
+    let body = changed(alloc, 4096, &BLOCK, &[])?;
+    assert_eq!(rt; body.len(), 4096);
+    let node = Node::read(alloc, &body)?;
+    assert_eq!(rt; node.vcn(), 1);
+    assert_eq!(rt; node.lsn(), 7);
+    assert_eq!(rt; node.used(), 0x100);
+    let entries = node.entries().as_slice();
+    assert_eq!(rt; entries.len(), 3);
+    assert_eq!(rt; entries[0].child, FileRef { number: 24, seq: 1 });
+    assert_eq!(rt; entries[0].down, Some(3));
+    assert_eq!(rt; entries[1].key, Bytes::copy_of(alloc, &body[0xb0..0xf4])?);
+    assert_eq!(rt; entries[1].down, Some(4));
+    assert_eq!(rt; entries[2].key.len(), 0);
+    assert_eq!(rt; entries[2].down, Some(5));
+    assert_eq!(rt; rewritten(alloc, &body)?.as_slice(), body.as_slice());
+    Ok(())
+}
+
+#[test]
+fn answers_the_least_rule(rt: HostRuntime) -> Result<(), Fail> {
+    let alloc = rt.alloc();
+    for (row, Row(edits, rule)) in ROOT_RULES.iter().enumerate() {
+        let value = changed(alloc, 0x150, &ROOT, edits)?;
+        assert_eq!(rt;
+            rule_of(read_root(alloc, &value).err()),
+            *rule,
+            "root {row}"
+        );
+    }
+    for (row, Row(edits, rule)) in BLOCK_RULES.iter().enumerate() {
+        let body = changed(alloc, 4096, &BLOCK, edits)?;
+        assert_eq!(rt; body.len(), 4096);
+        assert_eq!(rt;
+            rule_of(Node::read(alloc, &body).err()),
+            *rule,
+            "block {row}"
+        );
+    }
+    Ok(())
+}
+
+// An entry of file 26/1 with this key, where it is a file-name value.
+#[tactic(auto, using(crate::proofs::Keys::lawful))]
+fn named(alloc: Global, key: &[u8], down: Option<u64>) -> Result<Entry, Fail>
+    ensures { IfOk result (λ entry. is_file_name entry.key ≡ true) }
+{
+    let _ = FileNameValue::read(alloc, key)?;
+    Ok(Entry {
+        child: FileRef { number: 26, seq: 1 },
+        key: Bytes::copy_of(alloc, key)?,
+        down,
+    })
+}
+
+#[test]
+fn edits_a_node(rt: HostRuntime) -> Result<(), Fail> {
+    let alloc = rt.alloc();
+    let body = changed(alloc, 4096, &BLOCK, &[])?;
+    assert_eq!(rt; body.len(), 4096);
+    let entry = named(alloc, &changed(alloc, 0x44, &NAME, &[])?, Some(6))?;
+    let mut node = Node::read(alloc, &body)?;
+    assert_eq!(rt; node.entries().len(), 3);
+    node.insert(2, &entry)?;
+    assert_eq!(rt; node.used(), 0x160);
+    assert_eq!(rt; node.entries().len(), 4);
+    let left = node.split(1)?;
+    assert_eq!(rt; (left.vcn(), node.vcn()), (0, 1));
+    let (before, behind) = (left.entries().as_slice(), node.entries().as_slice());
+    assert_eq!(rt; (before.len(), behind.len()), (2, 2));
+    assert_eq!(rt; before[0].child, FileRef { number: 24, seq: 1 });
+    assert_eq!(rt; (before[1].key.len(), before[1].down), (0, Some(4)));
+    assert_eq!(rt; behind[0].child, FileRef { number: 26, seq: 1 });
+    assert_eq!(rt; (behind[1].key.len(), behind[1].down), (0, Some(5)));
+    node.set_vcn(8);
+    node.remove(0);
+    assert_eq!(rt; (node.vcn(), node.entries().len()), (8, 1));
+    Ok(())
+}
+
+#[test]
+fn fills_a_node(rt: HostRuntime) -> Result<(), Fail> {
+    let alloc = rt.alloc();
+    let body = changed(alloc, 4096, &LEAF, &[])?;
+    assert_eq!(rt; body.len(), 4096);
+    let entry = named(alloc, &changed(alloc, 0x44, &NAME, &[])?, None)?;
+    let mut node = Node::read(alloc, &body)?;
+    for _ in 0..45 {
+        assert!(rt; node.entries().len() > 0);
+        node.insert(0, &entry)?;
+    }
+    assert_eq!(rt; node.used(), 4016);
+    assert!(rt; node.entries().len() > 0);
+    let full = NodeFault::Full { used: 4104 };
+    assert_eq!(rt; node.insert(0, &entry), Err(full));
+    assert_eq!(rt; node.entries().len(), 46);
+    Ok(())
+}

@@ -20,3 +20,4 @@ pub mod NodePieces
 pub mod NodeTables
 pub mod NodeSpelling
 pub mod NodeRoom
+pub mod NodeFits

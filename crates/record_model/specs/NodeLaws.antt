@@ -1,11 +1,11 @@
 -- The laws of index nodes: the table against the reader, and the written spelling against both.
 use Rattle.std.specs.Prelude.{◌≡◌, ◌↔◌, ℕ, ◌-◌, ◌≤◌, true, List, length, Ok}
-use Rattle.disk_model.specs.Bytes.{part, zeros}
+use Rattle.disk_model.specs.Bytes.{AreBytes, part, zeros}
 use Rattle.disk_model.specs.Content.{is_signed}
 use Rattle.disk_model.specs.Fixups.{array_at, array_count}
 use Rattle.disk_model.specs.declared.block.BlockKind.TheVariants.{Index}
 use Rattle.record_model.specs.declared.entry.Entry.{Entry}
-use Rattle.record_model.specs.Nodes.{Node, first_entry, used_end, node_entries, entries_length, node_at, root_at, IsNode, IsRoot, node_spelling, FitsNode}
+use Rattle.record_model.specs.Nodes.{Node, first_entry, used_end, node_entries, entries_length, node_used, node_room, node_at, root_at, IsNode, IsRoot, node_spelling, FitsNode}
 
 -- a body is read as a node exactly where it spells that node
 abbrev pub NodeIsTable : Type 0
@@ -25,6 +25,10 @@ pub record NodeReadAgain : Type 0 where
   pub size : (n : Node) → FitsNode n → length (node_spelling n) ≡ 4096
   pub spelled : (n : Node) → FitsNode n → IsNode (node_spelling n) n
   pub read : (n : Node) → FitsNode n → node_at (node_spelling n) ≡ Ok n
+
+-- a node that is read of bytes has a spelling, where it has room for it
+abbrev pub ReadNodeFits : Type 0
+ReadNodeFits = (body : List ℕ) (n : Node) → AreBytes body → node_at body ≡ Ok n → node_used n.entries ≤ node_room → FitsNode n
 
 -- what is read of a node takes no more bytes as it is written
 abbrev pub WrittenNoLonger : Type 0

@@ -5,7 +5,7 @@ use std::alloc::{AllocError, Global};
 use std::marker::Model;
 
 /// An entry of an index node (Linux-NTFS documentation, "Index Entry").
-#[derive(Clone, Debug, PartialEq, Eq, Drop)]
+#[derive(Debug, PartialEq, Eq, Drop)]
 pub struct Entry {
     /// The file that the entry names; number 0 and sequence 0 in the last entry of a node.
     pub child: FileRef,
@@ -13,6 +13,18 @@ pub struct Entry {
     pub key: Bytes,
     /// The VCN of the node whose entries stand before this one, where there is one.
     pub down: Option<u64>,
+}
+
+impl Clone for Entry {
+    fn clone(&self) -> Result<Self, AllocError>
+        ensures { IfOk result (λ entry. entry ≡ self.now) }
+    {
+        Ok(Entry {
+            child: self.child,
+            key: self.key.clone()?,
+            down: self.down,
+        })
+    }
 }
 
 /// The entries of an index node, which contracts see as a list. The last one has an empty key.

@@ -1,5 +1,5 @@
 //! The laws of an index node's grammar.
-ghost use Rattle.record_model.specs.NodeLaws.{NodeIsTable, RootIsTable, SpellsOneNode, NodeReadAgain, WrittenNoLonger, NodeIsBody};
+ghost use Rattle.record_model.specs.NodeLaws.{NodeIsTable, RootIsTable, SpellsOneNode, NodeReadAgain, ReadNodeFits, WrittenNoLonger, NodeIsBody};
 
 /// Law: a body is read as a node exactly where it spells that node.
 pub fn node_is_table()
@@ -25,6 +25,11 @@ pub fn node_read_again()
 /// (hexadecimal), as zeros.
 pub fn node_is_body()
     ensures { NodeIsBody }
+{}
+
+/// Law: a node that is read has a spelling, where its entries have room as they are written.
+pub fn read_node_fits()
+    ensures { ReadNodeFits }
 {}
 
 /// Law: the entries that are read of a node take no more bytes as they are written.
