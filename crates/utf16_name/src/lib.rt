@@ -7,7 +7,7 @@
 #![tactic(auto)]
 
 mod elements;
-pub mod laws;
+mod laws;
 mod name;
 mod reading;
 mod text;
