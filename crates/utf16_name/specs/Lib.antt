@@ -3,4 +3,5 @@ pub mod Lawful
 pub mod Names
 pub mod Reading
 pub mod Spelled
+pub mod Spelling
 pub mod Texts
