@@ -1,0 +1,14 @@
+//! The printed text of a run of a script.
+//!
+//! The contract: the text has one line for each command, by client and then by number, and each line
+//! says the command's client, number, turn, journal position and reply.
+#![tactic(auto)]
+
+mod line;
+mod reply;
+mod run;
+
+pub use run::text;
+
+#[cfg(test)]
+mod tests;

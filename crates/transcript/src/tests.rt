@@ -1,0 +1,104 @@
+use super::*;
+use run_model::{FindLine, Turn};
+use std::alloc::Global;
+use std::test::Fail;
+use tree_model::{Kind, Name, NameList, Op, Path, Reply};
+
+// The turn of a command of client 1; what was asked doesn't show.
+fn turn(alloc: Global, client: u32, number: u32, serial: u64, reply: Reply) -> Turn {
+    Turn {
+        client,
+        number,
+        serial,
+        usn: 0,
+        moment: 0,
+        faults_before: 0,
+        faults_after: 0,
+        op: Op::List {
+            path: Path::new(alloc),
+        },
+        reply,
+    }
+}
+
+// A file of the volume that this test makes.
+fn stat(number: u64, kind: Kind) -> Reply {
+    Reply::Stat {
+        number,
+        seq: 5,
+        kind,
+        links: 1,
+        size: 0,
+        clusters: 0,
+        created: 0,
+        modified: 0,
+        changed: 0,
+        read_at: 0,
+    }
+}
+
+// The name of this text.
+fn name(alloc: Global, text: &str) -> Result<Name, Fail> {
+    let mut units = Vec::new(alloc);
+    for byte in text.bytes() {
+        units.push(u16::from(byte))?;
+    }
+    Ok(Name::checked(alloc, &units)?)
+}
+
+#[test]
+fn prints_a_run_that_looks(rt: HostRuntime) -> Result<(), Fail> {
+    let alloc = rt.alloc();
+    let mut names = NameList::new(alloc);
+    for text in ["$LogFile", "$MFT", "."] {
+        names.push(name(alloc, text)?)?;
+    }
+    let mut turns = Vec::new(alloc);
+    turns.push(turn(alloc, 1, 3, 3, Reply::NotDirectory { part: 1 }))?;
+    turns.push(turn(alloc, 1, 2, 2, stat(5, Kind::Directory)))?;
+    turns.push(turn(alloc, 1, 1, 1, Reply::Names { names }))?;
+    turns.push(turn(alloc, 1, 4, 4, Reply::NotFound { part: 1 }))?;
+    let mut out = String::from_str(alloc, "before\n")?;
+    text(&turns, &[], &mut out)?;
+    let want = "before
+1 1 1 0 names 3 $LogFile $MFT .
+1 2 2 0 stat 5 5 directory 1 0 0 0 0 0 0
+1 3 3 0 not-directory 1
+1 4 4 0 not-found 1
+";
+    assert_eq!(rt; out.as_str(), want);
+    Ok(())
+}
+
+#[test]
+fn orders_by_client_first(rt: HostRuntime) -> Result<(), Fail> {
+    let alloc = rt.alloc();
+    let mut turns = Vec::new(alloc);
+    turns.push(turn(alloc, 10, 1, 1, Reply::Fault))?;
+    turns.push(turn(alloc, 2, 11, 2, Reply::BadName))?;
+    turns.push(turn(alloc, 2, 9, 3, stat(24, Kind::Opaque)))?;
+    let mut finds = Vec::new(alloc);
+    finds.push(FindLine {
+        client: 2,
+        number: 10,
+        usn: 72,
+        reply: Reply::Memory,
+    })?;
+    let mut out = String::new(alloc);
+    text(&turns, &finds, &mut out)?;
+    let want = "2 9 3 0 stat 24 5 opaque 1 0 0 0 0 0 0
+2 10 - 72 memory
+2 11 2 0 bad-name
+10 1 1 0 fault
+";
+    assert_eq!(rt; out.as_str(), want);
+    Ok(())
+}
+
+#[test]
+fn nothing_is_printed_of_no_command(rt: HostRuntime) -> Result<(), Fail> {
+    let mut out = String::new(rt.alloc());
+    text(&[], &[], &mut out)?;
+    assert_eq!(rt; out.as_str(), "");
+    Ok(())
+}

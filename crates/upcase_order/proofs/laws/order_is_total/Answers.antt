@@ -1,0 +1,5 @@
+use Rattle.tree_model.proofs.NameOrders.{name_order_total}
+use Rattle.upcase_order.proofs.laws.order_is_total.Goals as goal
+
+pub returns : goal.returns
+returns c = name_order_total
