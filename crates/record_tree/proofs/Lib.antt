@@ -1,1 +1,4 @@
+pub mod Climbs
+pub mod Links
 pub mod Lists
+pub mod Numbers

@@ -7,7 +7,13 @@
 #![tactic(auto)]
 
 mod files;
+mod indexes;
+mod linking;
 mod names;
+mod naming;
+mod parents;
+mod ways;
 
 pub use files::file_at;
+pub use indexes::any_has_children;
 pub use names::record_links;
