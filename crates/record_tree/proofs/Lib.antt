@@ -2,3 +2,5 @@ pub mod Climbs
 pub mod Links
 pub mod Lists
 pub mod Numbers
+pub mod Rises
+pub mod Tallies

@@ -23,3 +23,11 @@ links_found records n =
       | inl inside ↦ get_or-map-range_with_len (links_at (table_in records)) 0 (length records) n n [] inside (omega arith)
       | inr past ↦ get_or_past (map (links_at (table_in records)) (range_with_len 0 (length records))) n [] (rw (length-map-range_with_len (links_at (table_in records)) 0 (length records)) past) ∙ sym (past_table records n past)
     ]
+
+pub length_links : (records : List (Option Record)) → length (links_in records) ≡ length records
+unfolding links_in
+length_links records = length-map-range_with_len (links_at (table_in records)) 0 (length records)
+
+pub links_within : (records : List (Option Record)) (n : ℕ) (d : List Link) → n < length records → get_or (links_in records) n d ≡ links_at (table_in records) n
+unfolding links_in
+links_within records n d lt = get_or-map-range_with_len (links_at (table_in records)) 0 (length records) n n d lt (omega arith)

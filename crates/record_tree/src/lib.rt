@@ -6,12 +6,14 @@
 //! are those of the Linux-NTFS documentation, "FILE Record", "$FILE_NAME" and "$INDEX_ROOT".
 #![tactic(auto)]
 
+mod counts;
 mod files;
 mod indexes;
 mod linking;
 mod names;
 mod naming;
 mod parents;
+mod rising;
 mod ways;
 
 pub use files::file_at;

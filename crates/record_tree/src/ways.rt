@@ -31,7 +31,7 @@ fn parent_at(records: &[Option<FileRec>], links: &[LinkList], number: u64) -> Op
 }
 
 // Whether the way up from this directory reaches the root.
-#[tactic(auto, using(crate::proofs::Climbs::leads_on))]
+#[tactic(auto, using(crate::proofs::Climbs::leads_on, crate::proofs::Climbs::leads_done))]
 fn leads(records: &[Option<FileRec>], links: &[LinkList], number: u64) -> bool
     requires { links.now ≡ links_in records.now }
     ensures { result ≡ leads (table_in records.now) (length records.now) number }

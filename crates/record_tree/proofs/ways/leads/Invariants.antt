@@ -5,4 +5,4 @@ use Rattle.record_tree.proofs.ways.leads.Given as goal
 
 -- the way up from here, of the steps that are left, reaches the root where the whole way does
 abbrev pub invariant-loop-step : goal.invariant-loop-step
-invariant-loop-step l = leads (table_in l.records) (length l.records) l.fn.number ≡ leads (table_in l.records) (length l.records - l.step) l.at
+invariant-loop-step l = leads (table_in l.records) (length l.records) l.fn.number ≡ leads (table_in l.records) (length l.records - l._step) l.at
