@@ -1,4 +1,5 @@
 pub mod Climbs
+pub mod Held
 pub mod Links
 pub mod Lists
 pub mod Numbers

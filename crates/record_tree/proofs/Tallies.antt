@@ -1,8 +1,9 @@
 -- Counting the names that stand in each directory.
-use Rattle.std.proofs.Common.{◌≡◌, ◌≢◌, ◌⊎◌, ℕ, zero, suc, ◌+◌, ◌<◌, ◌≤◌, Bool, true, false, cond, ◌&&◌, ◌==◌, List, [], ◌∷◌, ◌++◌, Option, Some, None, length, take, get_or, set, eqb, refl, sym, ap, subst, ◌∙◌, inl, inr, arith, add-zero, sum_by, count_by, get_or-set_same, get_or-set_other}
+use Rattle.std.proofs.Common.{◌≡◌, ◌≢◌, ◌⊎◌, ℕ, zero, suc, ◌+◌, ◌<◌, ◌≤◌, Bool, true, false, cond, ◌&&◌, ◌==◌, List, [], ◌∷◌, ◌++◌, Option, Some, None, length, replicate, take, get_or, set, eqb, refl, sym, ap, subst, ◌∙◌, inl, inr, arith, add-zero, sum_by, count_by, get_or-set_same, get_or-set_other}
 use Rattle.std.proofs.lemmas.Bool.{cases_eq, eq-eqb}
 use Rattle.std.proofs.lemmas.Bool.Decides.{nat_tests}
 use Rattle.std.proofs.lemmas.Grind.{common_steps}
+use Rattle.std.proofs.lemmas.List.{get_or-replicate, length-replicate}
 use Rattle.std.proofs.lemmas.List.Sums.{sum_by_more}
 use Rattle.tree_model.specs.declared.link.Link.{Link}
 use Rattle.record_model.specs.Records.{Record}
@@ -88,3 +89,12 @@ names_none p n = names_for_none p n (file_at p n)
 -- a slice that is written back as a whole
 pub written : (len : ℕ) (xs ys : List ℕ) → length xs ≡ len → take len (xs ++ ys) ≡ xs
 written len xs ys e = grind (arith, common_steps)
+
+-- before the first file
+pub starts_at_zero : (p : Table) (counts : List ℕ) (size n : ℕ) → counts ≡ replicate size 0 → n < size → get_or counts n 0 ≡ names_at p n 0
+starts_at_zero p counts size n zeros lt = ap (λ (xs : List ℕ). get_or xs n 0) zeros ∙ get_or-replicate size n 0 0 lt ∙ sym (names_none p n)
+
+-- the count of a file is that of the names that stand in it
+pub names_known : (p : Table) (n count : ℕ) (r : Record) → file_at p n ≡ Some r → names_at p n count ≡ names_in p (reference n r) count
+unfolding names_at
+names_known p n count r is = ap (λ (o : Option Record). names_for p n o count) is

@@ -8,6 +8,7 @@
 
 mod counts;
 mod files;
+mod holding;
 mod indexes;
 mod linking;
 mod names;
