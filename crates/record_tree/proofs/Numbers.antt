@@ -19,3 +19,7 @@ failing_here test n count lt = ap (find (λ k. not (test k))) (first_number n co
 
 pub failing_past : (test : ℕ → Bool) (count : ℕ) → find (λ k. not (test k)) (range_with_len count (count - count)) ≡ None
 failing_past test count = let e : count - count ≡ 0 = omega arith in ap (λ k. find (λ m. not (test m)) (range_with_len count k)) e
+
+-- one at which it holds is passed over
+pub failing_kept : (test : ℕ → Bool) (n count : ℕ) → n < count → test n ≡ true → find (λ k. not (test k)) (range_with_len n (count - n)) ≡ find (λ k. not (test k)) (range_with_len (n + 1) (count - (n + 1)))
+failing_kept test n count lt holds = failing_here test n count lt ∙ ap (λ b. cond (not b) (Some n) (find (λ k. not (test k)) (range_with_len (n + 1) (count - (n + 1))))) holds

@@ -93,7 +93,8 @@ pub fn counts_in(
     links: &[LinkList],
 ) -> Result<Vec<usize>, Memory>
     requires { links.now ≡ links_in records.now }
-    ensures { IfOk result (λ counts. (n : ℕ) → n < length records.now → slice_index counts.items n ≡ names_at (table_in records.now) n (length records.now)) }
+    ensures size { IfOk result (λ counts. length counts.items ≡ length records.now) }
+    ensures counted { IfOk result (λ counts. (n : ℕ) → n < length records.now → slice_index counts.items n ≡ names_at (table_in records.now) n (length records.now)) }
 {
     let mut counts = zeros(alloc, records.len())?;
     count_all(records, counts.as_mut_slice(), links)?;

@@ -15,8 +15,11 @@ mod names;
 mod naming;
 mod parents;
 mod rising;
+mod rules;
 mod ways;
 
 pub use files::file_at;
 pub use indexes::any_has_children;
 pub use names::record_links;
+pub use rules::broken_rule;
+pub use state_model::Broken;
