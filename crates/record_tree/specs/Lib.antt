@@ -1,1 +1,4 @@
+pub mod Counts
+pub mod Holding
+pub mod Rises
 pub mod Tables

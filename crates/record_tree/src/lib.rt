@@ -6,8 +6,20 @@
 //! are those of the Linux-NTFS documentation, "FILE Record", "$FILE_NAME" and "$INDEX_ROOT".
 #![tactic(auto)]
 
+mod counts;
 mod files;
+mod holding;
+mod indexes;
+mod linking;
 mod names;
+mod naming;
+mod parents;
+mod rising;
+mod rules;
+mod ways;
 
 pub use files::file_at;
+pub use indexes::any_has_children;
 pub use names::record_links;
+pub use rules::broken_rule;
+pub use state_model::Broken;

@@ -43,8 +43,8 @@ fn attr_link(alloc: Global, child: FileRef, attr: &Attr) -> Result<Option<Link>,
     }
 }
 
-// Appends the link, if there is one.
-fn push_some(links: &mut LinkList, link: Option<Link>) -> Result<(), Memory>
+/// Appends the link, if there is one.
+pub fn push_some(links: &mut LinkList, link: Option<Link>) -> Result<(), Memory>
     ensures { OnOk result (links.new ≡ links.old ++ cons_option link []) }
 {
     if let Some(link) = link {
