@@ -235,7 +235,7 @@ fn named(alloc: Global, key: &[u8], down: Option<u64>) -> Result<Entry, Fail>
 }
 
 #[test]
-fn edits_a_node(rt: HostRuntime) -> Result<(), Fail> {
+fn puts_in_and_takes_out(rt: HostRuntime) -> Result<(), Fail> {
     let alloc = rt.alloc();
     let body = changed(alloc, 4096, &BLOCK, &[])?;
     assert_eq!(rt; body.len(), 4096);
@@ -245,17 +245,30 @@ fn edits_a_node(rt: HostRuntime) -> Result<(), Fail> {
     node.insert(2, &entry)?;
     assert_eq!(rt; node.used(), 0x160);
     assert_eq!(rt; node.entries().len(), 4);
-    let left = node.split(1)?;
-    assert_eq!(rt; (left.vcn(), node.vcn()), (0, 1));
-    let (before, behind) = (left.entries().as_slice(), node.entries().as_slice());
-    assert_eq!(rt; (before.len(), behind.len()), (2, 2));
-    assert_eq!(rt; before[0].child, FileRef { number: 24, seq: 1 });
-    assert_eq!(rt; (before[1].key.len(), before[1].down), (0, Some(4)));
-    assert_eq!(rt; behind[0].child, FileRef { number: 26, seq: 1 });
-    assert_eq!(rt; (behind[1].key.len(), behind[1].down), (0, Some(5)));
+    node.remove(2);
     node.set_vcn(8);
-    node.remove(0);
-    assert_eq!(rt; (node.vcn(), node.entries().len()), (8, 1));
+    assert_eq!(rt; used_under_8(&node), 0x100);
+    Ok(())
+}
+
+// The used bytes of a node under VCN 8.
+fn used_under_8(node: &Node) -> u32 {
+    if node.vcn() == 8 { node.used() } else { 0 }
+}
+
+#[test]
+fn cuts_a_node(rt: HostRuntime) -> Result<(), Fail> {
+    let alloc = rt.alloc();
+    let body = changed(alloc, 4096, &BLOCK, &[])?;
+    assert_eq!(rt; body.len(), 4096);
+    let mut node = Node::read(alloc, &body)?;
+    assert_eq!(rt; node.entries().len(), 3);
+    let left = node.split(1)?;
+    assert_eq!(rt; left.used(), 0x28 + 0x60 + 0x18);
+    assert_eq!(rt; node.used(), 0x28 + 0x18);
+    let before = left.entries().as_slice();
+    assert_eq!(rt; before.len(), 2);
+    assert_eq!(rt; before[1].down, Some(4));
     Ok(())
 }
 

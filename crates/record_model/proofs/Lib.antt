@@ -21,3 +21,4 @@ pub mod NodeTables
 pub mod NodeSpelling
 pub mod NodeRoom
 pub mod NodeFits
+pub mod NodeRules

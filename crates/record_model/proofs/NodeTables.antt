@@ -240,7 +240,7 @@ ok_from_holds node entries t =
 
 -- ---- blocks and roots
 
-abbrev make_node : List ℕ → List Entry → Node
+abbrev pub make_node : List ℕ → List Entry → Node
 make_node body entries = record { vcn = field 0x10 8 body; lsn = field 0x08 8 body; entries = entries }
 
 abbrev node_answer : Node → Result Node ℕ

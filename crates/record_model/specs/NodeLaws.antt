@@ -1,11 +1,13 @@
 -- The laws of index nodes: the table against the reader, and the written spelling against both.
-use Rattle.std.specs.Prelude.{◌≡◌, ◌↔◌, ℕ, ◌-◌, ◌≤◌, true, List, length, Ok}
+use Rattle.std.specs.Prelude.{◌≡◌, ◌↔◌, ℕ, ◌-◌, ◌<◌, ◌≤◌, true, false, List, [], ◌∷◌, ◌++◌, length, take, drop, Ok, Err}
+use Rattle.std.specs.List.{list_all, concat, AllByRecursion}
+use Rattle.disk_model.specs.Numbers.{field}
 use Rattle.disk_model.specs.Bytes.{AreBytes, part, zeros}
 use Rattle.disk_model.specs.Content.{is_signed}
 use Rattle.disk_model.specs.Fixups.{array_at, array_count}
 use Rattle.disk_model.specs.declared.block.BlockKind.TheVariants.{Index}
 use Rattle.record_model.specs.declared.entry.Entry.{Entry}
-use Rattle.record_model.specs.Nodes.{Node, first_entry, used_end, node_entries, entries_length, node_used, node_room, node_at, root_at, IsNode, IsRoot, node_spelling, FitsNode}
+use Rattle.record_model.specs.Nodes.{Node, first_entry, used_end, children_flag, has_node_header, entry_bytes, is_last, has_entry, has_flag, node_entries, entries_length, node_used, node_room, node_at, root_at, IsNode, IsRoot, node_spelling, FitsNode}
 
 -- a body is read as a node exactly where it spells that node
 abbrev pub NodeIsTable : Type 0
@@ -40,3 +42,39 @@ pub record NodeIsBody : Type 0 where
   pub place : (n : Node) → array_at (node_spelling n) ≡ 0x28
   pub count : (n : Node) → array_count (node_spelling n) ≡ 9
   pub array : (n : Node) → part 0x28 18 (node_spelling n) ≡ zeros 18
+
+-- ---- rules
+
+-- the own bytes of an entry before the last
+pub record IsInner (s : List ℕ) : Type 0 where
+  pub lawful : has_entry s ≡ true
+  pub own_length : field 0x08 2 s ≡ length s
+  pub before_last : is_last s ≡ false
+
+-- entries before the last stand in order, and behind them the rest
+pub record EntriesBefore (rest : List ℕ) (pieces : List (List ℕ)) (bytes : List ℕ) : Type 0 where
+  pub placed : bytes ≡ concat pieces ++ rest
+  pub each : AllByRecursion IsInner pieces
+
+-- behind them stands a last entry, or too little for an entry, or one with its length or key at fault
+abbrev pub BeginsWithLast : List ℕ → Type 0
+BeginsWithLast rest = (0x10 ≤ length rest) × (has_entry rest ≡ true) × (is_last rest ≡ true)
+
+abbrev pub IsTooShort : List ℕ → Type 0
+IsTooShort rest = length rest < 0x10
+
+abbrev pub HasEntryFault : List ℕ → Type 0
+HasEntryFault rest = (0x10 ≤ length rest) × (has_entry rest ≡ false)
+
+-- the least rule that a node's bytes break
+pub data LeastBrokenRule (node : List ℕ) : ℕ → Type 0 where
+  wrong_header : has_node_header node ≡ false → LeastBrokenRule node 3
+  wrong_entry : has_node_header node ≡ true → (pieces : List (List ℕ)) (rest : List ℕ) → EntriesBefore rest pieces (entry_bytes node) → HasEntryFault rest → LeastBrokenRule node 4
+  no_last_entry : has_node_header node ≡ true → (pieces : List (List ℕ)) (rest : List ℕ) → EntriesBefore rest pieces (entry_bytes node) → IsTooShort rest → LeastBrokenRule node 5
+  wrong_flag : has_node_header node ≡ true → (pieces : List (List ℕ)) (rest : List ℕ) → EntriesBefore rest pieces (entry_bytes node) → BeginsWithLast rest → list_all (has_flag (children_flag node)) (pieces ++ take (field 0x08 2 rest) rest ∷ []) ≡ false → LeastBrokenRule node 6
+
+-- a refusal of a node's entries is the least rule that is broken, and the signature of a block comes before it
+pub record NodeRuleIsLeast : Type 0 where
+  pub entries : (node : List ℕ) (rule : ℕ) → (node_entries node ≡ Err rule) ↔ LeastBrokenRule node rule
+  pub signature : (body : List ℕ) → is_signed Index body ≡ false → node_at body ≡ Err 1
+  pub body : (body : List ℕ) (rule : ℕ) → is_signed Index body ≡ true → (node_at body ≡ Err rule) ↔ LeastBrokenRule (drop 0x18 body) rule

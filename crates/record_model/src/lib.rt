@@ -21,8 +21,8 @@ mod values;
 pub use attribute::{Attr, AttrList, Head, OwnForm, Sizes};
 pub use entry::{Entry, EntryList};
 pub use node_laws::{
-    node_is_body, node_is_table, node_read_again, read_node_fits, root_is_table, spells_one_node,
-    written_no_longer,
+    node_is_body, node_is_table, node_read_again, node_rule_is_least, read_node_fits,
+    root_is_table, spells_one_node, written_no_longer,
 };
 pub use pairs_laws::{
     pairs_vectors, read_pairs_are_spelled, spelled_pairs_are_read, written_pairs_are_read,

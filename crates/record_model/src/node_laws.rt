@@ -1,5 +1,5 @@
 //! The laws of an index node's grammar.
-ghost use Rattle.record_model.specs.NodeLaws.{NodeIsTable, RootIsTable, SpellsOneNode, NodeReadAgain, ReadNodeFits, WrittenNoLonger, NodeIsBody};
+ghost use Rattle.record_model.specs.NodeLaws.{NodeIsTable, RootIsTable, SpellsOneNode, NodeReadAgain, ReadNodeFits, WrittenNoLonger, NodeIsBody, NodeRuleIsLeast};
 
 /// Law: a body is read as a node exactly where it spells that node.
 pub fn node_is_table()
@@ -35,4 +35,9 @@ pub fn read_node_fits()
 /// Law: the entries that are read of a node take no more bytes as they are written.
 pub fn written_no_longer()
     ensures { WrittenNoLonger }
+{}
+
+/// Law: a refusal is the least rule that a node's bytes break.
+pub fn node_rule_is_least()
+    ensures { NodeRuleIsLeast }
 {}
