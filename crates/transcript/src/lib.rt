@@ -4,10 +4,12 @@
 //! says the command's client, number, turn, journal position and reply.
 #![tactic(auto)]
 
+mod laws;
 mod line;
 mod reply;
 mod run;
 
+pub use laws::run_text_is_one;
 pub use run::text;
 
 #[cfg(test)]

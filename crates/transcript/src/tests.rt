@@ -4,7 +4,7 @@ use std::alloc::Global;
 use std::test::Fail;
 use tree_model::{Kind, Name, NameList, Op, Path, Reply};
 
-// The turn of a command of client 1; what was asked doesn't show.
+// A turn with this reply; what was asked does not show in the text.
 fn turn(alloc: Global, client: u32, number: u32, serial: u64, reply: Reply) -> Turn {
     Turn {
         client,
@@ -21,7 +21,7 @@ fn turn(alloc: Global, client: u32, number: u32, serial: u64, reply: Reply) -> T
     }
 }
 
-// A file of the volume that this test makes.
+// What is said of a file with this number and kind.
 fn stat(number: u64, kind: Kind) -> Reply {
     Reply::Stat {
         number,
