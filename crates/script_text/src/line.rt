@@ -92,11 +92,7 @@ fn request_by(alloc: Global, number: u64, words: &[&str]) -> Result<Option<Reque
 }
 
 // What the words of the line of this number ask for.
-#[tactic(
-    auto,
-    using(crate::proofs::Words::any_empty),
-    unfolding(crate::specs::Lines::request_in)
-)]
+#[tactic(auto, using(crate::proofs::Words::any_empty), unfolding(crate::specs::Lines::request_in))]
 fn request_in(alloc: Global, number: u64, words: &[&str]) -> Result<Option<Request>, ScriptFault>
     ensures value { Gives (λ request. request) script_cause result
         (request_in number (map (λ word. word.now) words.now)) }

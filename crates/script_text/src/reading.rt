@@ -19,11 +19,7 @@ pub const COMMANDS: usize = 16_384;
 
 // Adds what a client asks for as its next command.
 #[tactic(auto, unfolding(crate::specs::Scripts::with_request))]
-fn add(
-    commands: &mut Script,
-    counts: &mut [u32],
-    request: Request,
-) -> Result<(), ScriptFault>
+fn add(commands: &mut Script, counts: &mut [u32], request: Request) -> Result<(), ScriptFault>
     requires clients { length counts.old ≡ CLIENTS }
     requires client { IsWithin request }
     requires counts { AreCounts counts.old commands.old }

@@ -2,14 +2,19 @@ use super::*;
 use std::alloc::Global;
 use std::test::Fail;
 
-// What a script of one line and its LF is refused for.
+// What refuses a script.
+fn fault_of(alloc: Global, bytes: &[u8]) -> Option<ScriptFault> {
+    match Script::read(alloc, bytes) {
+        Ok(_) => None,
+        Err(fault) => Some(fault),
+    }
+}
+
+// What refuses a script of one line and its LF.
 fn refused(alloc: Global, line: &[u8]) -> Result<Option<ScriptFault>, Fail> {
     let mut bytes = Vec::from_slice(alloc, line)?;
     bytes.push(10)?;
-    match Script::read(alloc, bytes.as_slice()) {
-        Ok(_) => Ok(None),
-        Err(fault) => Ok(Some(fault)),
-    }
+    Ok(fault_of(alloc, bytes.as_slice()))
 }
 
 #[test]
@@ -80,13 +85,21 @@ fn lines_at_fault_have_rules(rt: HostRuntime) -> Result<(), Fail> {
     );
     assert_eq!(rt;
         refused(alloc, b"4611686018427387903 wri")?,
-        Some(ScriptFault::TooManyClients { client: 4_611_686_018_427_387_903 })
+        Some(ScriptFault::TooManyClients {
+            client: 4_611_686_018_427_387_903
+        })
     );
-    assert!(rt;
-        Script::read(alloc, b"1 list /\n1 wri") == Err(ScriptFault::Line { number: 2, rule: 1 })
+    assert_eq!(rt;
+        fault_of(alloc, b"1 wri"),
+        Some(ScriptFault::Line { number: 1, rule: 1 })
     );
-    assert!(rt;
-        Script::read(alloc, b"#\n1 wri\n\xff\n") == Err(ScriptFault::Line { number: 2, rule: 5 })
+    assert_eq!(rt;
+        fault_of(alloc, b"1 list /\n\xff"),
+        Some(ScriptFault::Line { number: 2, rule: 1 })
+    );
+    assert_eq!(rt;
+        fault_of(alloc, b"#\n1 wri\n\xff\n"),
+        Some(ScriptFault::Line { number: 2, rule: 5 })
     );
     Ok(())
 }
@@ -97,7 +110,10 @@ fn scripts_have_bounds(rt: HostRuntime) -> Result<(), Fail> {
     let mut bytes = vec![in alloc; 10; 16_777_216]?;
     assert!(rt; Script::read(alloc, bytes.as_slice())?.as_slice().is_empty());
     bytes.push(10)?;
-    assert!(rt; Script::read(alloc, bytes.as_slice()) == Err(ScriptFault::TooLarge));
+    assert_eq!(rt;
+        fault_of(alloc, bytes.as_slice()),
+        Some(ScriptFault::TooLarge)
+    );
     let mut lines = Vec::new(alloc);
     for _ in 0..16_384 {
         lines.extend_from_slice(b"1 list /\n")?;
@@ -105,7 +121,10 @@ fn scripts_have_bounds(rt: HostRuntime) -> Result<(), Fail> {
     let script = Script::read(alloc, lines.as_slice())?;
     assert_eq!(rt; script.as_slice().len(), 16_384);
     lines.extend_from_slice(b"\n1 list /\n")?;
-    assert!(rt; Script::read(alloc, lines.as_slice()) == Err(ScriptFault::TooManyCommands));
+    assert_eq!(rt;
+        fault_of(alloc, lines.as_slice()),
+        Some(ScriptFault::TooManyCommands)
+    );
     let mut path = Vec::from_slice(alloc, b"1 stat ")?;
     for _ in 0..255 {
         path.extend_from_slice(b"/a")?;
