@@ -3,4 +3,4 @@ pub mod Faults
 pub mod Lines
 pub mod Numbers
 pub mod Paths
-
+pub mod Scripts

@@ -1,5 +1,5 @@
 -- Lines of a script.
-use Rattle.std.specs.Prelude.{ℕ, Bool, ◌&&◌, ◌||◌, ◌==◌, nat_lt, not, if◌then◌else◌, List, [], ◌∷◌, length, slice_index, Option, Some, None, Result, Ok, Err}
+use Rattle.std.specs.Prelude.{ℕ, ◌<◌, ◌≤◌, Bool, ◌&&◌, ◌||◌, ◌==◌, nat_lt, not, if◌then◌else◌, List, [], ◌∷◌, length, slice_index, Option, Some, None, Result, Ok, Err}
 use Rattle.std.specs.List.{slice_split, list_any}
 use Rattle.std.specs.Str.{is_utf8}
 use Rattle.host_base.specs.Answers.{◌>>=◌}
@@ -23,6 +23,10 @@ is_passed_over line = length line == 0 || slice_index line 0 == 35
 abbrev pub client_in : Option ℕ → Option ℕ
 client_in None = None
 client_in (Some client) = if client == 0 then None else Some client
+
+-- the client of a request is one of those that a script may have
+abbrev pub IsWithin : Request → Type 0
+IsWithin request = (0 < request.client) × (request.client ≤ CLIENTS)
 
 -- what a client asks for at this line, or the rule that it breaks
 abbrev pub asked : ℕ → ℕ → Result What ℕ → Result (Option Request) ScriptFault

@@ -11,10 +11,10 @@ mod line;
 mod number;
 mod path;
 mod pieces;
-
-
-
+mod reading;
+#[cfg(test)]
+mod tests;
 
 pub use fault::ScriptFault;
-
+pub use reading::ScriptText;
 pub use tree_model::{Command, Op, Path, Script, What};

@@ -1,9 +1,9 @@
-ghost use Rattle.std.specs.Prelude.{◌≡◌, ◌==◌, true, false, length, map, MatchOption};
+ghost use Rattle.std.specs.Prelude.{◌≡◌, ◌==◌, true, false, ◌<◌, length, map, IfOk, IfSome, MatchOption};
 ghost use Rattle.std.specs.List.{list_any};
 ghost use Rattle.std.specs.Str.{is_utf8};
 ghost use Rattle.host_base.specs.Answers.{Gives};
 ghost use Rattle.script_text.specs.Faults.{script_cause};
-ghost use Rattle.script_text.specs.Lines.{is_passed_over, client_in, asked_by, request_by, request_in, request_of};
+ghost use Rattle.script_text.specs.Lines.{IsWithin, is_passed_over, client_in, asked_by, request_by, request_in, request_of};
 ghost use Rattle.script_text.specs.Numbers.{number_of};
 
 use crate::command::what;
@@ -14,7 +14,7 @@ use std::alloc::Global;
 use tree_model::What;
 
 /// The clients of a script are those from 1 to this.
-pub const CLIENTS: u64 = 1;
+pub const CLIENTS: usize = 1;
 
 /// What a line asks for, and its client.
 #[derive(Debug, Drop)]
@@ -33,7 +33,8 @@ fn is_passed_over(line: &str) -> bool
 
 // The client of a word, a number other than 0.
 fn client(word: &str) -> Option<u64>
-    ensures { result ≡ client_in (number_of word.now) }
+    ensures value { result ≡ client_in (number_of word.now) }
+    ensures some { IfSome result (λ client. 0 < client) }
 {
     match number(word) {
         Some(0) => None,
@@ -49,13 +50,15 @@ fn asked_by(
     client: Option<u64>,
     words: &[&str],
 ) -> Result<Option<Request>, ScriptFault>
-    ensures { Gives (λ request. request) script_cause result
+    requires { IfSome client (λ client. 0 < client) }
+    ensures value { Gives (λ request. request) script_cause result
         (asked_by number client (map (λ word. word.now) words.now)) }
+    ensures within { IfOk result (λ request. IfSome request IsWithin) }
 {
     let Some(client) = client else {
         return Err(ScriptFault::Line { number, rule: 4 });
     };
-    if client > CLIENTS {
+    if client > CLIENTS as u64 {
         return Err(ScriptFault::TooManyClients { client });
     }
     match what(alloc, words) {
@@ -78,8 +81,9 @@ fn has_empty(words: &[&str]) -> bool
 // What words of the line of this number, none of them empty, ask for.
 #[tactic(auto, unfolding(crate::specs::Lines::request_by))]
 fn request_by(alloc: Global, number: u64, words: &[&str]) -> Result<Option<Request>, ScriptFault>
-    ensures { Gives (λ request. request) script_cause result
+    ensures value { Gives (λ request. request) script_cause result
         (request_by number (map (λ word. word.now) words.now)) }
+    ensures within { IfOk result (λ request. IfSome request IsWithin) }
 {
     match words {
         [first, words @ ..] => asked_by(alloc, number, client(first), words),
@@ -88,14 +92,11 @@ fn request_by(alloc: Global, number: u64, words: &[&str]) -> Result<Option<Reque
 }
 
 // What the words of the line of this number ask for.
-#[tactic(
-    auto,
-    using(crate::proofs::Words::any_empty),
-    unfolding(crate::specs::Lines::request_in)
-)]
+#[tactic(auto, using(crate::proofs::Words::any_empty), unfolding(crate::specs::Lines::request_in))]
 fn request_in(alloc: Global, number: u64, words: &[&str]) -> Result<Option<Request>, ScriptFault>
-    ensures { Gives (λ request. request) script_cause result
+    ensures value { Gives (λ request. request) script_cause result
         (request_in number (map (λ word. word.now) words.now)) }
+    ensures within { IfOk result (λ request. IfSome request IsWithin) }
 {
     if has_empty(words) {
         return Err(ScriptFault::Line { number, rule: 3 });
@@ -119,7 +120,8 @@ fn text(bytes: &[u8]) -> Option<&str>
 /// and 5, and want of memory. It takes time and memory linear in the line.
 #[tactic(auto, unfolding(crate::specs::Lines::request_of))]
 pub fn read_line(alloc: Global, number: u64, line: &[u8]) -> Result<Option<Request>, ScriptFault>
-    ensures { Gives (λ request. request) script_cause result (request_of number line.now) }
+    ensures value { Gives (λ request. request) script_cause result (request_of number line.now) }
+    ensures within { IfOk result (λ request. IfSome request IsWithin) }
 {
     let Some(line) = text(line) else {
         return Err(ScriptFault::Line { number, rule: 2 });

@@ -1,0 +1,13 @@
+use Rattle.std.proofs.Common.{ℕ, ◌≡◌, ◌-◌, ◌+◌, ◌<◌, length, get_or, ap, arith}
+use Rattle.std.specs.Prelude.{◌==◌}
+use Rattle.std.proofs.lemmas.List.Sums.{count_by-le-length}
+use Rattle.tree_model.specs.declared.script.Command.{Command}
+use Rattle.script_text.specs.Scripts.{commands_of}
+use Rattle.script_text.proofs.reading.add.Goals as goal
+
+pub overflow_add-number : goal.overflow_add-number
+overflow_add-number c =
+    let client = c.args.request.client in
+    let place : client - 1 < length c.args.counts.now = omega arith in
+    let count = c.requires.counts (client - 1) place in
+    omega (arith, count, ap length c.as_slice.ensures, count_by-le-length (λ (command : Command). command.client == client - 1 + 1) c.args.commands.now)
