@@ -253,7 +253,7 @@ fn put_attribute(
     put_number(bytes, at)?;
     put(bytes, name)?;
     put(bytes, value)?;
-    pad(bytes, begin.min(1024) + length)
+    pad(bytes, begin.min(1024) + length.min(1024))
 }
 
 fn name_value(alloc: Global, name: &OneName) -> Result<Vec<u8>, AllocError> {
