@@ -1,5 +1,5 @@
 -- A step on the way up from a directory.
-use Rattle.std.proofs.Common.{◌≡◌, ℕ, zero, suc, ◌+◌, ◌-◌, ◌<◌, ◌≤◌, Option, ◌∙◌, ap, refl, arith}
+use Rattle.std.proofs.Common.{◌≡◌, ℕ, zero, suc, ◌+◌, ◌-◌, ◌<◌, ◌≤◌, ◌∙◌, ap, refl, arith}
 use Rattle.std.specs.Prelude.{◌||◌, ◌==◌}
 use Rattle.tree_model.specs.Walks.{root}
 use Rattle.state_model.specs.Files.{Table}

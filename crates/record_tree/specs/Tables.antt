@@ -1,5 +1,5 @@
 -- Records that are held in memory, as a table.
-use Rattle.std.specs.Prelude.{ℕ, List, Option, None, length, map, slice_index_or}
+use Rattle.std.specs.Prelude.{List, Option, None, length, map, slice_index_or}
 use Rattle.std.specs.List.{range_with_len}
 use Rattle.record_model.specs.Records.{Record}
 use Rattle.tree_model.specs.declared.link.Link.{Link}

@@ -29,11 +29,7 @@ fn one_more(count: usize) -> Result<usize, Memory>
 
 // Counts a name for the file that it stands in, if that is counted.
 #[tactic(auto, using(crate::proofs::Tallies::tallied, crate::proofs::Tallies::not_tallied, crate::proofs::Tallies::not_reached))]
-fn count_link(
-    records: &[Option<FileRec>],
-    counts: &mut [usize],
-    link: &Link,
-) -> Result<(), Memory>
+fn count_link(records: &[Option<FileRec>], counts: &mut [usize], link: &Link) -> Result<(), Memory>
     ensures { OnOk result ((n : ℕ) → n < length counts.old → slice_index counts.new n ≡ slice_index counts.old n + count_at (table_in records.now) n (link.now ∷ [])) }
 {
     let at = link.parent.number as usize;

@@ -78,9 +78,7 @@ fn is_index(
     requires counted { count ≡ names_in (table_in records.now) directory (length records.now) }
     ensures { result ≡ is_index upper.now (table_in records.now) (length records.now) directory held.now }
 {
-    is_rising(upper, held)
-        && are_names_in(records, links, directory, held)
-        && held.len() == count
+    is_rising(upper, held) && are_names_in(records, links, directory, held) && held.len() == count
 }
 
 // The names that a directory's index holds, or none where it breaks a rule.
@@ -111,14 +109,7 @@ fn has_index(
     ensures { IfOk result (λ kept. kept ≡ are_index upper.now (table_in records.now) (length records.now) directory (index_of file.now)) }
 {
     match held_links(alloc, file)? {
-        Some(held) => Ok(is_index(
-            upper,
-            records,
-            links,
-            directory,
-            count,
-            held.as_slice(),
-        )),
+        Some(held) => Ok(is_index(upper, records, links, directory, count, held.as_slice())),
         None => Ok(false),
     }
 }

@@ -16,6 +16,8 @@ mod naming;
 mod parents;
 mod rising;
 mod rules;
+#[cfg(test)]
+mod tests;
 mod ways;
 
 pub use files::file_at;

@@ -11,11 +11,7 @@ use tree_model::{Link, LinkList};
 
 // The names of the file with this number.
 #[tactic(auto, unfolding(state_model::specs::Files::links_at))]
-fn read_links(
-    alloc: Global,
-    records: &[Option<FileRec>],
-    number: u64,
-) -> Result<LinkList, Memory>
+fn read_links(alloc: Global, records: &[Option<FileRec>], number: u64) -> Result<LinkList, Memory>
     ensures { IfOk result (λ links. links ≡ links_at (table_in records.now) number) }
 {
     match file_at(records, number) {

@@ -11,6 +11,7 @@ use tree_model::Link;
 
 // The namespaces of Win32 names and of short names.
 const WIN32: u8 = 1;
+
 const SHORT: u8 = 2;
 
 const STANDARD_INFORMATION: u32 = 0x10;
