@@ -6,8 +6,10 @@
 //! are those of the Linux-NTFS documentation, "FILE Record", "$FILE_NAME" and "$INDEX_ROOT".
 #![tactic(auto)]
 
+mod climbing;
 mod files;
 mod names;
+mod nodes;
 
 pub use files::file_at;
 pub use names::record_links;
