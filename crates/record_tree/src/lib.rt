@@ -10,6 +10,7 @@ mod climbing;
 mod files;
 mod names;
 mod nodes;
+mod places;
 
 pub use files::file_at;
 pub use names::record_links;

@@ -25,6 +25,7 @@ pub use looking::Lookup;
 pub use node::{Kind, Node, NodeList, Why};
 pub use ordering::{compare_names, is_same_name};
 pub use path::Path;
+pub use plain::{chosen, names_of, sort_links};
 pub use reply::{NameList, Reply};
 pub use script::{Command, Op, Script, What};
 pub use stepping::{answer, step};

@@ -81,9 +81,10 @@ fn equal_link<'a>(links: &'a [Link], part: &[u16]) -> Option<&'a Link>
     links.iter().find(|link| link.name.units() == part)
 }
 
-// The file of the link whose units are equal, else of the first in order.
-fn chosen(upper: &[u16], same: &[Link], part: &[u16]) -> Option<u64>
-    ensures { result ≡ option_map (λ (l : the_link). l.child.number) (option_or (find (λ l. same_units l.name part.now) same.now) (first_in_order upper.now same.now)) }
+/// The number of the file that this part names, where these are the links of the same name: that of
+/// the link whose units are equal, else of the first in order. It takes time linear in the links.
+pub fn chosen(upper: &[u16], same: &[Link], part: &[u16]) -> Option<u64>
+    ensures value { result ≡ option_map (λ (l : the_link). l.child.number) (option_or (find (λ l. same_units l.name part.now) same.now) (first_in_order upper.now same.now)) }
 {
     if let Some(link) = equal_link(same, part) {
         return Some(link.child.number);
@@ -112,16 +113,16 @@ fn compare(upper: &[u16], a: &Link, b: &Link) -> Ordering
     compare_names(upper, a.name.units(), b.name.units())
 }
 
-// Puts links into the order of their names.
-fn sort(upper: &[u16], links: &mut Vec<Link>) -> Result<(), AllocError>
-    ensures { OnOk result (IsPermutation links.old.items links.new.items × IsSortedBy (stands_before upper.now) links.new.items) }
+/// Puts links into the order of their names, in near-linear time. The error is want of memory.
+pub fn sort_links(upper: &[u16], links: &mut Vec<Link>) -> Result<(), AllocError>
+    ensures value { OnOk result (IsPermutation links.old.items links.new.items × IsSortedBy (stands_before upper.now) links.new.items) }
 {
     links.sort_by(|a, b| compare(upper, a, b))
 }
 
-// The names of links.
-fn names_of(alloc: Global, links: &[Link]) -> Result<NameList, AllocError>
-    ensures { IfOk result (λ names. names ≡ map (λ (l : the_link). l.name) links.now) }
+/// The names of these links, in their order. The error is want of memory.
+pub fn names_of(alloc: Global, links: &[Link]) -> Result<NameList, AllocError>
+    ensures value { IfOk result (λ names. names ≡ map (λ (l : the_link). l.name) links.now) }
 {
     let mut names = NameList::new(alloc);
     for link in links {
@@ -164,7 +165,7 @@ impl Lookup for Plain<'_> {
 
     fn listing(&self, alloc: Global, directory: u64) -> Result<NameList, AllocError> {
         let mut links = long_links_in(alloc, self.tree.links.as_slice(), directory)?;
-        sort(self.upper, &mut links)?;
+        sort_links(self.upper, &mut links)?;
         names_of(alloc, &links)
     }
 }
