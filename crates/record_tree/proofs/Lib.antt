@@ -1,2 +1,4 @@
 pub mod Lists
 pub mod Climbs
+pub mod Placed
+pub mod Slots

@@ -8,9 +8,12 @@
 
 mod climbing;
 mod files;
+mod index;
+mod lookup;
 mod names;
 mod nodes;
 mod places;
 
 pub use files::file_at;
+pub use lookup::RecordTree;
 pub use names::record_links;
