@@ -30,7 +30,7 @@ places_push test at (first ∷ links) link =
     let e : (at + 1) + length links ≡ at + length (first ∷ links) = omega arith in
     let rest = places_from test (at + 1) links in
     ap (λ (ps : List ℕ). if test first then at ∷ ps else ps) (places_push test (at + 1) links link ∙ ap (λ (k : ℕ). rest ++ (if test link then k ∷ [] else [])) e)
-        ∙ seam (test first) at rest (if test link then (at + length (first ∷ links)) ∷ [] else [])
+    ∙ seam (test first) at rest (if test link then (at + length (first ∷ links)) ∷ [] else [])
 
 pub places_more : (test : Link → Bool) (links : List Link) (i : ℕ) (d : Link) → i < length links → places_from test 0 (take (i + 1) links) ≡ places_from test 0 (take i links) ++ (if test (get_or links i d) then i ∷ [] else [])
 places_more test links i d lt =
@@ -47,9 +47,9 @@ placed test front (link ∷ links) =
     let all = front ++ (link ∷ links) in
     let here : slice_get all (length front) ≡ Some link = slice_get-get_or all (length front) link (omega (arith, length-behind front link links)) ∙ ap (λ (l : Link). Some l) (get_or_at front link links link (length front) refl) in
     let rest : filter_map (slice_get all) (places_from test (length front + 1) links) ≡ filter test links =
-        ap (λ (ls : List Link). filter_map (slice_get ls) (places_from test (length front + 1) links)) (sym (append_assoc front (link ∷ []) links))
-        ∙ ap (λ (k : ℕ). filter_map (slice_get (front ++ link ∷ [] ++ links)) (places_from test k links)) (sym (length_push front link))
-        ∙ placed test (front ++ link ∷ []) links in
+    ap (λ (ls : List Link). filter_map (slice_get ls) (places_from test (length front + 1) links)) (sym (append_assoc front (link ∷ []) links))
+    ∙ ap (λ (k : ℕ). filter_map (slice_get (front ++ link ∷ [] ++ links)) (places_from test k links)) (sym (length_push front link))
+    ∙ placed test (front ++ link ∷ []) links in
     kept (slice_get all) (test link) (length front) (places_from test (length front + 1) links) link (filter test links) here rest
   where
     length-behind : (xs : List Link) (x : Link) (ys : List Link) → length xs < length (xs ++ (x ∷ ys))
@@ -73,8 +73,8 @@ number_equal x y = grind (arith, nat_tests)
 key_equal : {A : Type 0} (key other : ℕ × Vec ℕ A) → eq_by_cmp key_order key other ≡ (key.0 == other.0 && pointwise nat_eq key.1.items other.1.items)
 key_equal key other =
     then_equal (nat_cmp key.0 other.0) (slice_cmp nat_cmp key.1.items other.1.items)
-        ∙ ap (λ (b : Bool). b && is_eq (slice_cmp nat_cmp key.1.items other.1.items)) (number_equal key.0 other.0)
-        ∙ ap (λ (b : Bool). key.0 == other.0 && b) (is_eq-slice_cmp key.1.items other.1.items)
+    ∙ ap (λ (b : Bool). b && is_eq (slice_cmp nat_cmp key.1.items other.1.items)) (number_equal key.0 other.0)
+    ∙ ap (λ (b : Bool). key.0 == other.0 && b) (is_eq-slice_cmp key.1.items other.1.items)
 
 -- ---- maps
 

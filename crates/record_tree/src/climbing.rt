@@ -14,15 +14,12 @@ use tree_model::{Link, LinkList};
 
 // The root's number, and the first that no file of the volume itself has.
 const ROOT: u64 = 5;
+
 pub const FIRST_USER_RECORD: u64 = 24;
 
 // The names of the file with this number.
 #[tactic(auto, unfolding(state_model::specs::Files::links_at))]
-fn links_at(
-    alloc: Global,
-    records: &[Option<FileRec>],
-    number: u64,
-) -> Result<LinkList, Memory>
+fn links_at(alloc: Global, records: &[Option<FileRec>], number: u64) -> Result<LinkList, Memory>
     ensures { IfOk result (λ links. links ≡ links_at (table_in records.now) number) }
 {
     match file_at(records, number) {
@@ -64,11 +61,7 @@ fn first_parent(links: &[Link]) -> Option<u64>
 
 // The directory of the file's first name.
 #[tactic(auto, unfolding(state_model::specs::Trees::parent_at))]
-fn parent_at(
-    alloc: Global,
-    records: &[Option<FileRec>],
-    number: u64,
-) -> Result<Option<u64>, Memory>
+fn parent_at(alloc: Global, records: &[Option<FileRec>], number: u64) -> Result<Option<u64>, Memory>
     ensures { IfOk result (λ parent. parent ≡ parent_at (table_in records.now) number) }
 {
     let links = links_at(alloc, records, number)?;

@@ -104,11 +104,7 @@ fn push_copy(found: &mut Vec<Link>, link: Option<&Link>) -> Result<(), AllocErro
 }
 
 // The links at these places.
-fn links_at_places(
-    alloc: Global,
-    links: &[Link],
-    places: &[usize],
-) -> Result<Vec<Link>, AllocError>
+fn links_at_places(alloc: Global, links: &[Link], places: &[usize]) -> Result<Vec<Link>, AllocError>
     ensures { IfOk result (λ found. found.items ≡ filter_map (slice_get links.now) places.now) }
 {
     let mut found = Vec::new(alloc);

@@ -13,6 +13,8 @@ mod lookup;
 mod names;
 mod nodes;
 mod places;
+#[cfg(test)]
+mod tests;
 
 pub use files::file_at;
 pub use lookup::RecordTree;

@@ -19,9 +19,13 @@ use tree_model::{Kind, Link, Node, Why};
 
 // The types of attributes.
 const STANDARD_INFORMATION: u32 = 0x10;
+
 const ATTRIBUTE_LIST: u32 = 0x20;
+
 const OBJECT_ID: u32 = 0x40;
+
 const DATA: u32 = 0x80;
+
 const REPARSE_POINT: u32 = 0xC0;
 
 // Whether the record has an attribute of this type.

@@ -9,6 +9,6 @@ pub loop-place-preserved : goal.loop-place-preserved
 loop-place-preserved c =
     let h = slice_get c.args.links.now in
     c.in_ok-push_copy.ensures
-        ∙ ap (λ (ls : List Link). ls ++ cons_option (option_copied c.link_at.result) []) c.loop-place.invariant
-        ∙ ap (λ (o : Option Link). filter_map h (take c.loop-place.place-index c.args.places.now) ++ cons_option o []) c.link_at.ensures
-        ∙ sym (filter_map_more h c.args.places.now c.loop-place.place-index 0 (omega arith))
+    ∙ ap (λ (ls : List Link). ls ++ cons_option (option_copied c.link_at.result) []) c.loop-place.invariant
+    ∙ ap (λ (o : Option Link). filter_map h (take c.loop-place.place-index c.args.places.now) ++ cons_option o []) c.link_at.ensures
+    ∙ sym (filter_map_more h c.args.places.now c.loop-place.place-index 0 (omega arith))

@@ -12,5 +12,5 @@ unfolding long_links_in
 returns c =
     let links = c.args.links.now in
     IfOk-weaker c.links_at_places.result (λ (found : Vec Link Global). found.items ≡ filter_map (slice_get links) c.places_at.result.now) _
-        (λ found e. e ∙ ap (filter_map (slice_get links)) (c.places_at.ensures ∙ c.requires c.args.directory) ∙ links_placed (λ l. is_in c.args.directory l && is_long l) links)
-        c.links_at_places.ensures
+    (λ found e. e ∙ ap (filter_map (slice_get links)) (c.places_at.ensures ∙ c.requires c.args.directory) ∙ links_placed (λ l. is_in c.args.directory l && is_long l) links)
+    c.links_at_places.ensures
