@@ -1,5 +1,5 @@
 //! The links that a record holds.
-ghost use Rattle.std.specs.Prelude.{◌≡◌, ◌++◌, ◌+◌, ◌*◌, ◌<◌, ◌≤◌, length, IsTrue, IfOk, OnOk};
+ghost use Rattle.std.specs.Prelude.{◌≡◌, ◌++◌, ◌≤◌, length, IsTrue, IfOk, OnOk};
 ghost use Rattle.utf16_name.specs.Names.{name_of};
 ghost use Rattle.record_model.specs.Values.{parent_of, space_of, units_of};
 ghost use Rattle.ntfs_host.specs.Links.{has_its_units, named, value_link, attr_link, record_links};
