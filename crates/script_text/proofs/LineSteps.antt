@@ -1,8 +1,7 @@
 -- Steps over the lines of a script.
-use Rattle.std.proofs.Common.{◌≡◌, ℕ, ◌+◌, ◌<◌, ◌≤◌, Bool, true, false, List, [], ◌∷◌, length, take, drop, Option, Some, None, Result, Ok, Err, refl, sym, ap, ◌∙◌, arith}
-use Rattle.std.specs.Prelude.{◌==◌, All, position, nat_lt}
-use Rattle.std.specs.List.{slice_split, position_or_len, before_first, after_first}
-use Rattle.std.proofs.lemmas.Bool.{cases_lt}
+use Rattle.std.proofs.Common.{◌≡◌, ℕ, ◌+◌, ◌<◌, ◌≤◌, Bool, List, [], ◌∷◌, length, take, drop, Some, None, Result, Ok, sym, ap, ◌∙◌, arith}
+use Rattle.std.specs.Prelude.{◌==◌, position}
+use Rattle.std.specs.List.{slice_split, position_or_len}
 use Rattle.std.proofs.lemmas.Bool.Decides.{nat_tests}
 use Rattle.std.proofs.lemmas.List.Splits.{slice_split_none, slice_split_first, length-slice_split}
 use Rattle.std.proofs.lemmas.List.Sums.{fails_before_first}
@@ -11,7 +10,7 @@ use Rattle.tree_model.specs.declared.script.Command.{Command}
 use Rattle.script_text.specs.declared.fault.ScriptFault.{ScriptFault}
 use Rattle.script_text.specs.declared.fault.ScriptFault.TheVariants.{TooLarge, Line, TooManyClients, TooManyCommands, Memory}
 use Rattle.script_text.specs.Faults.{script_cause}
-use Rattle.script_text.specs.Scripts.{with_line, last_line, commands_from, commands_in}
+use Rattle.script_text.specs.Scripts.{with_line, commands_from}
 
 -- the test of an LF
 abbrev is_lf : ℕ → Bool

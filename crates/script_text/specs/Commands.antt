@@ -2,7 +2,6 @@
 use Rattle.std.specs.Prelude.{ℕ, List, [], ◌∷◌, if◌then◌else◌, codes, Result, Ok, Err}
 use Rattle.std.specs.Str.{bytes_eq}
 use Rattle.host_base.specs.Answers.{◌>>=◌}
-use Rattle.tree_model.specs.declared.script.Op.{Op}
 use Rattle.tree_model.specs.declared.script.Op.TheVariants.{Stat, List as ListOf}
 use Rattle.tree_model.specs.declared.script.What.{What}
 use Rattle.tree_model.specs.declared.script.What.TheVariants.{Op as Operation}

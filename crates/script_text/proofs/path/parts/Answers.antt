@@ -1,4 +1,4 @@
-use Rattle.std.proofs.Common.{arith, ap, ◌∙◌, ◌++◌, ◌∷◌, [], List, ℕ, ◌+◌}
+use Rattle.std.proofs.Common.{arith, ap, ◌∙◌, List, ℕ, ◌+◌}
 use Rattle.std.proofs.lemmas.Result.{err_from_is_err_and}
 use Rattle.script_text.proofs.Parts.{with_parts, parts_from, went_on, went_wrong, ended}
 use Rattle.script_text.proofs.path.parts.Goals as goal

@@ -1,8 +1,7 @@
-use Rattle.std.proofs.Common.{ℕ, ◌≡◌, ◌-◌, ◌+◌, ◌<◌, length, get_or, ap, arith}
+use Rattle.std.proofs.Common.{◌-◌, ◌+◌, ◌<◌, length, ap, arith}
 use Rattle.std.specs.Prelude.{◌==◌}
 use Rattle.std.proofs.lemmas.List.Sums.{count_by-le-length}
 use Rattle.tree_model.specs.declared.script.Command.{Command}
-use Rattle.script_text.specs.Scripts.{commands_of}
 use Rattle.script_text.proofs.reading.add.Goals as goal
 
 pub overflow_add-number : goal.overflow_add-number
