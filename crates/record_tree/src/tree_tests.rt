@@ -1,5 +1,6 @@
 use super::*;
 use file_record::FileRec;
+use host_base::Bytes;
 use std::alloc::{AllocError, Global};
 use std::test::Fail;
 use tree_model::{Kind, Lookup, Name, NameList, Node, Why};
@@ -33,6 +34,31 @@ static ROWS: [Row; 11] = [
 // The record that is a reparse point.
 const LINK: u8 = 26;
 
+static KINDS: [(u64, Option<Kind>); 8] = [
+    (0, Some(Kind::System)),
+    (5, Some(Kind::Directory)),
+    (7, None),
+    (25, Some(Kind::File)),
+    (26, Some(Kind::Opaque)),
+    (27, Some(Kind::System)),
+    (31, None),
+    (u64::MAX, None),
+];
+
+// A directory, a name, and the number that it finds.
+struct Found(u64, &'static str, Option<u64>);
+
+static FOUND: [Found; 7] = [
+    Found(5, "$mft", Some(0)),
+    Found(5, "longna~1", Some(28)),
+    Found(24, "a.TXT", Some(26)),
+    // equal units first, else the first in order
+    Found(24, "readme", Some(29)),
+    Found(24, "Readme", Some(30)),
+    Found(24, "none", None),
+    Found(25, "b.txt", None),
+];
+
 // Standard information: created at 1, modified at 2, changed at 3, read at 4.
 static INFO: [u8; 48] = [
     1, 0, 0, 0, 0, 0, 0, 0, 2, 0, 0, 0, 0, 0, 0, 0, 3, 0, 0, 0, 0, 0, 0, 0, 4, 0, 0, 0, 0, 0, 0, 0,
@@ -42,22 +68,21 @@ static INFO: [u8; 48] = [
 // Appends a resident attribute.
 fn push_attr(bytes: &mut Vec<u8>, kind: u8, value: &[u8]) -> Result<(), Fail> {
     let len = u8::try_from(value.len())?;
-    let whole = (u16::from(len) + 0x1f) / 8 * 8;
-    bytes.extend_from_slice(&[kind, 0, 0, 0])?;
-    bytes.extend_from_slice(&u32::from(whole).to_le_bytes())?;
-    bytes.extend_from_slice(&[0, 0, 0x18, 0, 0, 0, 0, 0])?;
-    bytes.extend_from_slice(&[len, 0, 0, 0, 0x18, 0, 0, 0])?;
+    let padding = 7 - (len + 7) % 8;
+    let [low, high, ..] = (0x18 + u32::from(len) + u32::from(padding)).to_le_bytes();
+    bytes.extend_from_slice(&[
+        kind, 0, 0, 0, low, high, 0, 0, 0, 0, 0x18, 0, 0, 0, 0, 0, len, 0, 0, 0, 0x18, 0, 0, 0,
+    ])?;
     bytes.extend_from_slice(value)?;
-    for _ in 0x18 + u16::from(len)..whole {
+    for _ in 0..padding {
         bytes.push(0)?;
     }
     Ok(())
 }
 
 fn name_value(alloc: Global, name: &NameRow) -> Result<Vec<u8>, Fail> {
-    let mut value = vec![in alloc; 0u8; 0]?;
-    value.extend_from_slice(&[name.0, 0, 0, 0, 0, 0, 1, 0])?;
-    value.extend_from_slice(&[0; 0x38])?;
+    let mut value = vec![in alloc; name.0, 0, 0, 0, 0, 0, 1, 0]?;
+    value.resize(0x40, 0)?;
     value.push(u8::try_from(name.2.len())?)?;
     value.push(name.1)?;
     for unit in name.2 {
@@ -66,28 +91,41 @@ fn name_value(alloc: Global, name: &NameRow) -> Result<Vec<u8>, Fail> {
     Ok(value)
 }
 
-fn record(alloc: Global, row: &Row) -> Result<FileRec, Fail> {
-    let mut bytes = Vec::new(alloc);
-    bytes.extend_from_slice(b"FILE\x30\0\x03\0\0\0\0\0\0\0\0\0")?;
-    bytes.extend_from_slice(&[1, 0, 1, 0, 0x38, 0, row.1, 0])?;
-    bytes.extend_from_slice(&[0, 4, 0, 0, 0, 4, 0, 0])?;
-    bytes.extend_from_slice(&[0, 0, 0, 0, 0, 0, 0, 0])?;
-    bytes.extend_from_slice(&[9, 0, 0, 0, row.0, 0, 0, 0])?;
-    bytes.extend_from_slice(&[1, 0, 0, 0, 0, 0, 0, 0])?;
-    push_attr(&mut bytes, 0x10, &INFO)?;
+// The header of a record.
+fn header(alloc: Global, row: &Row) -> Result<Vec<u8>, AllocError> {
+    [
+        0x46, 0x49, 0x4c, 0x45, 0x30, 0, 3, 0, 0, 0, 0, 0, 0, 0, 0, 0, 1, 0, 1, 0, 0x38, 0, row.1,
+        0, 0, 4, 0, 0, 0, 4, 0, 0, 0, 0, 0, 0, 0, 0, 0, 0, 9, 0, 0, 0, row.0, 0, 0, 0, 1, 0, 0, 0,
+        0, 0, 0, 0,
+    ]
+    .to_vec(alloc)
+}
+
+fn push_attrs(alloc: Global, bytes: &mut Vec<u8>, row: &Row) -> Result<(), Fail> {
+    push_attr(bytes, 0x10, &INFO)?;
     for name in row.2 {
-        push_attr(&mut bytes, 0x30, &name_value(alloc, name)?)?;
+        push_attr(bytes, 0x30, &name_value(alloc, name)?)?;
     }
-    push_attr(&mut bytes, 0x80, row.3)?;
+    push_attr(bytes, 0x80, row.3)?;
     if row.0 == LINK {
-        push_attr(&mut bytes, 0xc0, b"")?;
+        push_attr(bytes, 0xc0, b"")?;
     }
-    bytes.extend_from_slice(&[0xff; 4])?;
-    bytes.resize(1024, 0)?;
+    Ok(())
+}
+
+fn read(alloc: Global, bytes: &[u8]) -> Result<FileRec, Fail> {
     if bytes.len() != 1024 {
         return Err("a record has 1,024 bytes".into());
     }
-    Ok(FileRec::read(alloc, &bytes)?)
+    Ok(FileRec::read(alloc, bytes)?)
+}
+
+fn record(alloc: Global, row: &Row) -> Result<FileRec, Fail> {
+    let mut bytes = header(alloc, row)?;
+    push_attrs(alloc, &mut bytes, row)?;
+    bytes.extend_from_slice(&[0xff; 4])?;
+    bytes.resize(1024, 0)?;
+    read(alloc, &bytes)
 }
 
 fn records(alloc: Global) -> Result<Vec<Option<FileRec>>, Fail> {
@@ -146,57 +184,65 @@ fn text_of(alloc: Global, names: &NameList) -> Result<Vec<u8>, Fail> {
 #[test]
 fn nodes_have_kinds(rt: HostRuntime) -> Result<(), Fail> {
     let tree = tree(rt.alloc())?;
-    assert_eq!(rt; kind_of(&tree, 0), Some(Kind::System));
-    assert_eq!(rt; kind_of(&tree, 5), Some(Kind::Directory));
-    assert_eq!(rt; kind_of(&tree, 7), None);
-    assert_eq!(rt; kind_of(&tree, 25), Some(Kind::File));
-    assert_eq!(rt; kind_of(&tree, 26), Some(Kind::Opaque));
-    assert_eq!(rt; kind_of(&tree, 27), Some(Kind::System));
-    assert_eq!(rt; kind_of(&tree, 31), None);
-    assert_eq!(rt; kind_of(&tree, u64::MAX), None);
+    for (number, kind) in &KINDS {
+        assert_eq!(rt; kind_of(&tree, *number), *kind, "{number}");
+    }
     Ok(())
 }
 
 #[test]
 fn a_node_has_the_fields_of_its_record(rt: HostRuntime) -> Result<(), Fail> {
     let tree = tree(rt.alloc())?;
-    let node: &Node = tree.node(25).ok_or("none")?;
-    assert_eq!(rt; (node.number, node.seq, node.flags), (25, 1, 0x20));
-    assert_eq!(rt; node.bytes.as_slice(), b"hi".as_slice());
-    assert_eq!(rt; (node.size, node.valid, node.clusters), (2, 2, 0));
-    assert_eq!(rt; (node.created, node.modified), (1, 2));
-    assert_eq!(rt; (node.changed, node.read_at), (3, 4));
-    let link: &Node = tree.node(26).ok_or("none")?;
-    assert_eq!(rt; link.why, Some(Why::Reparse));
+    let node = tree.node(26).ok_or("none")?;
+    let expected = Node {
+        number: 26,
+        seq: 1,
+        kind: Kind::Opaque,
+        why: Some(Why::Reparse),
+        held: false,
+        size: 4,
+        valid: 4,
+        clusters: 0,
+        bytes: Bytes::copy_of(rt.alloc(), b"link")?,
+        flags: 0x20,
+        created: 1,
+        modified: 2,
+        changed: 3,
+        read_at: 4,
+    };
+    assert_eq!(rt; node, &expected);
     Ok(())
 }
 
 #[test]
 fn names_are_found(rt: HostRuntime) -> Result<(), Fail> {
-    let alloc = rt.alloc();
-    let tree = tree(alloc)?;
-    assert_eq!(rt; child(alloc, &tree, 5, "$mft")?, Some(0));
-    assert_eq!(rt; child(alloc, &tree, 5, "longna~1")?, Some(28));
-    assert_eq!(rt; child(alloc, &tree, 24, "a.TXT")?, Some(26));
-    // equal units first, else the first in order
-    assert_eq!(rt; child(alloc, &tree, 24, "readme")?, Some(29));
-    assert_eq!(rt; child(alloc, &tree, 24, "Readme")?, Some(30));
-    assert_eq!(rt; child(alloc, &tree, 24, "none")?, None);
-    assert_eq!(rt; child(alloc, &tree, 25, "b.txt")?, None);
+    let tree = tree(rt.alloc())?;
+    for Found(directory, name, number) in &FOUND {
+        assert_eq!(rt;
+            child(rt.alloc(), &tree, *directory, name)?,
+            *number,
+            "{name}"
+        );
+    }
     Ok(())
 }
 
 #[test]
 fn long_names_are_listed_in_order(rt: HostRuntime) -> Result<(), Fail> {
-    let alloc = rt.alloc();
-    let tree = tree(alloc)?;
-    let root = text_of(alloc, &tree.listing(alloc, 5)?)?;
+    let tree = tree(rt.alloc())?;
+    let root = text_of(rt.alloc(), &tree.listing(rt.alloc(), 5)?)?;
     assert_eq!(rt;
         root.as_slice(),
         b" $Extend $MFT . Docs long name".as_slice()
     );
-    let docs = text_of(alloc, &tree.listing(alloc, 24)?)?;
+    let docs = text_of(rt.alloc(), &tree.listing(rt.alloc(), 24)?)?;
     assert_eq!(rt; docs.as_slice(), b" A.txt b.txt README readme".as_slice());
+    Ok(())
+}
+
+#[test]
+fn long_names_are_counted(rt: HostRuntime) -> Result<(), Fail> {
+    let tree = tree(rt.alloc())?;
     assert_eq!(rt; tree.long_names_of(28), 1);
     assert_eq!(rt; tree.long_names_of(31), 0);
     Ok(())
