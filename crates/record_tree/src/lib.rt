@@ -14,7 +14,7 @@ mod names;
 mod nodes;
 mod places;
 #[cfg(test)]
-mod tests;
+mod tree_tests;
 
 pub use files::file_at;
 pub use lookup::RecordTree;

@@ -68,8 +68,8 @@ static INFO: [u8; 48] = [
 // Appends a resident attribute.
 fn push_attr(bytes: &mut Vec<u8>, kind: u8, value: &[u8]) -> Result<(), Fail> {
     let len = u8::try_from(value.len())?;
-    let padding = 7 - (len + 7) % 8;
-    let [low, high, ..] = (0x18 + u32::from(len) + u32::from(padding)).to_le_bytes();
+    let padding = 7 - (u16::from(len) + 7) % 8;
+    let [low, high] = (0x18 + u16::from(len) + padding).to_le_bytes();
     bytes.extend_from_slice(&[
         kind, 0, 0, 0, low, high, 0, 0, 0, 0, 0x18, 0, 0, 0, 0, 0, len, 0, 0, 0, 0x18, 0, 0, 0,
     ])?;
