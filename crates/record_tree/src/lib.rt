@@ -7,15 +7,29 @@
 #![tactic(auto)]
 
 mod climbing;
+mod counts;
 mod files;
+mod holding;
 mod index;
+mod indexes;
+mod linking;
 mod lookup;
 mod names;
+mod naming;
 mod nodes;
+mod parents;
 mod places;
+mod rising;
+mod rules;
+#[cfg(test)]
+mod tests;
 #[cfg(test)]
 mod tree_tests;
+mod ways;
 
 pub use files::file_at;
+pub use indexes::any_has_children;
 pub use lookup::RecordTree;
 pub use names::record_links;
+pub use rules::broken_rule;
+pub use state_model::Broken;
