@@ -67,9 +67,8 @@ pub fn resident(alloc: Global, kind: u8, id: u8, value: &[u8]) -> Result<Vec<u8>
     Ok(attribute)
 }
 
-/// A file-name attribute, indexed (Linux-NTFS documentation, "$FILE_NAME"). The error is want of
-/// memory.
-pub fn file_name(alloc: Global, id: u8, of: FileName) -> Result<Vec<u8>, AllocError> {
+/// A file-name value (Linux-NTFS documentation, "$FILE_NAME"). The error is want of memory.
+pub fn name_value(alloc: Global, of: FileName) -> Result<Vec<u8>, AllocError> {
     let count = of.name.len() % 200;
     let mut value = vec![in alloc; 0u8; 0x42 + 2 * count]?;
     put(&mut value, 0, &[of.parent]);
@@ -83,8 +82,67 @@ pub fn file_name(alloc: Global, id: u8, of: FileName) -> Result<Vec<u8>, AllocEr
             &[*unit],
         );
     }
+    Ok(value)
+}
+
+/// A file-name attribute, indexed. The error is want of memory.
+pub fn file_name(alloc: Global, id: u8, of: FileName) -> Result<Vec<u8>, AllocError> {
+    let value = name_value(alloc, of)?;
     let mut attribute = resident(alloc, 0x30, id, &value)?;
     put(&mut attribute, 0x16, &[1]);
+    Ok(attribute)
+}
+
+/// An entry of an index: a file, by its number and sequence, and its name; or the last entry, which
+/// has no name (Linux-NTFS documentation, "$INDEX_ROOT"). The error is want of memory.
+pub fn index_entry(
+    alloc: Global,
+    child: u8,
+    sequence: u8,
+    name: Option<FileName>,
+) -> Result<Vec<u8>, AllocError> {
+    let key = match name {
+        Some(of) => name_value(alloc, of)?,
+        None => Vec::new(alloc),
+    };
+    let count = key.len() % 512;
+    let size = (0x10 + count).div_ceil(8) * 8;
+    let mut entry = vec![in alloc; 0u8; size]?;
+    put(&mut entry, 0, &[child, 0, 0, 0, 0, 0, sequence]);
+    put_word(&mut entry, 0x08, size as u16);
+    put_word(&mut entry, 0x0a, count as u16);
+    put(&mut entry, 0x0c, &[if count == 0 { 2 } else { 0 }]);
+    put(&mut entry, 0x10, &key);
+    Ok(entry)
+}
+
+/// The index root of a directory, named `$I30`, with these entries in fewer than 512 bytes
+/// (Linux-NTFS documentation, "$INDEX_ROOT"). The error is want of memory.
+pub fn index_root(alloc: Global, id: u8, entries: &[&[u8]]) -> Result<Vec<u8>, AllocError> {
+    let mut value = vec![in alloc; 0u8; 512]?;
+    put(
+        &mut value,
+        0,
+        &[0x30, 0, 0, 0, 1, 0, 0, 0, 0, 0x10, 0, 0, 8],
+    );
+    let mut end = 0x20usize;
+    for entry in entries {
+        put(&mut value, end, entry);
+        end = end.saturating_add(entry.len());
+    }
+    let count = end % 512;
+    put(&mut value, 0x10, &[0x10]);
+    put_word(&mut value, 0x14, count.saturating_sub(0x10) as u16);
+    put_word(&mut value, 0x18, count.saturating_sub(0x10) as u16);
+    let mut attribute = vec![in alloc; 0u8; 0x20 + count]?;
+    put(&mut attribute, 0, &[0x90]);
+    put_word(&mut attribute, 0x04, (0x20 + count) as u16);
+    put(&mut attribute, 0x09, &[4, 0x18]);
+    put(&mut attribute, 0x0e, &[id]);
+    put_word(&mut attribute, 0x10, count as u16);
+    put(&mut attribute, 0x14, &[0x20]);
+    put(&mut attribute, 0x18, &[b'$', 0, b'I', 0, b'3', 0, b'0', 0]);
+    put(&mut attribute, 0x20, value.split_at(count).0);
     Ok(attribute)
 }
 
@@ -235,5 +293,44 @@ pub fn tiny_image(alloc: Global) -> Result<Vec<u8>, AllocError>
     put(&mut image, 20480, &[0xff; 8192]);
     let first = image[4096..8192].to_vec(alloc)?;
     put(&mut image, 28672, &first);
+    Ok(image)
+}
+
+// A name in the root.
+fn in_root(is_directory: bool, name: &[u8]) -> FileName<'_> {
+    FileName {
+        parent: 5,
+        is_directory,
+        space: 3,
+        name,
+    }
+}
+
+/// The tiny image whose root has an index of the three names. The error is want of memory.
+pub fn indexed_image(alloc: Global) -> Result<Vec<u8>, AllocError>
+    ensures { IfOk result (λ image. length image.items ≡ 33280) }
+{
+    let mut image = tiny_image(alloc)?;
+    let entries = [
+        index_entry(alloc, 2, 2, Some(in_root(false, b"$LogFile")))?,
+        index_entry(alloc, 0, 1, Some(in_root(false, b"$MFT")))?,
+        index_entry(alloc, 5, 5, Some(in_root(true, b".")))?,
+        index_entry(alloc, 0, 0, None)?,
+    ];
+    let parts = [
+        entries[0].as_slice(),
+        entries[1].as_slice(),
+        entries[2].as_slice(),
+        entries[3].as_slice(),
+    ];
+    let named = file_name(alloc, 0, in_root(true, b"."))?;
+    let index = index_root(alloc, 1, &parts)?;
+    let head = RecordHead {
+        number: 5,
+        sequence: 5,
+        flags: 3,
+        base: 0,
+    };
+    put_record(&mut image, head, &[named.as_slice(), index.as_slice()]);
     Ok(image)
 }

@@ -1,11 +1,11 @@
 //! Rows of inputs and answers that cross crates: a scan of the tiny image and of images that differ
-//! from it, through the top call, with faults of the device and the sink. The crate has tests and
+//! from it, and runs of scripts on them, through the top call, with faults of the device and the sink. The crate has tests and
 //! the builder of their images, and no more.
 #![tactic(auto)]
 
 mod image;
 
-pub use image::tiny_image;
+pub use image::{indexed_image, tiny_image};
 
 #[cfg(test)]
 mod answers;
@@ -19,3 +19,5 @@ mod refusals;
 mod rules;
 #[cfg(test)]
 mod runs;
+#[cfg(test)]
+mod scripts;

@@ -56,3 +56,47 @@ pub fn changed(alloc: Global, at: usize, bytes: &[u8]) -> Result<Vec<u8>, AllocE
     put(&mut image, at, bytes);
     Ok(image)
 }
+
+// The faults of a run: the numbers of the calls of source, device and sink that fail.
+#[derive(Drop)]
+pub struct Faults<'a> {
+    pub source: &'a [u64],
+    pub device: &'a [u64],
+    pub sink: &'a [u64],
+}
+
+// A run of a script on a device of these bytes, with these faults.
+pub fn run_script<R: Threads + Wait + Sync + Abort + AllocGlobal>(
+    rt: &R,
+    image: &[u8],
+    script: Vec<u8>,
+    faults: &Faults,
+) -> Result<(u8, Vec<u8>), Fail> {
+    let alloc = rt.alloc();
+    assert_eq!(rt; image.len() % 512, 0);
+    let device = MemoryDevice::new(image.to_vec(alloc)?, faults.device.to_vec(alloc)?);
+    let mut source = MemorySource::new(script, faults.source.to_vec(alloc)?);
+    let mut sink = MemorySink::new(alloc, faults.sink.to_vec(alloc)?);
+    let words = words_of(alloc, &["ntfshost", "tiny.img", "run"])?;
+    let outcome = ntfs_host(rt, alloc, &words, &mut source, &mut sink, device, &NoGate);
+    Ok((outcome.status, sink.bytes().to_vec(alloc)?))
+}
+
+// A run of a script with no fault.
+pub fn is_answered<R: Threads + Wait + Sync + Abort + AllocGlobal>(
+    rt: &R,
+    image: &[u8],
+    script: &[u8],
+    status: u8,
+    text: &[u8],
+) -> Result<(), Fail> {
+    let faults = Faults {
+        source: &[],
+        device: &[],
+        sink: &[],
+    };
+    let (ended, written) = run_script(rt, image, script.to_vec(rt.alloc())?, &faults)?;
+    assert_eq!(rt; written.as_slice(), text);
+    assert_eq!(rt; ended, status);
+    Ok(())
+}

@@ -26,7 +26,7 @@ use Rattle.ntfs_host.proofs.Noting.{explained_later, first_of-none, joined-none}
 abbrev pub table : ℕ → List (List ℕ) → ℕ → Piece
 table first disk = piece_at (content_of (sector_of disk)) first
 
-is_chunk : (disk : List (List ℕ)) (first base records : ℕ) (chunk : List ℕ) → IsDisk disk → length chunk ≡ 1024 * records → chunk ≡ raw_from (sector_of disk) (first + 2 * base) (2 * records) → IsChunk (table first disk) base chunk
+pub is_chunk : (disk : List (List ℕ)) (first base records : ℕ) (chunk : List ℕ) → IsDisk disk → length chunk ≡ 1024 * records → chunk ≡ raw_from (sector_of disk) (first + 2 * base) (2 * records) → IsChunk (table first disk) base chunk
 is_chunk disk first base records chunk whole size is = λ i lt.
     let within : 2 * i + 2 ≤ 2 * records = omega arith in
     let at : 1024 * i ≡ 512 * (2 * i) = omega arith in

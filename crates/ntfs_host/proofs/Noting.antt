@@ -1,7 +1,7 @@
 -- Records that are noted one after the other.
 use Rattle.std.proofs.Common.{◌≡◌, ℕ, zero, suc, ◌+◌, ◌-◌, ◌<◌, ◌≤◌, List, ◌++◌, Option, Some, None, Result, Ok, Err, refl, sym, ap, ◌∙◌, subst, arith}
 use Rattle.host_base.specs.Answers.{Explains, ExplainsOrFails}
-use Rattle.ntfs_host.specs.declared.link.Link.{Link}
+use Rattle.tree_model.specs.declared.link.Link.{Link}
 use Rattle.ntfs_host.specs.declared.piece.Piece.{Piece}
 use Rattle.ntfs_host.specs.declared.walk.Findings.{Findings}
 use Rattle.ntfs_host.specs.declared.refusal.Refusal.{Refusal}

@@ -10,7 +10,7 @@ use Rattle.disk_model.specs.Sectors.{sector_of, raw_from}
 use Rattle.disk_model.specs.Content.{content_of}
 use Rattle.sector_device.specs.Sectors.{IsDiskOf}
 use Rattle.ntfs_host.specs.declared.boot.Volume.{Volume}
-use Rattle.ntfs_host.specs.declared.link.Link.{Link}
+use Rattle.tree_model.specs.declared.link.Link.{Link}
 use Rattle.ntfs_host.specs.declared.piece.Piece.{Piece}
 use Rattle.ntfs_host.specs.declared.table.DataRun.{DataRun}
 use Rattle.ntfs_host.specs.declared.walk.Findings.{Findings}
@@ -112,7 +112,7 @@ pub walk_error : {X : Type 0} (known : Option Disk) (view : X → List Link) (pi
     → IfSome known (λ disk. GivesOrFails {X = X} {E = ScanError} view scan_cause (Err e) (table_links (piece disk) count))
 walk_error known view piece count e h = one known _ _ (λ disk p. walk_error_of view (piece disk) count e p) h
 
-gives_or_fails : {X A : Type 0} (view : X → A) (result : Result X ScanError) (meant : Result A Refusal) → Gives view scan_cause result meant → GivesOrFails view scan_cause result meant
+pub gives_or_fails : {X A : Type 0} (view : X → A) (result : Result X ScanError) (meant : Result A Refusal) → Gives view scan_cause result meant → GivesOrFails view scan_cause result meant
 gives_or_fails view (Ok x) meant h = h
 gives_or_fails view (Err e) meant h = or_fails view e meant h
 

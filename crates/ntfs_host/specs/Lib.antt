@@ -10,3 +10,7 @@ pub mod Order
 pub mod Text
 pub mod Words
 pub mod Statuses
+pub mod Mounts
+pub mod SerialRuns
+pub mod Scripts
+pub mod Runs

@@ -10,7 +10,7 @@ use Rattle.record_model.specs.declared.attribute.OwnForm.TheVariants.{Resident, 
 use Rattle.record_model.specs.declared.attribute.Attr.{Attr}
 use Rattle.record_model.specs.Values.{file_name, parent_of, space_of, units_of}
 use Rattle.record_model.specs.Records.{Record}
-use Rattle.ntfs_host.specs.declared.link.Link.{Link}
+use Rattle.tree_model.specs.declared.link.Link.{Link}
 use Rattle.ntfs_host.specs.declared.piece.Piece.{Piece}
 use Rattle.ntfs_host.specs.declared.piece.Piece.TheVariants.{Torn, Free, Broken, Used}
 

@@ -4,7 +4,7 @@ use Rattle.std.specs.declared.cmp.Ordering.{Ordering}
 use Rattle.std.specs.Ordering.{nat_cmp, ordering_then, is_lt}
 use Rattle.std.specs.Cmp.Lexicographic.{slice_cmp}
 use Rattle.std.specs.List.Sorted.{IsPermutation, IsSortedBy, IsStableBy}
-use Rattle.ntfs_host.specs.declared.link.Link.{Link}
+use Rattle.tree_model.specs.declared.link.Link.{Link}
 
 abbrev pub link_order : Link → Link → Ordering
 link_order a b = ordering_then (nat_cmp a.child.number b.child.number) (ordering_then (nat_cmp a.parent.number b.parent.number) (slice_cmp nat_cmp a.name b.name))

@@ -5,7 +5,7 @@ use Rattle.disk_model.specs.declared.block.BlockKind.TheVariants.{FileRec}
 use Rattle.disk_model.specs.Sectors.{sector_of}
 use Rattle.disk_model.specs.Content.{Content, content_of}
 use Rattle.ntfs_host.specs.declared.boot.Volume.{Volume}
-use Rattle.ntfs_host.specs.declared.link.Link.{Link}
+use Rattle.tree_model.specs.declared.link.Link.{Link}
 use Rattle.ntfs_host.specs.declared.piece.Piece.{Piece}
 use Rattle.ntfs_host.specs.declared.refusal.Refusal.{Refusal}
 use Rattle.ntfs_host.specs.declared.refusal.Refusal.TheVariants.{Unbuilt}

@@ -13,7 +13,7 @@ use Rattle.record_model.specs.Pairs.{runs_of}
 use Rattle.record_model.specs.Values.{attribute_list, data_type}
 use Rattle.record_model.specs.Records.{Record}
 use Rattle.ntfs_host.specs.declared.boot.Volume.{Volume}
-use Rattle.ntfs_host.specs.declared.link.Link.{Link}
+use Rattle.tree_model.specs.declared.link.Link.{Link}
 use Rattle.ntfs_host.specs.declared.piece.Piece.{Piece}
 use Rattle.ntfs_host.specs.declared.piece.Piece.TheVariants.{Torn, Free, Broken, Used}
 use Rattle.ntfs_host.specs.declared.table.DataRun.{DataRun}

@@ -5,9 +5,9 @@ use Rattle.std.specs.Fmt.{decimal}
 use Rattle.std.specs.Io.KnownBytes.{Appends}
 use Rattle.host_base.specs.Causes.{AppendsPart}
 use Rattle.utf16_name.specs.Texts.{name_text}
-use Rattle.ntfs_host.specs.declared.link.Link.{Link}
+use Rattle.tree_model.specs.declared.link.Link.{Link}
 use Rattle.ntfs_host.specs.declared.refusal.Refusal.{Refusal}
-use Rattle.ntfs_host.specs.declared.refusal.Refusal.TheVariants.{NotNtfs, BadFixup, BadRecord, Unbuilt}
+use Rattle.ntfs_host.specs.declared.refusal.Refusal.TheVariants.{NotNtfs, BadFixup, BadRecord, BadVolume, Unbuilt}
 use Rattle.ntfs_host.specs.Order.{IsInOrder}
 
 -- N S P Q and a blank: child and sequence, parent and sequence
@@ -31,6 +31,7 @@ unfoldable pub refusal_line : Refusal → List ℕ
 refusal_line (NotNtfs rule) = codes "refused 1 NotNtfs " ++ decimal rule ++ 10 ∷ []
 refusal_line (BadFixup number) = codes "refused 5 BadFixup " ++ decimal number ++ 10 ∷ []
 refusal_line (BadRecord number rule) = codes "refused 6 BadRecord " ++ (decimal number ++ (32 ∷ (decimal rule ++ 10 ∷ [])))
+refusal_line (BadVolume rule number) = codes "refused 15 BadVolume " ++ (decimal rule ++ (32 ∷ (decimal number ++ 10 ∷ [])))
 refusal_line (Unbuilt rule) = codes "refused 17 Unbuilt " ++ decimal rule ++ 10 ∷ []
 
 -- the text of a scan that found these links: their lines in order

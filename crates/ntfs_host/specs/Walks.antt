@@ -6,7 +6,7 @@ use Rattle.disk_model.specs.Bytes.{part}
 use Rattle.disk_model.specs.Content.{body_of}
 use Rattle.ntfs_host.specs.declared.piece.Piece.{Piece}
 use Rattle.ntfs_host.specs.declared.walk.Findings.{Findings}
-use Rattle.ntfs_host.specs.declared.link.Link.{Link}
+use Rattle.tree_model.specs.declared.link.Link.{Link}
 use Rattle.ntfs_host.specs.declared.refusal.Refusal.{Refusal}
 use Rattle.ntfs_host.specs.declared.refusal.ScanError.{ScanError}
 use Rattle.ntfs_host.specs.Errors.{scan_cause}

@@ -12,16 +12,16 @@ ghost use Rattle.ntfs_host.specs.Tables.{is_emptied, table_links};
 ghost use Rattle.ntfs_host.specs.Walks.{FoundBelow, FindsOrFails, FindsAll, settled};
 
 use crate::boot::{Volume, volume_of};
-use crate::link::Link;
 use crate::piece::{Piece, piece_of};
 use crate::refusal::{Refusal, ScanError};
 use crate::table::{judged, log_place, record_count};
 use crate::walk::{Findings, note_chunk};
 use sector_device::Device;
 use std::alloc::Global;
+use tree_model::Link;
 
 // The records that are read at once: 64 KiB.
-const CHUNK_RECORDS: u64 = 64;
+pub const CHUNK_RECORDS: u64 = 64;
 
 // The record of that number in a table that begins at the sector `first`.
 fn read_piece<D: Device>(
@@ -42,7 +42,7 @@ fn read_piece<D: Device>(
 }
 
 // The bytes of so many records from a sector on.
-fn read_chunk<D: Device>(
+pub fn read_chunk<D: Device>(
     alloc: Global,
     device: &mut D,
     sector: u64,
@@ -128,7 +128,7 @@ fn is_emptied<D: Device>(device: &mut D, lcn: u64) -> Result<bool, ScanError>
 }
 
 // Refuses record 2, or a log that isn't emptied.
-fn check_log<D: Device>(alloc: Global, device: &mut D, volume: Volume) -> Result<(), ScanError>
+pub fn check_log<D: Device>(alloc: Global, device: &mut D, volume: Volume) -> Result<(), ScanError>
     requires records { volume.mft + 8 ≤ volume.total }
     requires within { volume.total ≤ D.sector_count device.old }
     requires small { volume.total ≤ 16777216 }
@@ -149,7 +149,11 @@ fn check_log<D: Device>(alloc: Global, device: &mut D, volume: Volume) -> Result
 }
 
 // How many records the table has, by record 0.
-fn count_records<D: Device>(alloc: Global, device: &mut D, volume: Volume) -> Result<u64, ScanError>
+pub fn count_records<D: Device>(
+    alloc: Global,
+    device: &mut D,
+    volume: Volume,
+) -> Result<u64, ScanError>
     requires records { volume.mft + 8 ≤ volume.total }
     requires within { volume.total ≤ D.sector_count device.old }
     requires small { volume.total ≤ 16777216 }
@@ -185,7 +189,7 @@ fn settled(findings: Findings) -> Result<Vec<Link>, ScanError>
 }
 
 // The links of a table of so many records.
-fn links_of_table<D: Device>(
+pub fn links_of_table<D: Device>(
     alloc: Global,
     device: &mut D,
     first: u64,
@@ -236,7 +240,7 @@ fn volume_links<D: Device>(
 }
 
 // The volume of the device, by its boot sector.
-fn read_volume<D: Device>(device: &mut D) -> Result<Volume, ScanError>
+pub fn read_volume<D: Device>(device: &mut D) -> Result<Volume, ScanError>
     ensures answer { IfSome (D.gives device.old) (λ disk. GivesOrFails (λ v. v) scan_cause result (volume_on disk)) }
     ensures records { IfOk result (λ v. v.mft + 8 ≤ v.total) }
     ensures within { IfOk result (λ v. v.total ≤ D.sector_count device.new) }

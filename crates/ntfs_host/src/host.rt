@@ -1,42 +1,38 @@
 //! The top call.
-ghost use Rattle.std.specs.Prelude.{◌≡◌, ◌≢◌, ◌⊎◌, ◌↔◌, IsTrue, IsSome, IfSome, IsSomeAnd, IsOk, IsErr, Ok, ◌≤◌};
+ghost use Rattle.std.specs.Prelude.{◌≡◌, ◌≢◌, ◌⊎◌, ◌↔◌, IsTrue, IfSome, IsSomeAnd, IsOk, IsErr, IsErrAnd, Ok, ◌≤◌};
 ghost use Rattle.std.specs.Io.KnownBytes.{Appends};
 ghost use Rattle.host_base.specs.Causes.{Rose, HasFailed, AppendsPart};
+ghost use Rattle.script_text.specs.Scripts.{script_of};
+ghost use Rattle.upcase_order.specs.Tables.{standard_table};
+ghost use Rattle.ntfs_host.specs.Mounts.{mounted_of};
+ghost use Rattle.ntfs_host.specs.Runs.{PrintsScript, PrintsScriptPart, IsRunStatus};
 ghost use Rattle.ntfs_host.specs.Scan.{scan_of};
+ghost use Rattle.ntfs_host.specs.Scripts.{script_line};
 ghost use Rattle.ntfs_host.specs.Text.{Prints, PrintsPart};
-ghost use Rattle.ntfs_host.specs.Statuses.{written_status, IsQuietStatus};
-ghost use Rattle.ntfs_host.specs.Words.{IsScan, usage};
+ghost use Rattle.ntfs_host.specs.Statuses.{IsQuietStatus};
+ghost use Rattle.ntfs_host.specs.Words.{IsScan, IsRun, usage};
 
 use crate::finding::find_links;
-use crate::link::Link;
 use crate::order::sort;
 use crate::output::{write_links, write_refusal};
-use crate::refusal::{ScanError, WriteError};
+use crate::refusal::ScanError;
+use crate::script_run::run_command;
+use crate::status::{DEVICE_FAULT, DONE, MEMORY, REFUSED, SINK_FAULT, USAGE, status_of};
 use host_base::{Gate, Sink, Source, write_all};
 use sector_device::Device;
 use std::alloc::Global;
 use std::sync::Wait;
 use std::thread::Threads;
-
-const DONE: u8 = 0;
-
-const USAGE: u8 = 2;
-
-const REFUSED: u8 = 3;
-
-const MEMORY: u8 = 6;
-
-const SINK_FAULT: u8 = 7;
-
-const DEVICE_FAULT: u8 = 8;
+use tree_model::Link;
 
 const USAGE_LINE: &str = "usage: ntfshost IMAGE COMMAND [--time N] [--seed N] [--journal N]\n";
 
 /// How a command ended, and the device.
 ///
 /// The status is 0 where the command was done and its whole text written, 2 where the words are no
-/// line of a command, 3 where the image was refused, 6 for want of memory, 7 where a write of the
-/// sink failed and 8 where a call of the device failed.
+/// line of a command, 3 where the image was refused, 4 where the script was, 5 where a read of the
+/// source failed, 6 for want of memory, 7 where a write of the sink failed and 8 where a call of the
+/// device failed.
 #[derive(Drop)]
 pub struct Outcome<D> {
     pub status: u8,
@@ -48,16 +44,6 @@ pub struct Outcome<D> {
 pub enum Quiet {
     /// Prints the long names of the volume.
     Scan,
-}
-
-fn status_of(written: Result<(), WriteError>, whole: u8) -> u8
-    ensures { result ≡ written_status written whole }
-{
-    match written {
-        Ok(()) => whole,
-        Err(WriteError::Memory) => MEMORY,
-        Err(WriteError::Sink) => SINK_FAULT,
-    }
 }
 
 // Prints the links in order.
@@ -135,13 +121,23 @@ pub fn quiet_command<K: Sink, D: Device>(
     Outcome { status, device }
 }
 
-// The command that the words name: the program's name, an image and a command.
-fn command_of(words: &[String]) -> Option<Quiet>
-    ensures { IsSome result ↔ IsScan words.now }
+// Whether the words are the program's name, an image and `scan`.
+fn is_scan(words: &[String]) -> bool
+    ensures { IsTrue result ↔ IsScan words.now }
 {
     match words {
-        [_, _, command] if command.as_str() == "scan" => Some(Quiet::Scan),
-        _ => None,
+        [_, _, command] => command.as_str() == "scan",
+        _ => false,
+    }
+}
+
+// Whether the words are the program's name, an image and `run`.
+fn is_run(words: &[String]) -> bool
+    ensures { IsTrue result ↔ IsRun words.now }
+{
+    match words {
+        [_, _, command] => command.as_str() == "run",
+        _ => false,
     }
 }
 
@@ -160,47 +156,60 @@ fn write_usage<K: Sink>(sink: &mut K) -> u8
 /// Does the command that the words name, on the volume image of the device; its text, or the line
 /// of a refusal, goes to the sink.
 ///
-/// `words` has the program's name, the image and the command; `scan` is the one command so far, and
-/// `source`, `gate` and `rt` are for commands that run a script. The status is that of `Outcome`.
+/// `words` has the program's name, the image and the command: `scan`, or `run`, which runs the
+/// script that the source has left. `gate.pass` is called before each command of a script. The
+/// status is that of `Outcome`.
+#[tactic(auto, using(crate::proofs::Worded::scan_is_not_run))]
 pub fn ntfs_host<R: Threads + Wait + Sync, S: Source, K: Sink, D: Device + Send, G: Gate + Sync>(
-    _rt: &R,
+    rt: &R,
     alloc: Global,
     words: &[String],
-    _source: &mut S,
+    source: &mut S,
     sink: &mut K,
     device: D,
-    _gate: &G,
+    gate: &G,
 ) -> Outcome<D>
-    ensures status { (result.status ≡ 2) ⊎ IsQuietStatus result.status }
-    ensures done { result.status ≡ 0 → IfSome (D.gives device) (λ disk. IsOk (scan_of disk) × Prints (K.taken sink.old) (K.taken sink.new) (scan_of disk)) }
-    ensures refused { result.status ≡ 3 → IfSome (D.gives device) (λ disk. IsErr (scan_of disk) × Prints (K.taken sink.old) (K.taken sink.new) (scan_of disk)) }
+    ensures status { (result.status ≡ 2) ⊎ IsRunStatus result.status }
 
     // The usage line comes exactly where the words are no line of a command.
-    ensures words { result.status ≡ 2 → ¬ IsScan words.now }
-    ensures command { ¬ IsScan words.now → (result.status ≡ 2) ⊎ (result.status ≡ 7) }
+    ensures words { result.status ≡ 2 → (¬ IsScan words.now) × (¬ IsRun words.now) }
+    ensures command { ¬ IsScan words.now → ¬ IsRun words.now → (result.status ≡ 2) ⊎ (result.status ≡ 7) }
     ensures usage { result.status ≡ 2 → Appends (K.taken sink.old) (K.taken sink.new) usage }
+    ensures usage_part { ¬ IsScan words.now → ¬ IsRun words.now → result.status ≡ 7 → AppendsPart (K.taken sink.old) (K.taken sink.new) usage }
 
-    // A front of the text was written, or of the usage line.
-    ensures memory { result.status ≡ 6 → IfSome (D.gives device) (λ disk. (K.taken sink.new ≡ K.taken sink.old) ⊎ PrintsPart (K.taken sink.old) (K.taken sink.new) (scan_of disk)) }
-    ensures part { result.status ≡ 7 → IsScan words.now → IfSome (D.gives device) (λ disk. PrintsPart (K.taken sink.old) (K.taken sink.new) (scan_of disk)) }
-    ensures usage_part { result.status ≡ 7 → ¬ IsScan words.now → AppendsPart (K.taken sink.old) (K.taken sink.new) usage }
+    // A scan prints the scan text of the device, or the first refusal.
+    ensures scan_status { IsScan words.now → IsQuietStatus result.status }
+    ensures scan_done { IsScan words.now → result.status ≡ 0 → IfSome (D.gives device) (λ disk. IsOk (scan_of disk) × Prints (K.taken sink.old) (K.taken sink.new) (scan_of disk)) }
+    ensures scan_refused { IsScan words.now → result.status ≡ 3 → IfSome (D.gives device) (λ disk. IsErr (scan_of disk) × Prints (K.taken sink.old) (K.taken sink.new) (scan_of disk)) }
+    ensures scan_memory { IsScan words.now → result.status ≡ 6 → IfSome (D.gives device) (λ disk. (K.taken sink.new ≡ K.taken sink.old) ⊎ PrintsPart (K.taken sink.old) (K.taken sink.new) (scan_of disk)) }
+    ensures scan_part { IsScan words.now → result.status ≡ 7 → IfSome (D.gives device) (λ disk. PrintsPart (K.taken sink.old) (K.taken sink.new) (scan_of disk)) }
+    ensures scan_complete { IsScan words.now → IsSomeAnd (D.gives device) (λ disk. IsOk (scan_of disk)) → ¬ Rose (K.faults sink.old) (K.faults sink.new) → ¬ HasFailed (D.fault_count device) (D.fault_count result.device) (D.moment_of result.device) → (result.status ≡ 0) ⊎ (result.status ≡ 6) }
 
-    // Faults have their cause, and where the device failed nothing is written.
+    // A run prints the text of a serial run of the script, or the first refusal, or what refuses the script.
+    ensures run_done { IsRun words.now → result.status ≡ 0 → IfSome (S.left source.old) (λ bytes. IsOk (script_of bytes) × IfSome (D.gives device) (λ disk. IsOk (mounted_of standard_table disk) × PrintsScript (K.taken sink.old) (K.taken sink.new) disk (D.fault_count result.device) (script_of bytes))) }
+    ensures run_refused { IsRun words.now → result.status ≡ 3 → IfSome (S.left source.old) (λ bytes. IsOk (script_of bytes) × IfSome (D.gives device) (λ disk. IsErr (mounted_of standard_table disk) × PrintsScript (K.taken sink.old) (K.taken sink.new) disk (D.fault_count result.device) (script_of bytes))) }
+    ensures no_script { result.status ≡ 4 → IfSome (S.left source.old) (λ bytes. IsErrAnd (script_of bytes) (λ fault. Appends (K.taken sink.old) (K.taken sink.new) (script_line fault))) }
+    ensures run_memory { IsRun words.now → result.status ≡ 6 → IfSome (S.left source.old) (λ bytes. IfSome (D.gives device) (λ disk. (K.taken sink.new ≡ K.taken sink.old) ⊎ PrintsScriptPart (K.taken sink.old) (K.taken sink.new) disk (D.fault_count result.device) (script_of bytes))) }
+    ensures run_part { IsRun words.now → result.status ≡ 7 → IfSome (S.left source.old) (λ bytes. IfSome (D.gives device) (λ disk. PrintsScriptPart (K.taken sink.old) (K.taken sink.new) disk (D.fault_count result.device) (script_of bytes))) }
+    ensures run_complete { IsRun words.now → IsSomeAnd (S.left source.old) (λ bytes. IsOk (script_of bytes)) → IsSomeAnd (D.gives device) (λ disk. IsOk (mounted_of standard_table disk)) → ¬ Rose (S.faults source.old) (S.faults source.new) → ¬ Rose (K.faults sink.old) (K.faults sink.new) → ¬ HasFailed (D.fault_count device) (D.fault_count result.device) (D.moment_of result.device) → (result.status ≡ 0) ⊎ (result.status ≡ 6) }
+
+    // Faults have their cause, and where the source or the device failed nothing is written.
+    ensures source_failed { result.status ≡ 5 → Rose (S.faults source.old) (S.faults source.new) }
     ensures sink_failed { result.status ≡ 7 → Rose (K.faults sink.old) (K.faults sink.new) }
     ensures device_failed { result.status ≡ 8 → HasFailed (D.fault_count device) (D.fault_count result.device) (D.moment_of result.device) }
-    ensures silent { result.status ≡ 8 → K.taken sink.new ≡ K.taken sink.old }
+    ensures silent { (result.status ≡ 5) ⊎ (result.status ≡ 8) → K.taken sink.new ≡ K.taken sink.old }
 
     // What a read of the device gives stays.
     ensures gives { D.gives result.device ≡ D.gives device }
-
-    // With no refusal and no fault the command is done, or memory is wanting.
-    ensures complete { IsScan words.now → IsSomeAnd (D.gives device) (λ disk. IsOk (scan_of disk)) → ¬ Rose (K.faults sink.old) (K.faults sink.new) → ¬ HasFailed (D.fault_count device) (D.fault_count result.device) (D.moment_of result.device) → (result.status ≡ 0) ⊎ (result.status ≡ 6) }
 {
-    match command_of(words) {
-        Some(command) => quiet_command(alloc, &command, sink, device),
-        None => Outcome {
-            status: write_usage(sink),
-            device,
-        },
+    if is_scan(words) {
+        return quiet_command(alloc, &Quiet::Scan, sink, device);
     }
+    let mut device = device;
+    let status = if is_run(words) {
+        run_command(rt, alloc, source, sink, &mut device, gate)
+    } else {
+        write_usage(sink)
+    };
+    Outcome { status, device }
 }

@@ -4,12 +4,12 @@ ghost use Rattle.utf16_name.specs.Names.{name_of};
 ghost use Rattle.record_model.specs.Values.{parent_of, space_of, units_of};
 ghost use Rattle.ntfs_host.specs.Links.{has_its_units, named, value_link, attr_link, record_links};
 
-use crate::link::Link;
 use disk_model::{u8_at, u64_at};
 use file_record::{Attr, FileRec, OwnForm};
 use host_base::{FileRef, Memory};
 use record_model::units_at;
 use std::alloc::{AllocError, Global};
+use tree_model::Link;
 use utf16_name::{Name, NameFault, Units};
 
 const FILE_NAME: u32 = 0x30;

@@ -2,9 +2,9 @@
 ghost use Rattle.std.specs.Prelude.{◌≡◌, OnOk};
 ghost use Rattle.ntfs_host.specs.Order.{link_order, IsInOrder};
 
-use crate::link::Link;
 use std::alloc::AllocError;
 use std::cmp::Ordering;
+use tree_model::Link;
 
 fn compare(a: &Link, b: &Link) -> Ordering
     ensures { result ≡ link_order a.now b.now }

@@ -2,13 +2,15 @@
 ghost use Rattle.std.specs.Prelude.{◌≡◌, ◌≤◌, OnOk, OnErr, IsErrOf};
 ghost use Rattle.std.specs.Io.KnownBytes.{Appends};
 ghost use Rattle.host_base.specs.Causes.{Rose, AppendsPart};
+ghost use Rattle.ntfs_host.specs.Scripts.{script_line};
 ghost use Rattle.ntfs_host.specs.Text.{links_text, refusal_line};
 
-use crate::link::Link;
 use crate::refusal::{Refusal, WriteError};
-use crate::text::{link_line, refusal_line, total_line};
+use crate::text::{link_line, refusal_line, script_line, total_line};
 use host_base::{Sink, write_all};
+use script_text::ScriptFault;
 use std::alloc::Global;
+use tree_model::Link;
 
 /// Writes a line for each link, and how many there are.
 #[tactic(auto, using(host_base::proofs::Appending::nothing))]
@@ -40,6 +42,23 @@ pub fn write_refusal<K: Sink>(
     ensures fault { IsErrOf result WriteError.Sink → Rose (K.faults sink.old) (K.faults sink.new) }
 {
     let line = refusal_line(alloc, refusal)?;
+    write_all(sink, line.as_bytes())?;
+    Ok(())
+}
+
+/// Writes the line that says what refuses a script.
+#[tactic(auto, using(host_base::proofs::Appending::nothing))]
+pub fn write_script_fault<K: Sink>(
+    alloc: Global,
+    sink: &mut K,
+    fault: ScriptFault,
+) -> Result<(), WriteError>
+    ensures ok { OnOk result (Appends (K.taken sink.old) (K.taken sink.new) (script_line fault)) }
+    ensures err { OnErr result (AppendsPart (K.taken sink.old) (K.taken sink.new) (script_line fault)) }
+    ensures later { K.faults sink.old ≤ K.faults sink.new }
+    ensures fault { IsErrOf result WriteError.Sink → Rose (K.faults sink.old) (K.faults sink.new) }
+{
+    let line = script_line(alloc, fault)?;
     write_all(sink, line.as_bytes())?;
     Ok(())
 }

@@ -6,7 +6,7 @@ use host_base::Failed;
 use std::alloc::{AllocError, AllocFailed};
 use thiserror::Error;
 
-/// Why an image isn't scanned.
+/// Why an image isn't taken.
 #[derive(Clone, Copy, Debug, PartialEq, Eq, Error)]
 pub enum Refusal {
     /// The boot sector hasn't the name `NTFS` (rule 1) or its last two bytes 55 AA (rule 2).
@@ -18,8 +18,12 @@ pub enum Refusal {
     /// This file record in use breaks the rule, and no lower one.
     #[error("file record {number} breaks rule {rule}")]
     BadRecord { number: u64, rule: u32 },
+    /// The records stand for no tree: this rule is broken, first at this record.
+    #[error("the volume breaks rule {rule} at {number}")]
+    BadVolume { rule: u32, number: u64 },
     /// The image is of a kind that isn't handled yet: its geometry (rule 1), the place of its file
-    /// table (rule 2), its log (rule 3), or a record with clusters or an attribute list (rule 4).
+    /// table (rule 2), its log (rule 3), a record with clusters or an attribute list (rule 4), or,
+    /// for a run, a directory's index with blocks (rule 5).
     #[error("not handled yet: rule {rule}")]
     Unbuilt { rule: u32 },
 }

@@ -1,11 +1,13 @@
-//! The lines that a scan prints.
+//! The lines that are printed.
 ghost use Rattle.std.specs.Prelude.{◌≡◌, IfOk, string_bytes};
+ghost use Rattle.ntfs_host.specs.Scripts.{script_line};
 ghost use Rattle.ntfs_host.specs.Text.{link_start, link_line, total_line, refusal_line};
 
-use crate::link::Link;
 use crate::refusal::Refusal;
 use host_base::Memory;
+use script_text::ScriptFault;
 use std::alloc::{AllocError, Global};
+use tree_model::Link;
 
 #[tactic(auto, unfolding(crate::specs::Text::link_start))]
 fn link_start(alloc: Global, link: &Link) -> Result<String, AllocError>
@@ -47,6 +49,25 @@ pub fn refusal_line(alloc: Global, refusal: Refusal) -> Result<String, AllocErro
         Refusal::BadRecord { number, rule } => {
             format!(in alloc; "refused 6 BadRecord {number} {rule}\n")
         }
+        Refusal::BadVolume { rule, number } => {
+            format!(in alloc; "refused 15 BadVolume {rule} {number}\n")
+        }
         Refusal::Unbuilt { rule } => format!(in alloc; "refused 17 Unbuilt {rule}\n"),
+    }
+}
+
+/// The line that says what refuses a script; there is none for want of memory.
+#[tactic(auto, unfolding(crate::specs::Scripts::script_line))]
+pub fn script_line(alloc: Global, fault: ScriptFault) -> Result<String, AllocError>
+    ensures { IfOk result (λ line. string_bytes line ≡ script_line fault) }
+{
+    match fault {
+        ScriptFault::TooLarge => String::from_str(alloc, "script bytes\n"),
+        ScriptFault::Line { number, rule } => {
+            format!(in alloc; "script line {number} rule {rule}\n")
+        }
+        ScriptFault::TooManyClients { client } => format!(in alloc; "script clients {client}\n"),
+        ScriptFault::TooManyCommands => String::from_str(alloc, "script commands\n"),
+        ScriptFault::Memory => Ok(String::new(alloc)),
     }
 }

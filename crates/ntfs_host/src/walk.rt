@@ -10,12 +10,12 @@ ghost use Rattle.ntfs_host.specs.Tables.{torn_refusal, unless, first_of, first_s
 ghost use Rattle.ntfs_host.specs.Walks.{Notes, FoundBelow, IsChunk, FindsBelow};
 ghost use Rattle.ntfs_host.specs.declared.piece.Piece.{Piece as the_piece};
 
-use crate::link::Link;
 use crate::names::push_links;
 use crate::piece::{Piece, piece_of};
 use crate::refusal::{Refusal, ScanError};
 use crate::table::is_unbuilt;
 use std::alloc::Global;
+use tree_model::Link;
 
 /// What a walk has found so far: the links, the first record that breaks a rule, and the first one
 /// that isn't handled yet.
@@ -96,7 +96,7 @@ fn note_record(
 }
 
 // The bytes of the record at this place of a chunk.
-fn record_bytes(chunk: &[u8], i: usize) -> &[u8]
+pub fn record_bytes(chunk: &[u8], i: usize) -> &[u8]
     requires { 1024 * i + 1024 ≤ length chunk.now }
     ensures value { result.now ≡ part (1024 * i) 1024 chunk.now }
     ensures len { length result.now ≡ 1024 }

@@ -1,5 +1,5 @@
 -- The places of links in a list, and the maps that keep them.
-use Rattle.std.proofs.Common.{◌≡◌, ℕ, ◌+◌, ◌<◌, Bool, true, false, List, [], ◌∷◌, ◌++◌, Option, Some, None, Vec, length, take, get_or, nat_eq, refl, sym, ◌∙◌, ap, arith}
+use Rattle.std.proofs.Common.{◌≡◌, ℕ, ◌+◌, ◌<◌, Bool, true, false, List, [], ◌∷◌, ◌++◌, Option, Some, Vec, length, take, get_or, nat_eq, refl, sym, ◌∙◌, ap, arith}
 use Rattle.std.specs.Prelude.{if◌then◌else◌, ◌&&◌, ◌==◌}
 use Rattle.std.specs.declared.cmp.Ordering.{Ordering}
 use Rattle.std.specs.declared.cmp.Ordering.TheVariants.{Less, Equal, Greater}
@@ -14,7 +14,7 @@ use Rattle.std.proofs.lemmas.Option.{slice_get-get_or}
 use Rattle.tree_model.specs.declared.link.Link.{Link}
 use Rattle.tree_model.specs.Names.{upper_units, same_units}
 use Rattle.tree_model.specs.Trees.{is_in, is_long}
-use Rattle.record_tree.specs.Places.{places_from, items_or_none, AddsPlace}
+use Rattle.record_tree.specs.Places.{places_from, AddsPlace}
 use Rattle.record_tree.specs.Lookups.{key_order, HasListings, HasNames}
 
 -- ---- places

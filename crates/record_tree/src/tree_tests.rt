@@ -1,234 +1,64 @@
-ghost use Rattle.std.specs.Prelude.{◌≡◌, length};
-
 use super::*;
-use file_record::{FileRec, RecFault};
+use file_record::FileRec;
+use host_base::Bytes;
 use std::alloc::{AllocError, Global};
 use std::test::Fail;
+use tree_model::{Kind, Lookup, Name, NameList, Node, Why};
 
-// A name of one unit: the number and sequence of its directory, its namespace, its unit.
-struct OneName(u8, u8, u8, u8);
+// A name: its directory, its namespace and its units, which are ASCII.
+struct NameRow(u8, u8, &'static [u8]);
 
-// An entry of an index: the number and sequence of its file, and the name.
-struct OneEntry(u8, u8, OneName);
-
-#[derive(Clone, Copy, PartialEq, Eq)]
-enum Form {
-    Directory,
-    // one whose index has a block below its root
-    Large,
-    File,
-    // one without standard information
-    Bare,
-    // a record that extends the root's
-    Extension,
-}
-
-#[derive(Clone, Copy, PartialEq, Eq)]
-enum Names {
-    None,
-    Dot,
-    D,
-    FG,
-    // a partner of namespace 3, two short names, a directory of another sequence, a name in itself
-    Both,
-    Twice,
-    Old,
-    Itself,
-}
-
-#[derive(Clone, Copy, PartialEq, Eq)]
-enum Entries {
-    None,
-    All,
-    // entries that fall, one short name less, no entry of the directory, a directory in itself
-    Falling,
-    Less,
-    NoD,
-    Itself,
-}
-
-// A record: its number, its sequence, its form, its names, and the entries of its index if it is a
-// directory.
-struct OneFile(u8, u8, Form, Names, Entries);
-
-// The records of a volume, and the rule that they break with its number; rule 0 for none.
-struct Row(&'static [OneFile], u32, u64);
-
-static DOT: [OneName; 1] = [OneName(5, 5, 3, b'.')];
-
-static D: [OneName; 1] = [OneName(5, 5, 0, b'd')];
-
-static FG: [OneName; 2] = [OneName(5, 5, 1, b'f'), OneName(5, 5, 2, b'g')];
-
-static BOTH: [OneName; 2] = [OneName(5, 5, 3, b'f'), OneName(5, 5, 2, b'g')];
-
-static TWICE: [OneName; 3] = [
-    OneName(5, 5, 1, b'f'),
-    OneName(5, 5, 2, b'g'),
-    OneName(5, 5, 2, b'h'),
-];
-
-static OLD: [OneName; 1] = [OneName(5, 6, 1, b'f')];
-
-static SELF: [OneName; 1] = [OneName(24, 1, 0, b'd')];
-
-static HELD: [OneEntry; 4] = [
-    OneEntry(5, 5, OneName(5, 5, 3, b'.')),
-    OneEntry(24, 1, OneName(5, 5, 0, b'd')),
-    OneEntry(25, 2, OneName(5, 5, 1, b'f')),
-    OneEntry(25, 2, OneName(5, 5, 2, b'g')),
-];
-
-static FALLING: [OneEntry; 4] = [
-    OneEntry(5, 5, OneName(5, 5, 3, b'.')),
-    OneEntry(25, 2, OneName(5, 5, 1, b'f')),
-    OneEntry(24, 1, OneName(5, 5, 0, b'd')),
-    OneEntry(25, 2, OneName(5, 5, 2, b'g')),
-];
-
-static LESS: [OneEntry; 3] = [
-    OneEntry(5, 5, OneName(5, 5, 3, b'.')),
-    OneEntry(24, 1, OneName(5, 5, 0, b'd')),
-    OneEntry(25, 2, OneName(5, 5, 1, b'f')),
-];
-
-static NO_D: [OneEntry; 3] = [
-    OneEntry(5, 5, OneName(5, 5, 3, b'.')),
-    OneEntry(25, 2, OneName(5, 5, 1, b'f')),
-    OneEntry(25, 2, OneName(5, 5, 2, b'g')),
-];
-
-static ITSELF: [OneEntry; 1] = [OneEntry(24, 1, OneName(24, 1, 0, b'd'))];
+// A record: its number, its flags, its names, and the value of its data.
+struct Row(u8, u8, &'static [NameRow], &'static [u8]);
 
 static ROWS: [Row; 11] = [
+    Row(0, 1, &[NameRow(5, 3, b"$MFT")], b"records"),
+    Row(5, 3, &[NameRow(5, 3, b".")], b""),
+    Row(7, 1, &[], b"boot"),
+    Row(11, 3, &[NameRow(5, 3, b"$Extend")], b""),
+    Row(24, 3, &[NameRow(5, 3, b"Docs")], b""),
+    Row(25, 1, &[NameRow(24, 3, b"b.txt")], b"hi"),
+    Row(26, 1, &[NameRow(24, 3, b"A.txt")], b"link"),
+    Row(27, 1, &[NameRow(11, 3, b"below")], b"hidden"),
     Row(
-        &[
-            OneFile(5, 5, Form::Directory, Names::Dot, Entries::All),
-            OneFile(24, 1, Form::Directory, Names::D, Entries::None),
-            OneFile(25, 2, Form::File, Names::FG, Entries::None),
-            OneFile(26, 1, Form::Extension, Names::None, Entries::None),
-        ],
-        0,
-        0,
-    ),
-    // no records
-    Row(&[], 0, 0),
-    // a file without a name, one without standard information, a partner of namespace 3, two short
-    // names
-    Row(
-        &[OneFile(24, 1, Form::File, Names::None, Entries::None)],
+        28,
         1,
-        24,
+        &[NameRow(5, 2, b"LONGNA~1"), NameRow(5, 1, b"long name")],
+        b"",
     ),
-    Row(
-        &[OneFile(24, 1, Form::Bare, Names::D, Entries::None)],
-        1,
-        24,
-    ),
-    Row(
-        &[
-            OneFile(5, 5, Form::Directory, Names::Dot, Entries::All),
-            OneFile(25, 2, Form::File, Names::Both, Entries::None),
-        ],
-        1,
-        25,
-    ),
-    Row(
-        &[OneFile(25, 2, Form::File, Names::Twice, Entries::None)],
-        1,
-        25,
-    ),
-    // the root's sequence is another one
-    Row(
-        &[
-            OneFile(5, 5, Form::Directory, Names::Dot, Entries::All),
-            OneFile(25, 2, Form::File, Names::Old, Entries::None),
-        ],
-        2,
-        25,
-    ),
-    // entries fall, a name is left out, an entry names no file
-    Row(
-        &[
-            OneFile(5, 5, Form::Directory, Names::Dot, Entries::Falling),
-            OneFile(24, 1, Form::Directory, Names::D, Entries::None),
-            OneFile(25, 2, Form::File, Names::FG, Entries::None),
-        ],
-        3,
-        5,
-    ),
-    Row(
-        &[
-            OneFile(5, 5, Form::Directory, Names::Dot, Entries::Less),
-            OneFile(24, 1, Form::Directory, Names::D, Entries::None),
-            OneFile(25, 2, Form::File, Names::FG, Entries::None),
-        ],
-        3,
-        5,
-    ),
-    Row(
-        &[
-            OneFile(5, 5, Form::Directory, Names::Dot, Entries::All),
-            OneFile(25, 2, Form::File, Names::FG, Entries::None),
-        ],
-        3,
-        5,
-    ),
-    // a directory in itself
-    Row(
-        &[
-            OneFile(5, 5, Form::Directory, Names::Dot, Entries::NoD),
-            OneFile(24, 1, Form::Directory, Names::Itself, Entries::Itself),
-            OneFile(25, 2, Form::File, Names::FG, Entries::None),
-        ],
-        8,
-        24,
-    ),
+    // two names that differ in case alone
+    Row(29, 1, &[NameRow(24, 0, b"readme")], b""),
+    Row(30, 1, &[NameRow(24, 0, b"README")], b""),
 ];
 
-fn names_of(names: Names) -> &'static [OneName] {
-    match names {
-        Names::None => &[],
-        Names::Dot => &DOT,
-        Names::D => &D,
-        Names::FG => &FG,
-        Names::Both => &BOTH,
-        Names::Twice => &TWICE,
-        Names::Old => &OLD,
-        Names::Itself => &SELF,
-    }
-}
+// The record that is a reparse point.
+const LINK: u8 = 26;
 
-fn entries_of(entries: Entries) -> &'static [OneEntry] {
-    match entries {
-        Entries::None => &[],
-        Entries::All => &HELD,
-        Entries::Falling => &FALLING,
-        Entries::Less => &LESS,
-        Entries::NoD => &NO_D,
-        Entries::Itself => &ITSELF,
-    }
-}
+static KINDS: [(u64, Option<Kind>); 8] = [
+    (0, Some(Kind::System)),
+    (5, Some(Kind::Directory)),
+    (7, None),
+    (25, Some(Kind::File)),
+    (26, Some(Kind::Opaque)),
+    (27, Some(Kind::System)),
+    (31, None),
+    (u64::MAX, None),
+];
 
-fn put(bytes: &mut Vec<u8>, more: &[u8]) -> Result<(), AllocError> {
-    for byte in more {
-        bytes.push(*byte)?;
-    }
-    Ok(())
-}
+// A directory, a name, and the number that it finds.
+struct Found(u64, &'static str, Option<u64>);
 
-// A number of 4 bytes.
-fn put_number(bytes: &mut Vec<u8>, number: usize) -> Result<(), AllocError> {
-    let low = (number % 256) as u8;
-    let high = (number / 256 % 256) as u8;
-    put(bytes, &[low, high, 0, 0])
-}
+static FOUND: [Found; 7] = [
+    Found(5, "$mft", Some(0)),
+    Found(5, "longna~1", Some(28)),
+    Found(24, "a.TXT", Some(26)),
+    // equal units first, else the first in order
+    Found(24, "readme", Some(29)),
+    Found(24, "Readme", Some(30)),
+    Found(24, "none", None),
+    Found(25, "b.txt", None),
+];
 
-<<<<<<<< HEAD:crates/record_tree/src/tests.rt
-// Zeros up to this length.
-fn pad(bytes: &mut Vec<u8>, length: usize) -> Result<(), AllocError> {
-    for _ in bytes.len()..length.max(bytes.len()) {
-========
 // Standard information: created at 1, modified at 2, changed at 3, read at 4.
 static INFO: [u8; 48] = [
     1, 0, 0, 0, 0, 0, 0, 0, 2, 0, 0, 0, 0, 0, 0, 0, 3, 0, 0, 0, 0, 0, 0, 0, 4, 0, 0, 0, 0, 0, 0, 0,
@@ -245,158 +75,175 @@ fn push_attr(bytes: &mut Vec<u8>, kind: u8, value: &[u8]) -> Result<(), Fail> {
     ])?;
     bytes.extend_from_slice(value)?;
     for _ in 0..padding {
->>>>>>>> 85089f3913453a2106bdfc2e9a71a9678d59a4ef:crates/record_tree/src/tree_tests.rt
         bytes.push(0)?;
     }
     Ok(())
 }
 
-fn round_up(length: usize) -> usize {
-    length.min(1024).div_ceil(8) * 8
-}
-
-fn put_attribute(
-    bytes: &mut Vec<u8>,
-    kind: u8,
-    name: &[u8],
-    value: &[u8],
-) -> Result<(), AllocError> {
-    let begin = bytes.len();
-    let at = name.len().min(8) + 0x18;
-    let length = round_up(value.len().min(1024) + at);
-    put(bytes, &[kind, 0, 0, 0])?;
-    put_number(bytes, length)?;
-    let units = (name.len().min(8) / 2) as u8;
-    put(bytes, &[0, units, 0x18, 0, 0, 0, 0, 0])?;
-    put_number(bytes, value.len())?;
-    put_number(bytes, at)?;
-    put(bytes, name)?;
-    put(bytes, value)?;
-    pad(bytes, begin.min(1024) + length.min(1024))
-}
-
-fn name_value(alloc: Global, name: &OneName) -> Result<Vec<u8>, AllocError> {
-    let mut value = Vec::new(alloc);
-    put(&mut value, &[name.0, 0, 0, 0, 0, 0, name.1, 0])?;
-    pad(&mut value, 0x40)?;
-    put(&mut value, &[1, name.2, name.3, 0])?;
+fn name_value(alloc: Global, name: &NameRow) -> Result<Vec<u8>, Fail> {
+    let mut value = vec![in alloc; name.0, 0, 0, 0, 0, 0, 1, 0]?;
+    value.resize(0x40, 0)?;
+    value.push(u8::try_from(name.2.len())?)?;
+    value.push(name.1)?;
+    for unit in name.2 {
+        value.extend_from_slice(&[*unit, 0])?;
+    }
     Ok(value)
 }
 
-fn put_entry(alloc: Global, node: &mut Vec<u8>, entry: &OneEntry) -> Result<(), AllocError> {
-    put(node, &[entry.0, 0, 0, 0, 0, 0, entry.1, 0])?;
-    put(node, &[0x58, 0, 0x44, 0, 0, 0, 0, 0])?;
-    put(node, &name_value(alloc, &entry.2)?)?;
-    put(node, &[0, 0, 0, 0])
+// The header of a record.
+fn header(alloc: Global, row: &Row) -> Result<Vec<u8>, AllocError> {
+    [
+        0x46, 0x49, 0x4c, 0x45, 0x30, 0, 3, 0, 0, 0, 0, 0, 0, 0, 0, 0, 1, 0, 1, 0, 0x38, 0, row.1,
+        0, 0, 4, 0, 0, 0, 4, 0, 0, 0, 0, 0, 0, 0, 0, 0, 0, 9, 0, 0, 0, row.0, 0, 0, 0, 1, 0, 0, 0,
+        0, 0, 0, 0,
+    ]
+    .to_vec(alloc)
 }
 
-fn root_value(alloc: Global, entries: &[OneEntry], has_child: bool) -> Result<Vec<u8>, AllocError> {
-    let mut node = Vec::new(alloc);
-    for entry in entries {
-        put_entry(alloc, &mut node, entry)?;
+fn push_attrs(alloc: Global, bytes: &mut Vec<u8>, row: &Row) -> Result<(), Fail> {
+    push_attr(bytes, 0x10, &INFO)?;
+    for name in row.2 {
+        push_attr(bytes, 0x30, &name_value(alloc, name)?)?;
     }
-    let end: &[u8] = if has_child {
-        &[0x18, 0, 0, 0, 3, 0, 0, 0, 0, 0, 0, 0, 0, 0, 0, 0]
-    } else {
-        &[0x10, 0, 0, 0, 2, 0, 0, 0]
-    };
-    put(&mut node, &[0; 8])?;
-    put(&mut node, end)?;
-    let mut value = Vec::new(alloc);
-    put(
-        &mut value,
-        &[0x30, 0, 0, 0, 1, 0, 0, 0, 0, 0x10, 0, 0, 1, 0, 0, 0],
-    )?;
-    let used = node.len().min(1024) + 0x10;
-    put_number(&mut value, 0x10)?;
-    put_number(&mut value, used)?;
-    put_number(&mut value, used)?;
-    put_number(&mut value, usize::from(has_child))?;
-    put(&mut value, &node)?;
-    Ok(value)
-}
-
-fn put_attributes(alloc: Global, bytes: &mut Vec<u8>, file: &OneFile) -> Result<(), AllocError> {
-    if file.2 == Form::File {
-        put_attribute(bytes, 0x10, &[], &[0; 0x30])?;
-    }
-    for name in names_of(file.3) {
-        put_attribute(bytes, 0x30, &[], &name_value(alloc, name)?)?;
-    }
-    if file.2 == Form::Directory || file.2 == Form::Large {
-        let value = root_value(alloc, entries_of(file.4), file.2 == Form::Large)?;
-        put_attribute(bytes, 0x90, b"$\0I\x003\x000\0", &value)?;
-    }
-    put(bytes, &[0xff, 0xff, 0xff, 0xff])
-}
-
-// The record's body.
-fn body_of(alloc: Global, file: &OneFile) -> Result<Vec<u8>, AllocError> {
-    let mut attributes = Vec::new(alloc);
-    put_attributes(alloc, &mut attributes, file)?;
-    let is_directory = file.2 == Form::Directory || file.2 == Form::Large;
-    let mut body = Vec::new(alloc);
-    put(&mut body, b"FILE\x30\0\x03\0\0\0\0\0\0\0\0\0")?;
-    let flags = if is_directory { 3 } else { 1 };
-    put(&mut body, &[file.1, 0, 1, 0, 0x38, 0, flags, 0])?;
-    put_number(&mut body, attributes.len().min(1024) + 0x38)?;
-    put_number(&mut body, 1024)?;
-    let base = if file.2 == Form::Extension { 5 } else { 0 };
-    put(&mut body, &[base, 0, 0, 0, 0, 0, base, 0])?;
-    pad(&mut body, 0x38)?;
-    put(&mut body, &attributes)?;
-    pad(&mut body, 1024)?;
-    Ok(body)
-}
-
-fn record_of(alloc: Global, file: &OneFile) -> Result<FileRec, RecFault> {
-    let body = body_of(alloc, file)?;
-    if body.len() != 1024 {
-        return Err(RecFault::Rule { rule: 2 });
-    }
-    FileRec::read(alloc, &body)
-}
-
-// The 27 records of these files.
-fn records_of(alloc: Global, files: &[OneFile]) -> Result<Vec<Option<FileRec>>, RecFault> {
-    let mut records = Vec::new(alloc);
-    for number in 0..27 {
-        let record = match files.iter().find(|file| file.0 == number) {
-            Some(file) => Some(record_of(alloc, file)?),
-            None => None,
-        };
-        records.push(record).map_err(AllocError::from)?;
-    }
-    Ok(records)
-}
-
-#[test]
-fn rules_are_broken(rt: HostRuntime) -> Result<(), Fail> {
-    let alloc = rt.alloc();
-    for row in ROWS.iter() {
-        let records = records_of(alloc, row.0)?;
-        let found = broken_rule(alloc, &[], &records)?;
-        let wanted = if row.1 == 0 {
-            None
-        } else {
-            Some(Broken {
-                rule: row.1,
-                number: row.2,
-            })
-        };
-        assert_eq!(rt; found, wanted);
+    push_attr(bytes, 0x80, row.3)?;
+    if row.0 == LINK {
+        push_attr(bytes, 0xc0, b"")?;
     }
     Ok(())
 }
 
-static LARGE: [OneFile; 1] = [OneFile(24, 1, Form::Large, Names::D, Entries::None)];
+fn read(alloc: Global, bytes: &[u8]) -> Result<FileRec, Fail> {
+    if bytes.len() != 1024 {
+        return Err("a record has 1,024 bytes".into());
+    }
+    Ok(FileRec::read(alloc, bytes)?)
+}
+
+fn record(alloc: Global, row: &Row) -> Result<FileRec, Fail> {
+    let mut bytes = header(alloc, row)?;
+    push_attrs(alloc, &mut bytes, row)?;
+    bytes.extend_from_slice(&[0xff; 4])?;
+    bytes.resize(1024, 0)?;
+    read(alloc, &bytes)
+}
+
+fn records(alloc: Global) -> Result<Vec<Option<FileRec>>, Fail> {
+    let mut records = Vec::new(alloc);
+    for number in 0..32u8 {
+        let record = match ROWS.iter().find(|row| row.0 == number) {
+            Some(row) => Some(record(alloc, row)?),
+            None => None,
+        };
+        records.push(record)?;
+    }
+    Ok(records)
+}
+
+// The upper-case units of ASCII.
+fn upper(alloc: Global) -> Result<Vec<u16>, AllocError> {
+    let mut upper = Vec::new(alloc);
+    for unit in 0..128u8 {
+        upper.push(u16::from(unit.to_ascii_uppercase()))?;
+    }
+    Ok(upper)
+}
+
+fn tree(alloc: Global) -> Result<RecordTree, Fail> {
+    let records = records(alloc)?;
+    Ok(RecordTree::new(alloc, upper(alloc)?, &records)?)
+}
+
+fn kind_of(tree: &RecordTree, number: u64) -> Option<Kind> {
+    let node = tree.node(number)?;
+    Some(node.kind)
+}
+
+fn child(
+    alloc: Global,
+    tree: &RecordTree,
+    directory: u64,
+    name: &str,
+) -> Result<Option<u64>, Fail> {
+    let name = Name::from_text(alloc, name)?;
+    Ok(tree.child(alloc, directory, name.units())?)
+}
+
+// The names, each behind a space.
+fn text_of(alloc: Global, names: &NameList) -> Result<Vec<u8>, Fail> {
+    let mut text = Vec::new(alloc);
+    for name in names.as_slice() {
+        text.push(b' ')?;
+        for unit in name.units() {
+            text.push(u8::try_from(*unit)?)?;
+        }
+    }
+    Ok(text)
+}
 
 #[test]
-fn indexes_have_children(rt: HostRuntime) -> Result<(), Fail> {
-    let alloc = rt.alloc();
-    let large = records_of(alloc, &LARGE)?;
-    assert!(rt; any_has_children(alloc, &large)?);
-    let small = records_of(alloc, ROWS[0].0)?;
-    assert!(rt; !any_has_children(alloc, &small)?);
+fn nodes_have_kinds(rt: HostRuntime) -> Result<(), Fail> {
+    let tree = tree(rt.alloc())?;
+    for (number, kind) in &KINDS {
+        assert_eq!(rt; kind_of(&tree, *number), *kind, "{number}");
+    }
+    Ok(())
+}
+
+#[test]
+fn a_node_has_the_fields_of_its_record(rt: HostRuntime) -> Result<(), Fail> {
+    let tree = tree(rt.alloc())?;
+    let node = tree.node(26).ok_or("none")?;
+    let expected = Node {
+        number: 26,
+        seq: 1,
+        kind: Kind::Opaque,
+        why: Some(Why::Reparse),
+        held: false,
+        size: 4,
+        valid: 4,
+        clusters: 0,
+        bytes: Bytes::copy_of(rt.alloc(), b"link")?,
+        flags: 0x20,
+        created: 1,
+        modified: 2,
+        changed: 3,
+        read_at: 4,
+    };
+    assert_eq!(rt; node, &expected);
+    Ok(())
+}
+
+#[test]
+fn names_are_found(rt: HostRuntime) -> Result<(), Fail> {
+    let tree = tree(rt.alloc())?;
+    for Found(directory, name, number) in &FOUND {
+        assert_eq!(rt;
+            child(rt.alloc(), &tree, *directory, name)?,
+            *number,
+            "{name}"
+        );
+    }
+    Ok(())
+}
+
+#[test]
+fn long_names_are_listed_in_order(rt: HostRuntime) -> Result<(), Fail> {
+    let tree = tree(rt.alloc())?;
+    let root = text_of(rt.alloc(), &tree.listing(rt.alloc(), 5)?)?;
+    assert_eq!(rt;
+        root.as_slice(),
+        b" $Extend $MFT . Docs long name".as_slice()
+    );
+    let docs = text_of(rt.alloc(), &tree.listing(rt.alloc(), 24)?)?;
+    assert_eq!(rt; docs.as_slice(), b" A.txt b.txt README readme".as_slice());
+    Ok(())
+}
+
+#[test]
+fn long_names_are_counted(rt: HostRuntime) -> Result<(), Fail> {
+    let tree = tree(rt.alloc())?;
+    assert_eq!(rt; tree.long_names_of(28), 1);
+    assert_eq!(rt; tree.long_names_of(31), 0);
     Ok(())
 }

@@ -1,7 +1,7 @@
 use Rattle.std.proofs.Common.{Vec, Global}
 use Rattle.std.proofs.lemmas.Result.{err_from_is_err_and}
 use Rattle.ntfs_host.specs.declared.boot.Volume.{Volume}
-use Rattle.ntfs_host.specs.declared.link.Link.{Link}
+use Rattle.tree_model.specs.declared.link.Link.{Link}
 use Rattle.ntfs_host.specs.Scan.{volume_links, volume_on, scan_of}
 use Rattle.ntfs_host.proofs.Steps.{fails_first, goes_on}
 use Rattle.ntfs_host.proofs.finding.find_links.Goals as goal

@@ -1,4 +1,4 @@
-use Rattle.std.proofs.Common.{sym, ◌∙◌, arith}
+use Rattle.std.proofs.Common.{◌∙◌}
 use Rattle.record_tree.proofs.Ascents.{parent_here, parent_past}
 use Rattle.record_tree.proofs.climbing.Climber.parent.Goals as goal
 

@@ -1,4 +1,4 @@
-use Rattle.std.proofs.Common.{List, ℕ, length, refl, subst, ◌∙◌}
+use Rattle.std.proofs.Common.{List, ℕ, length, refl, subst}
 use Rattle.tree_model.specs.declared.link.Link.{Link}
 use Rattle.record_tree.specs.Tables.{table_in}
 use Rattle.record_tree.specs.Lookups.{HasCounts, HasListings, HasNames}

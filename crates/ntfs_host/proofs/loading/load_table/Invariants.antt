@@ -1,0 +1,19 @@
+use Rattle.std.proofs.Common.{◌≡◌, ◌≤◌, ◌-◌, length}
+use Rattle.std.specs.Prelude.{IfSome}
+use Rattle.disk_model.specs.Sectors.{sector_of}
+use Rattle.disk_model.specs.Content.{content_of}
+use Rattle.ntfs_host.specs.Mounts.{records_of}
+use Rattle.ntfs_host.specs.Reading.{KeepsDevice}
+use Rattle.ntfs_host.specs.Scan.{piece_at}
+use Rattle.ntfs_host.proofs.loading.load_table.Given as goal
+
+abbrev pub invariant-loop-base : goal.invariant-loop-base
+invariant-loop-base g l = record {
+  loaded : IfSome (g.D.Device.gives l.initial.device) (λ disk. l.records.items ≡ records_of (piece_at (content_of (sector_of disk)) l.first) l.base);
+  size : length l.records.items ≡ l.base;
+  kept : KeepsDevice g.D.Device.gives g.D.Device.sector_count g.D.Device.fault_count l.initial.device l.device;
+  within : l.base ≤ l.count;
+}
+
+abbrev pub decreases-loop-base : goal.decreases-loop-base
+decreases-loop-base g l = l.count - l.base

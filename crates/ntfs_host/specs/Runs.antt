@@ -1,0 +1,51 @@
+-- What a run of a script prints.
+use Rattle.std.specs.Prelude.{◌≡◌, ◌⊎◌, ℕ, List, [], length, Option, Result, Ok, Err}
+use Rattle.std.specs.Io.KnownBytes.{Appends}
+use Rattle.host_base.specs.Causes.{AppendsPart}
+use Rattle.record_model.specs.Records.{Record}
+use Rattle.tree_model.specs.declared.script.Command.{Command}
+use Rattle.state_model.specs.Trees.{nodes_of, all_links}
+use Rattle.record_tree.specs.Tables.{table_in}
+use Rattle.run_model.specs.declared.turn.Turn.{Turn}
+use Rattle.run_model.specs.Texts.{IsRunText}
+use Rattle.upcase_order.specs.Tables.{standard_table}
+use Rattle.script_text.specs.declared.fault.ScriptFault.{ScriptFault}
+use Rattle.ntfs_host.specs.declared.refusal.Refusal.{Refusal}
+use Rattle.ntfs_host.specs.Mounts.{mounted_of}
+use Rattle.ntfs_host.specs.Scripts.{script_line}
+use Rattle.ntfs_host.specs.SerialRuns.{IsRunOf}
+use Rattle.ntfs_host.specs.Text.{refusal_line}
+
+-- the printed text of a serial run of the script from the tree of these records, with each command's turn, at this count
+-- of faults of the device
+pub record IsPrintedRun (records : List (Option Record)) (script : List Command) (faults : ℕ) (text : List ℕ) : Type 0 where
+  pub turns : List Turn
+  pub run : IsRunOf standard_table (nodes_of (table_in records) (length records)) (all_links (table_in records) (length records)) script faults turns
+  pub printed : IsRunText turns [] text
+
+-- the text that answers a script on a volume: that of its run, or the line of what refuses the volume
+abbrev pub IsVolumeAnswer : Result (List (Option Record)) Refusal → List Command → ℕ → List ℕ → Type 0
+IsVolumeAnswer (Ok records) script faults text = IsPrintedRun records script faults text
+IsVolumeAnswer (Err refusal) script faults text = text ≡ refusal_line refusal
+
+-- what a sink took grew by the whole text that answers a script on a volume, or by a front of it
+abbrev pub PrintsVolume : Option (List ℕ) → Option (List ℕ) → Result (List (Option Record)) Refusal → List Command → ℕ → Type 0
+PrintsVolume old new mounted script faults = (text : List ℕ) × IsVolumeAnswer mounted script faults text × Appends old new text
+
+abbrev pub PrintsVolumePart : Option (List ℕ) → Option (List ℕ) → Result (List (Option Record)) Refusal → List Command → ℕ → Type 0
+PrintsVolumePart old new mounted script faults = (text : List ℕ) × IsVolumeAnswer mounted script faults text × AppendsPart old new text
+
+-- What a sink took grew by the whole text that answers a script, or what refuses it, on a device with these sectors; what
+-- refuses the script comes first.
+abbrev pub PrintsScript : Option (List ℕ) → Option (List ℕ) → List (List ℕ) → ℕ → Result (List Command) ScriptFault → Type 0
+PrintsScript old new disk faults (Ok script) = PrintsVolume old new (mounted_of standard_table disk) script faults
+PrintsScript old new disk faults (Err fault) = Appends old new (script_line fault)
+
+-- or by a front of it
+abbrev pub PrintsScriptPart : Option (List ℕ) → Option (List ℕ) → List (List ℕ) → ℕ → Result (List Command) ScriptFault → Type 0
+PrintsScriptPart old new disk faults (Ok script) = PrintsVolumePart old new (mounted_of standard_table disk) script faults
+PrintsScriptPart old new disk faults (Err fault) = AppendsPart old new (script_line fault)
+
+-- the statuses of a run: done, refused, no script, no source, no memory, no sink, no device
+abbrev pub IsRunStatus : ℕ → Type 0
+IsRunStatus status = (status ≡ 0) ⊎ (status ≡ 3) ⊎ (status ≡ 4) ⊎ (status ≡ 5) ⊎ (status ≡ 6) ⊎ (status ≡ 7) ⊎ (status ≡ 8)

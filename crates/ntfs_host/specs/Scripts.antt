@@ -1,0 +1,22 @@
+-- A script that is read from a source.
+use Rattle.std.specs.Prelude.{ℕ, List, [], ◌∷◌, ◌++◌, codes}
+use Rattle.std.specs.Fmt.{decimal}
+use Rattle.host_base.specs.Answers.{Cause, refused, no_memory, failed}
+use Rattle.script_text.specs.declared.fault.ScriptFault.{ScriptFault}
+use Rattle.script_text.specs.declared.fault.ScriptFault.TheVariants as script
+use Rattle.ntfs_host.specs.declared.scripts.ScriptError.{ScriptError}
+use Rattle.ntfs_host.specs.declared.scripts.ScriptError.TheVariants as errors
+
+-- where an error comes from
+abbrev pub script_error_cause : ScriptError → Cause ScriptFault
+script_error_cause errors.Memory = no_memory
+script_error_cause errors.Source = failed
+script_error_cause (errors.Refused fault) = refused fault
+
+-- the line that says what refuses a script
+unfoldable pub script_line : ScriptFault → List ℕ
+script_line script.TooLarge = codes "script bytes\n"
+script_line (script.Line number rule) = codes "script line " ++ (decimal number ++ (codes " rule " ++ (decimal rule ++ 10 ∷ [])))
+script_line (script.TooManyClients client) = codes "script clients " ++ decimal client ++ 10 ∷ []
+script_line script.TooManyCommands = codes "script commands\n"
+script_line script.Memory = []

@@ -1,0 +1,163 @@
+//! The run of a script on a volume.
+ghost use Rattle.std.specs.Prelude.{◌≡◌, ◌⊎◌, ◌≤◌, IfSome, IsOk, IsErr, IsErrAnd, IfOk, string_bytes, [], Ok};
+ghost use Rattle.std.specs.Io.KnownBytes.{Appends};
+ghost use Rattle.host_base.specs.Causes.{Rose, HasFailed, AppendsPart};
+ghost use Rattle.script_text.specs.Scripts.{script_of};
+ghost use Rattle.run_model.specs.Texts.{IsRunText};
+ghost use Rattle.upcase_order.specs.Tables.{standard_table};
+ghost use Rattle.ntfs_host.specs.Mounts.{mounted_of};
+ghost use Rattle.ntfs_host.specs.Scripts.{script_line};
+ghost use Rattle.ntfs_host.specs.Runs.{IsPrintedRun, PrintsVolume, PrintsVolumePart, PrintsScript, PrintsScriptPart, IsRunStatus};
+ghost use Rattle.ntfs_host.specs.Statuses.{IsQuietStatus};
+
+use crate::mounting::mount;
+use crate::output::{write_refusal, write_script_fault};
+use crate::printing::write_lines;
+use crate::refusal::ScanError;
+use crate::running::serial_run;
+use crate::scripts::{ScriptError, read_script};
+use crate::status::{
+    DEVICE_FAULT, DONE, MEMORY, NO_SCRIPT, REFUSED, SINK_FAULT, SOURCE_FAULT, status_of,
+};
+use file_record::FileRec;
+use host_base::{Gate, Memory, Sink, Source};
+use record_tree::RecordTree;
+use run_model::Turn;
+use sector_device::Device;
+use std::alloc::Global;
+use std::sync::Wait;
+use std::thread::Threads;
+use tree_model::Script;
+use upcase_order::Upcase;
+
+// The printed text of turns.
+fn text_of(alloc: Global, turns: &[Turn]) -> Result<String, Memory>
+    ensures { IfOk result (λ text. IsRunText turns.now [] (string_bytes text)) }
+{
+    let mut text = String::new(alloc);
+    transcript::text(turns, &[], &mut text)?;
+    Ok(text)
+}
+
+// The printed text of the run of a script on the tree of these records.
+fn run_text<R: Threads + Wait, D: Device, G: Gate>(
+    rt: &R,
+    alloc: Global,
+    upper: &[u16],
+    records: &[Option<FileRec>],
+    script: &Script,
+    device: &D,
+    gate: &G,
+) -> Result<String, Memory>
+    requires { upper.now ≡ standard_table }
+    ensures { IfOk result (λ text. IsPrintedRun records.now script.now (D.fault_count device.now) (string_bytes text)) }
+{
+    let tree = RecordTree::new(alloc, upper.to_vec(alloc)?, records)?;
+    let turns = serial_run(rt, alloc, &tree, script, device, gate)?;
+    text_of(alloc, &turns)
+}
+
+// Writes that text.
+fn print_run<R: Threads + Wait, K: Sink, D: Device, G: Gate>(
+    rt: &R,
+    alloc: Global,
+    upper: &[u16],
+    records: &[Option<FileRec>],
+    script: &Script,
+    sink: &mut K,
+    device: &D,
+    gate: &G,
+) -> u8
+    requires { upper.now ≡ standard_table }
+    ensures status { (result ≡ 0) ⊎ (result ≡ 6) ⊎ (result ≡ 7) }
+    ensures done { result ≡ 0 → PrintsVolume (K.taken sink.old) (K.taken sink.new) (Ok records.now) script.now (D.fault_count device.now) }
+    ensures memory { result ≡ 6 → K.taken sink.new ≡ K.taken sink.old }
+    ensures part { result ≡ 7 → PrintsVolumePart (K.taken sink.old) (K.taken sink.new) (Ok records.now) script.now (D.fault_count device.now) }
+    ensures failed { result ≡ 7 → Rose (K.faults sink.old) (K.faults sink.new) }
+    ensures later { K.faults sink.old ≤ K.faults sink.new }
+{
+    let text = match run_text(rt, alloc, upper, records, script, device, gate) {
+        Ok(text) => text,
+        Err(Memory) => return MEMORY,
+    };
+    match write_lines(sink, text.as_bytes()) {
+        Ok(()) => DONE,
+        Err(_) => SINK_FAULT,
+    }
+}
+
+// Mounts the volume of the device, and runs the script on it.
+fn run_mounted<R: Threads + Wait, K: Sink, D: Device, G: Gate>(
+    rt: &R,
+    alloc: Global,
+    script: &Script,
+    sink: &mut K,
+    device: &mut D,
+    gate: &G,
+) -> u8
+    ensures status { IsQuietStatus result }
+    ensures done { result ≡ 0 → IfSome (D.gives device.old) (λ disk. IsOk (mounted_of standard_table disk) × PrintsVolume (K.taken sink.old) (K.taken sink.new) (mounted_of standard_table disk) script.now (D.fault_count device.new)) }
+    ensures refused { result ≡ 3 → IfSome (D.gives device.old) (λ disk. IsErr (mounted_of standard_table disk) × PrintsVolume (K.taken sink.old) (K.taken sink.new) (mounted_of standard_table disk) script.now (D.fault_count device.new)) }
+    ensures memory { result ≡ 6 → IfSome (D.gives device.old) (λ disk. (K.taken sink.new ≡ K.taken sink.old) ⊎ PrintsVolumePart (K.taken sink.old) (K.taken sink.new) (mounted_of standard_table disk) script.now (D.fault_count device.new)) }
+    ensures part { result ≡ 7 → IfSome (D.gives device.old) (λ disk. PrintsVolumePart (K.taken sink.old) (K.taken sink.new) (mounted_of standard_table disk) script.now (D.fault_count device.new)) }
+    ensures sink_failed { result ≡ 7 → Rose (K.faults sink.old) (K.faults sink.new) }
+    ensures device_failed { result ≡ 8 → HasFailed (D.fault_count device.old) (D.fault_count device.new) (D.moment_of device.new) }
+    ensures silent { result ≡ 8 → K.taken sink.new ≡ K.taken sink.old }
+    ensures gives { D.gives device.new ≡ D.gives device.old }
+{
+    let upper = match Upcase::standard(alloc) {
+        Ok(upper) => upper,
+        Err(Memory) => return MEMORY,
+    };
+    match mount(alloc, upper.as_slice(), device) {
+        Ok(records) => print_run(
+            rt,
+            alloc,
+            upper.as_slice(),
+            &records,
+            script,
+            sink,
+            device,
+            gate,
+        ),
+        Err(ScanError::Refused(refusal)) => status_of(write_refusal(alloc, sink, refusal), REFUSED),
+        Err(ScanError::Memory) => MEMORY,
+        Err(ScanError::Device) => DEVICE_FAULT,
+    }
+}
+
+/// Reads the script of the source and runs it on the volume of the device; its text, or the line of
+/// what refuses the script or the volume, goes to the sink. The answer is the status.
+///
+/// The whole source is read first, then the volume is mounted, then the commands have their turns,
+/// and then the text is written, a line at a time. The device is only read.
+pub fn run_command<R: Threads + Wait, S: Source, K: Sink, D: Device, G: Gate>(
+    rt: &R,
+    alloc: Global,
+    source: &mut S,
+    sink: &mut K,
+    device: &mut D,
+    gate: &G,
+) -> u8
+    ensures status { IsRunStatus result }
+    ensures done { result ≡ 0 → IfSome (S.left source.old) (λ bytes. IsOk (script_of bytes) × IfSome (D.gives device.old) (λ disk. IsOk (mounted_of standard_table disk) × PrintsScript (K.taken sink.old) (K.taken sink.new) disk (D.fault_count device.new) (script_of bytes))) }
+    ensures refused { result ≡ 3 → IfSome (S.left source.old) (λ bytes. IsOk (script_of bytes) × IfSome (D.gives device.old) (λ disk. IsErr (mounted_of standard_table disk) × PrintsScript (K.taken sink.old) (K.taken sink.new) disk (D.fault_count device.new) (script_of bytes))) }
+    ensures no_script { result ≡ 4 → IfSome (S.left source.old) (λ bytes. IsErrAnd (script_of bytes) (λ fault. Appends (K.taken sink.old) (K.taken sink.new) (script_line fault))) }
+    ensures source_failed { result ≡ 5 → Rose (S.faults source.old) (S.faults source.new) }
+    ensures memory { result ≡ 6 → IfSome (S.left source.old) (λ bytes. IfSome (D.gives device.old) (λ disk. (K.taken sink.new ≡ K.taken sink.old) ⊎ PrintsScriptPart (K.taken sink.old) (K.taken sink.new) disk (D.fault_count device.new) (script_of bytes))) }
+    ensures part { result ≡ 7 → IfSome (S.left source.old) (λ bytes. IfSome (D.gives device.old) (λ disk. PrintsScriptPart (K.taken sink.old) (K.taken sink.new) disk (D.fault_count device.new) (script_of bytes))) }
+    ensures sink_failed { result ≡ 7 → Rose (K.faults sink.old) (K.faults sink.new) }
+    ensures device_failed { result ≡ 8 → HasFailed (D.fault_count device.old) (D.fault_count device.new) (D.moment_of device.new) }
+    ensures silent { (result ≡ 5) ⊎ (result ≡ 8) → K.taken sink.new ≡ K.taken sink.old }
+    ensures gives { D.gives device.new ≡ D.gives device.old }
+{
+    match read_script(alloc, source) {
+        Ok(script) => run_mounted(rt, alloc, &script, sink, device, gate),
+        Err(ScriptError::Refused(fault)) => status_of(
+            write_script_fault(alloc, sink, fault),
+            NO_SCRIPT,
+        ),
+        Err(ScriptError::Memory) => MEMORY,
+        Err(ScriptError::Source) => SOURCE_FAULT,
+    }
+}
