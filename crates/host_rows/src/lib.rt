@@ -21,3 +21,5 @@ mod rules;
 mod runs;
 #[cfg(test)]
 mod scripts;
+#[cfg(test)]
+mod steps;
