@@ -2,7 +2,7 @@ ghost use Rattle.std.specs.Prelude.{◌≡◌, ◌≤◌, true, length, IsTrue};
 ghost use Rattle.record_model.specs.Attributes.{is_mapped, is_thin, has_held, header_length, has_length, is_name_inside, is_value_inside, is_inside, head_of, held_of, sizes_of};
 
 use disk_model::{u8_at, u16_at, u32_at, u64_at};
-use record_model::{Head, Sizes};
+use record_model::{AttributeFlags, Head, Sizes};
 
 // The fields of an attribute's header (Linux-NTFS documentation, "Attribute Header"). `a` is the
 // attribute's own bytes.
@@ -19,7 +19,7 @@ pub fn is_mapped(a: &[u8]) -> bool
 fn is_thin(flags: u16) -> bool
     ensures { result ≡ is_thin flags }
 {
-    flags % 2 == 1 || flags / 0x8000 % 2 == 1
+    AttributeFlags::has_compressed(flags) || AttributeFlags::has_sparse(flags)
 }
 
 // Whether a mapped attribute has the field with the size of the clusters really held.

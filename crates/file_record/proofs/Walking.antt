@@ -15,14 +15,15 @@ use Rattle.record_model.proofs.Attributes.{own_from_length, header_low}
 use Rattle.attr_codec.specs.Reading.{own_bytes, attr_at}
 use Rattle.file_record.specs.declared.fault.RecFault.{RecFault}
 use Rattle.file_record.specs.declared.fault.RecFault.TheVariants.{Rule, Memory}
+use Rattle.file_record.specs.declared.walk.Attributes.{Attributes}
 use Rattle.file_record.specs.declared.walk.Found.{Found}
 use Rattle.file_record.specs.Faults.{rec_cause}
 use Rattle.file_record.specs.Walks.{length_at, nothing_found, with_attr, with_outside, with_found, verdict_of, attributes_of, attributes_at}
 
 -- the rules from 4 on, in their order
-abbrev pub chain : Bool → Bool → Bool → Bool → List Attr → Result (List Attr) ℕ
+abbrev pub chain : Bool → Bool → Bool → Bool → List Attr → Result Attributes ℕ
 chain rises ended inside lawful attrs =
-    needs rises 4 >>= λ _. needs ended 5 >>= λ _. needs inside 6 >>= λ _. needs lawful 8 >>= λ _. Ok attrs
+    needs rises 4 >>= λ _. needs ended 5 >>= λ _. needs inside 6 >>= λ _. Ok (record { attrs = attrs; lawful = lawful })
 
 -- types don't fall, from this one on
 abbrev rises_from : ℕ → List (List ℕ) → Bool
@@ -41,7 +42,7 @@ rises_from_none [] = refl
 rises_from_none (p ∷ pieces) = rises_after p pieces ∙ ap (λ (b : Bool). b && rises_from (field 0 4 p) pieces) (sym (zero_le (field 0 4 p)))
 
 -- what was found, and the pieces that follow
-abbrev pub judged : Found → Pieces → Result (List Attr) ℕ
+abbrev pub judged : Found → Pieces → Result Attributes ℕ
 judged f p =
     chain (f.rises && rises_from f.least p.pieces) p.ended (f.inside && list_all is_inside p.pieces)
     (f.lawful && list_all has_lawful_value (map attr_of p.pieces)) (f.attrs ++ map attr_of p.pieces)
@@ -216,7 +217,7 @@ later_piece f piece (Ok p) = sym (judged_more f piece p)
 later_piece f piece (Err e) = refl
 
 -- what the walk comes to, with so many attributes at most
-abbrev pub still : ℕ → List ℕ → Found → Result (List Attr) ℕ
+abbrev pub still : ℕ → List ℕ → Found → Result Attributes ℕ
 still most rest f = cut most rest >>= judged f
 
 one_step : (count i : ℕ) (rest : List ℕ) (f : Found) → i < count → still (count - i) rest f ≡ still (suc (count - (i + 1))) rest f

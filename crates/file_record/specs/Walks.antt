@@ -7,6 +7,7 @@ use Rattle.record_model.specs.declared.attribute.Attr.{Attr}
 use Rattle.record_model.specs.Attributes.{has_length, is_inside, attr_of}
 use Rattle.record_model.specs.Values.{has_lawful_value}
 use Rattle.record_model.specs.Records.{Pieces, cut, most_attributes, types_rise}
+use Rattle.file_record.specs.declared.walk.Attributes.{Attributes}
 use Rattle.file_record.specs.declared.walk.Found.{Found}
 
 -- the length of the attribute at the front of these bytes, or rule 3
@@ -38,19 +39,18 @@ unfoldable pub with_found : Found → List ℕ → Found
 with_found found piece = if is_inside piece then with_attr found (attr_of piece) else with_outside found (field 0x00 4 piece)
 
 -- the attributes that were found, or the least rule that is broken
-abbrev pub verdict_of : Found → Bool → Result (List Attr) ℕ
+abbrev pub verdict_of : Found → Bool → Result Attributes ℕ
 verdict_of found ended =
-    needs found.rises 4 >>= λ _. needs ended 5 >>= λ _. needs found.inside 6 >>= λ _. needs found.lawful 8 >>= λ _. Ok found.attrs
+    needs found.rises 4 >>= λ _. needs ended 5 >>= λ _. needs found.inside 6 >>= λ _. Ok (record { attrs = found.attrs; lawful = found.lawful })
 
--- the attributes of the pieces, or the least rule from 4 on that they break
-abbrev pub attributes_of : Pieces → Result (List Attr) ℕ
+-- the attributes of the pieces, or the least of the rules 4 to 6 that they break
+abbrev pub attributes_of : Pieces → Result Attributes ℕ
 attributes_of p =
     needs (types_rise p.pieces) 4
     >>= λ _. needs p.ended 5
     >>= λ _. needs (list_all is_inside p.pieces) 6
-    >>= λ _. needs (list_all has_lawful_value (map attr_of p.pieces)) 8
-    >>= λ _. Ok (map attr_of p.pieces)
+    >>= λ _. Ok (record { attrs = map attr_of p.pieces; lawful = list_all has_lawful_value (map attr_of p.pieces) })
 
--- the attributes that stand in these bytes up to the end mark, or the least rule from 3 on that is broken
-unfoldable pub attributes_at : List ℕ → Result (List Attr) ℕ
+-- the attributes that stand in these bytes up to the end mark, or the least of the rules 3 to 6 that is broken
+unfoldable pub attributes_at : List ℕ → Result Attributes ℕ
 attributes_at bytes = cut most_attributes bytes >>= attributes_of

@@ -11,6 +11,6 @@ mod tests;
 mod walk;
 
 pub use fault::RecFault;
-pub use record::FileRec;
+pub use record::{FileRec, Shaped};
 pub use record_model::{Attr, AttrList, Head, OwnForm, RecHead, Sizes};
 pub use utf16_name::Units;

@@ -1,15 +1,15 @@
-ghost use Rattle.std.specs.Prelude.{◌≡◌, true, length};
+ghost use Rattle.std.specs.Prelude.{◌≡◌, ◌++◌, [], ◌∷◌, true, length, IfOk, OnOk, OnErr};
 ghost use Rattle.host_base.specs.Answers.{Gives};
-ghost use Rattle.record_model.specs.Records.{has_first, has_size, attribute_bytes, rec_head_of, record_at};
+ghost use Rattle.record_model.specs.Records.{has_first, has_size, attribute_bytes, rec_head_of, record_at, shaped_at, has_lawful_values};
 ghost use Rattle.file_record.specs.Faults.{rec_cause};
 ghost use Rattle.file_record.specs.Walks.{attributes_at};
 
 use crate::fault::RecFault;
-use crate::walk::attributes_at;
+use crate::walk::{Attributes, attributes_at};
 use disk_model::{u16_at, u32_at, u64_at};
 use host_base::FileRef;
-use record_model::{AttrList, RecHead};
-use std::alloc::Global;
+use record_model::{Attr, AttrList, RecHead};
+use std::alloc::{AllocError, Global};
 use std::marker::Model;
 
 /// A file record: the fields of its header, and its attributes in order.
@@ -66,11 +66,11 @@ fn rec_head(body: &[u8]) -> RecHead
 
 // The attributes of a body whose first two rules hold.
 #[tactic(auto, using(crate::proofs::Whole::bounds), unfolding(record_model::specs::Records::attribute_bytes))]
-fn attributes(alloc: Global, body: &[u8]) -> Result<AttrList, RecFault>
+fn attributes(alloc: Global, body: &[u8]) -> Result<Attributes, RecFault>
     requires whole { length body.now ≡ 1024 }
     requires first { has_first body.now ≡ true }
     requires size { has_size body.now ≡ true }
-    ensures { Gives (λ attrs. attrs) rec_cause result (attributes_at (attribute_bytes body.now)) }
+    ensures { Gives (λ attributes. attributes) rec_cause result (attributes_at (attribute_bytes body.now)) }
 {
     let first = u16_at(body, 0x14) as usize;
     let used = u32_at(body, 0x18) as usize;
@@ -78,14 +78,23 @@ fn attributes(alloc: Global, body: &[u8]) -> Result<AttrList, RecFault>
     attributes_at(alloc, later.split_at(used - first).0)
 }
 
+/// A record by the shape of its bytes, and whether its values are lawful.
+#[derive(Debug, Drop)]
+pub struct Shaped {
+    pub file: FileRec,
+    /// Whether its standard information and its file names are resident and in shape (rule 8).
+    pub lawful: bool,
+}
+
 impl FileRec {
-    /// The record of these 1,024 bytes, whose update sequence is undone (Linux-NTFS documentation,
-    /// "FILE Record"). `Rule` has the least rule that they break, and `Memory` is want of memory.
-    /// It takes time and memory linear in the bytes.
+    /// The record of these 1,024 bytes, whose update sequence is undone, whatever its values hold
+    /// (Linux-NTFS documentation, "FILE Record"). `Rule` has the least of the rules 1 to 6 that they
+    /// break, and `Memory` is want of memory. It takes time and memory linear in the bytes.
     #[tactic(auto, using(crate::proofs::Whole::answers))]
-    pub fn read(alloc: Global, body: &[u8]) -> Result<FileRec, RecFault>
+    pub fn read_shaped(alloc: Global, body: &[u8]) -> Result<Shaped, RecFault>
         requires { length body.now ≡ 1024 }
-        ensures value { Gives (λ r. r) rec_cause result (record_at body.now) }
+        ensures value { Gives (λ s. s.file) rec_cause result (shaped_at body.now) }
+        ensures lawful { IfOk result (λ s. s.lawful ≡ has_lawful_values s.file) }
     {
         if !has_first(body) {
             return Err(RecFault::Rule { rule: 1 });
@@ -93,11 +102,27 @@ impl FileRec {
         if !has_size(body) {
             return Err(RecFault::Rule { rule: 2 });
         }
-        let attrs = attributes(alloc, body)?;
-        Ok(FileRec {
+        let Attributes { attrs, lawful } = attributes(alloc, body)?;
+        let file = FileRec {
             head: rec_head(body),
             attrs,
-        })
+        };
+        Ok(Shaped { file, lawful })
+    }
+
+    /// The record of these 1,024 bytes, whose update sequence is undone (Linux-NTFS documentation,
+    /// "FILE Record"). `Rule` has the least rule that they break, and `Memory` is want of memory.
+    /// It takes time and memory linear in the bytes.
+    #[tactic(auto, using(crate::proofs::Whole::by_shape))]
+    pub fn read(alloc: Global, body: &[u8]) -> Result<FileRec, RecFault>
+        requires { length body.now ≡ 1024 }
+        ensures value { Gives (λ r. r) rec_cause result (record_at body.now) }
+    {
+        let Shaped { file, lawful } = FileRec::read_shaped(alloc, body)?;
+        if !lawful {
+            return Err(RecFault::Rule { rule: 8 });
+        }
+        Ok(file)
     }
 
     /// The fields of the header.
@@ -105,6 +130,14 @@ impl FileRec {
         ensures value { result ≡ self.now.head }
     {
         self.head
+    }
+
+    /// One attribute more at the end. The error is want of memory, and leaves the record.
+    pub fn push(&mut self, attr: Attr) -> Result<(), AllocError>
+        ensures ok { OnOk result (self.new ≡ record { head = self.old.head; attrs = self.old.attrs ++ attr ∷ [] }) }
+        ensures err { OnErr result (self.new ≡ self.old) }
+    {
+        self.attrs.push(attr)
     }
 
     /// The attributes, in the record's order.

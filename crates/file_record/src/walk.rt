@@ -25,6 +25,13 @@ const LENGTH_RULE: u32 = 3;
 // An attribute has at least 18 bytes (hexadecimal): 1,024 bytes have at most 42, and the end mark.
 const MOST_ATTRIBUTES: u32 = 43;
 
+/// The attributes of a record, and whether each value is lawful.
+#[derive(Drop)]
+pub struct Attributes {
+    pub attrs: AttrList,
+    pub lawful: bool,
+}
+
 // What the attributes so far come to.
 #[derive(Drop)]
 struct Found {
@@ -124,8 +131,8 @@ impl Found {
     }
 
     // The attributes, or the least rule that is broken.
-    fn verdict(self, ended: bool) -> Result<AttrList, RecFault>
-        ensures { Gives (λ attrs. attrs) rec_cause result (verdict_of self ended) }
+    fn verdict(self, ended: bool) -> Result<Attributes, RecFault>
+        ensures { Gives (λ attributes. attributes) rec_cause result (verdict_of self ended) }
     {
         if !self.rises {
             return Err(RecFault::Rule { rule: 4 });
@@ -136,18 +143,18 @@ impl Found {
         if !self.inside {
             return Err(RecFault::Rule { rule: 6 });
         }
-        if !self.lawful {
-            return Err(RecFault::Rule { rule: 8 });
-        }
-        Ok(self.attrs)
+        Ok(Attributes {
+            attrs: self.attrs,
+            lawful: self.lawful,
+        })
     }
 }
 
-/// The attributes in these bytes up to the end mark, in one walk. `Rule` has the least rule from 3 on
-/// that they break; a length at fault ends the walk.
+/// The attributes in these bytes up to the end mark, in one walk. `Rule` has the least of the rules 3
+/// to 6 that they break; a length at fault ends the walk.
 #[tactic(auto, using(crate::proofs::Walking::length_inside))]
-pub fn attributes_at(alloc: Global, bytes: &[u8]) -> Result<AttrList, RecFault>
-    ensures { Gives (λ attrs. attrs) rec_cause result (attributes_at bytes.now) }
+pub fn attributes_at(alloc: Global, bytes: &[u8]) -> Result<Attributes, RecFault>
+    ensures { Gives (λ attributes. attributes) rec_cause result (attributes_at bytes.now) }
 {
     let mut found = Found::new(alloc);
     let mut rest = bytes;

@@ -5,7 +5,7 @@ ghost use Rattle.record_model.specs.Nodes.{child_flag, is_last, has_entry_length
 
 use disk_model::{u16_at, u64_at};
 use host_base::{Bytes, FileRef};
-use record_model::{Entry, FileNameValue, ValueFault};
+use record_model::{Entry, EntryFlags, FileNameValue, ValueFault};
 use std::alloc::{AllocError, Global};
 use std_values::NamedValue;
 
@@ -20,7 +20,7 @@ pub fn child_flag(e: &[u8]) -> u16
     requires { 0x10 ≤ length e.now }
     ensures { result ≡ child_flag e.now }
 {
-    u16_at(e, 0x0c) % 2
+    u16::from(EntryFlags::has_child(u16_at(e, 0x0c)))
 }
 
 /// Whether the entry is the last of its node.
@@ -28,7 +28,7 @@ pub fn is_last(e: &[u8]) -> bool
     requires { 0x10 ≤ length e.now }
     ensures { result ≡ is_last e.now }
 {
-    u16_at(e, 0x0c) / 2 % 2 == 1
+    EntryFlags::has_last(u16_at(e, 0x0c))
 }
 
 // The bytes beside the key.

@@ -8,7 +8,7 @@ ghost use Rattle.index_node.specs.Walks.{entries_at};
 use crate::fault::NodeFault;
 use crate::walk::entries_at;
 use disk_model::u32_at;
-use record_model::EntryList;
+use record_model::{EntryList, NodeFlags};
 use std::alloc::Global;
 
 // The header of a node (Linux-NTFS documentation, "Index Record"), and that of a root. `node` is the
@@ -34,7 +34,7 @@ fn children_flag(node: &[u8]) -> u16
     requires { 0x10 ≤ length node.now }
     ensures { result ≡ children_flag node.now }
 {
-    u16::from(node[0x0c] % 2)
+    u16::from(NodeFlags::has_children(node[0x0c]))
 }
 
 /// Whether the value of an index root is one of file names, with blocks of 4,096 bytes.

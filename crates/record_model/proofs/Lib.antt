@@ -1,4 +1,5 @@
 pub mod Answering
+pub mod FlagBits
 pub mod Attributes
 pub mod Pieces
 pub mod Records
@@ -22,3 +23,4 @@ pub mod NodeSpelling
 pub mod NodeRoom
 pub mod NodeFits
 pub mod NodeRules
+pub mod Shapes

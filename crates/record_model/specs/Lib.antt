@@ -1,6 +1,7 @@
 pub mod Attributes
 pub mod Values
 pub mod Records
+pub mod ListEntries
 pub mod RecordLaws
 pub mod Pairs
 pub mod PairsLaws

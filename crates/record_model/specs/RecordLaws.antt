@@ -1,6 +1,7 @@
 -- The laws of a file record's grammar: the table against the reader, the written spelling against both, and the rules.
 use Rattle.std.specs.Prelude.{◌≡◌, ◌↔◌, ◌⊎◌, ℕ, ◌<◌, ◌≤◌, true, false, List, ◌++◌, length, map, take, Ok, Err}
 use Rattle.std.specs.List.{list_all, concat, AllByRecursion}
+use Rattle.host_base.specs.Answers.{◌>>=◌, needs}
 use Rattle.disk_model.specs.Numbers.{field}
 use Rattle.disk_model.specs.Bytes.{AreBytes, part, zeros}
 use Rattle.disk_model.specs.Content.{is_signed}
@@ -9,7 +10,7 @@ use Rattle.disk_model.specs.declared.block.BlockKind.TheVariants.{FileRec}
 use Rattle.record_model.specs.declared.attribute.Attr.{Attr}
 use Rattle.record_model.specs.Attributes.{has_length, is_inside, attr_of, spelling, SpellsAttr, FitsAttr}
 use Rattle.record_model.specs.Values.{has_lawful_value}
-use Rattle.record_model.specs.Records.{Record, has_first, has_size, attribute_bytes, is_end_mark, types_rise, record_at, record_spelling, IsFileRecord, FitsRecord}
+use Rattle.record_model.specs.Records.{Record, has_first, has_size, attribute_bytes, is_end_mark, types_rise, record_at, shaped_at, has_lawful_values, record_spelling, IsFileRecord, FitsRecord}
 
 -- ---- attributes
 
@@ -44,6 +45,10 @@ ReadIsTable = (body : List ℕ) (r : Record) → length body ≡ 1024 → AreByt
 -- a body spells at most one record
 abbrev pub SpellsOneRecord : Type 0
 SpellsOneRecord = (body : List ℕ) (r q : Record) → length body ≡ 1024 → IsFileRecord body r → IsFileRecord body q → r ≡ q
+
+-- a record is read where its shape is, and its values are lawful
+abbrev pub RecordIsShaped : Type 0
+RecordIsShaped = (body : List ℕ) → record_at body ≡ (shaped_at body >>= λ r. needs (has_lawful_values r) 8 >>= λ _. Ok r)
 
 -- the written spelling of a record is a body that spells it, and is read again
 pub record RecordReadAgain : Type 0 where

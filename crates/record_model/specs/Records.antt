@@ -90,6 +90,21 @@ record_at body =
     >>= λ _. needs (list_all has_lawful_value (map attr_of p.pieces)) 8
     >>= λ _. Ok (record { head = rec_head_of body; attrs = map attr_of p.pieces })
 
+-- The record that a body spells whatever its values hold, or the least of the rules 1 to 6 that it breaks.
+unfoldable pub shaped_at : List ℕ → Result Record ℕ
+shaped_at body =
+    needs (has_first body) 1
+    >>= λ _. needs (has_size body) 2
+    >>= λ _. cut most_attributes (attribute_bytes body)
+    >>= λ p. needs (types_rise p.pieces) 4
+    >>= λ _. needs p.ended 5
+    >>= λ _. needs (list_all is_inside p.pieces) 6
+    >>= λ _. Ok (record { head = rec_head_of body; attrs = map attr_of p.pieces })
+
+-- rule 8: its standard information and file names are lawful
+unfoldable pub has_lawful_values : Record → Bool
+has_lawful_values r = list_all has_lawful_value r.attrs
+
 -- a record is in use where the flag 1 is set, and a base record where its base reference is zero
 unfoldable pub is_in_use : List ℕ → Bool
 is_in_use body = field 0x16 2 body % 2 == 1

@@ -9,6 +9,8 @@
 
 mod attribute;
 mod entry;
+mod flags;
+mod list_entry;
 mod node_laws;
 mod pairs_laws;
 mod record;
@@ -20,6 +22,8 @@ mod values;
 
 pub use attribute::{Attr, AttrList, Head, OwnForm, Sizes};
 pub use entry::{Entry, EntryList};
+pub use flags::{AttributeFlags, EntryFlags, FileFlags, NodeFlags, RecordFlags, VolumeFlags};
+pub use list_entry::ListEntry;
 pub use node_laws::{
     node_is_body, node_is_table, node_read_again, node_rule_is_least, read_node_fits,
     root_is_table, spells_one_node, written_no_longer,
@@ -31,7 +35,7 @@ pub use pairs_laws::{
 pub use record::RecHead;
 pub use record_laws::{
     attr_read_again, attr_read_is_table, attr_table_is_read, read_is_table, record_is_body,
-    record_read_again, rule_is_least, spells_one_record, table_is_read,
+    record_is_shaped, record_read_again, rule_is_least, spells_one_record, table_is_read,
 };
 pub use runs::{PairsFault, Run, Runs};
 pub use units::units_at;

@@ -1,5 +1,5 @@
 //! The laws of a file record's grammar.
-ghost use Rattle.record_model.specs.RecordLaws.{AttrTableIsRead, AttrReadIsTable, AttrReadAgain, TableIsRead, ReadIsTable, SpellsOneRecord, RecordReadAgain, RecordIsBody, RuleIsLeast};
+ghost use Rattle.record_model.specs.RecordLaws.{AttrTableIsRead, AttrReadIsTable, AttrReadAgain, TableIsRead, ReadIsTable, SpellsOneRecord, RecordReadAgain, RecordIsBody, RuleIsLeast, RecordIsShaped};
 
 /// Law: bytes that are an attribute's spelling, whatever stands behind them, are read as it.
 pub fn attr_table_is_read()
@@ -46,4 +46,9 @@ pub fn record_is_body()
 /// Law: a refusal is the least rule that the body breaks.
 pub fn rule_is_least()
     ensures { RuleIsLeast }
+{}
+
+/// Law: a body is read as a record where its shape is that record's, whose values are lawful.
+pub fn record_is_shaped()
+    ensures { RecordIsShaped }
 {}

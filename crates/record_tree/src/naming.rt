@@ -7,6 +7,7 @@ ghost use Rattle.record_tree.specs.Tables.{table_in};
 use crate::files::file_at;
 use file_record::FileRec;
 use host_base::FileRef;
+use record_model::RecordFlags;
 use tree_model::Link;
 
 // The namespaces of Win32 names and of short names.
@@ -30,7 +31,7 @@ pub fn is_same_reference(a: FileRef, b: FileRef) -> bool
 pub fn is_directory_record(file: &FileRec) -> bool
     ensures { result ≡ is_directory_record file.now }
 {
-    file.head().flags / 2 % 2 == 1
+    RecordFlags::has_directory(file.head().flags)
 }
 
 #[tactic(auto, unfolding(state_model::specs::Files::has_type))]

@@ -12,7 +12,7 @@ use crate::files::file_at;
 use crate::names::record_links;
 use file_record::FileRec;
 use host_base::{Bytes, Memory};
-use record_model::{Attr, OwnForm, StdInfo};
+use record_model::{Attr, AttributeFlags, OwnForm, RecordFlags, StdInfo};
 use std::alloc::{AllocError, Global};
 use std_values::FixedValue;
 use tree_model::{Kind, Link, Node, Why};
@@ -125,19 +125,19 @@ fn info_of(file: &FileRec) -> StdInfo
 fn is_encrypted(flags: u16) -> bool
     ensures { result ≡ is_encrypted flags }
 {
-    flags / 0x4000 % 2 == 1
+    AttributeFlags::has_encrypted(flags)
 }
 
 fn is_compressed(flags: u16) -> bool
     ensures { result ≡ is_compressed flags }
 {
-    flags % 2 == 1
+    AttributeFlags::has_compressed(flags)
 }
 
 fn is_sparse(flags: u16) -> bool
     ensures { result ≡ is_sparse flags }
 {
-    flags / 0x8000 % 2 == 1
+    AttributeFlags::has_sparse(flags)
 }
 
 // Why the file can't be changed, the first that applies.
@@ -181,7 +181,7 @@ fn is_fixed(file: &FileRec) -> bool
 fn is_directory_record(file: &FileRec) -> bool
     ensures { result ≡ is_directory_record file.now }
 {
-    file.head().flags / 2 % 2 == 1
+    RecordFlags::has_directory(file.head().flags)
 }
 
 // What kind of file the record with this number and these names is.
