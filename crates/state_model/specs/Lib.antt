@@ -2,4 +2,6 @@ pub mod Files
 pub mod Indexes
 pub mod Trees
 pub mod Rules
+pub mod Streams
+pub mod Loads
 pub mod Laws

@@ -5,7 +5,11 @@
 #![tactic(auto)]
 
 mod broken;
+mod geometry;
 mod laws;
+mod stream;
 
 pub use broken::Broken;
+pub use geometry::{Geometry, MapRefusal};
 pub use laws::nodes_of_records;
+pub use stream::{Extents, Stream};
