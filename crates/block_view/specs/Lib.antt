@@ -1,3 +1,4 @@
+pub mod Borrowed
 pub mod Changes
 pub mod Memory
 pub mod Sizes

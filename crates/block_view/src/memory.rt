@@ -48,6 +48,10 @@ impl View for MemoryView {
 
     ghost faults = { λ v. v.faults };
 
+    ghost Kept = { Unit {0} };
+
+    ghost kept = { λ _. tt };
+
     /// Linear in the bodies held.
     fn body(&mut self, block: Block, out: &mut Body) -> Result<(), ViewFault> {
         let call = self.calls.saturating_add(1);
