@@ -1,0 +1,6 @@
+pub mod Inserting
+pub mod Joining
+pub mod Padding
+pub mod Ranges
+pub mod Reading
+pub mod SmallRuns

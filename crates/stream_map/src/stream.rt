@@ -1,0 +1,97 @@
+ghost use Rattle.std.specs.Prelude.{◌≡◌, ◌++◌, IfOk, OnOk, IfSome, length};
+ghost use Rattle.std.specs.List.{flat_map};
+ghost use Rattle.record_model.specs.Pairs.{runs_of};
+ghost use Rattle.state_model.specs.Streams.{runs_or, form_runs, piece_runs, joined, stream_of, real_size};
+ghost use Rattle.stream_map.specs.Pieces.{behind};
+ghost use Rattle.stream_map.specs.Runs.{HasSmallRuns};
+
+use super::pieces::pieces_of;
+use host_base::Memory;
+use record_model::{Attr, OwnForm, PairsFault, Run, Runs};
+use state_model::{Extents, Stream};
+use std::alloc::Global;
+
+/// The runs of mapping pairs, or none where these are at fault.
+fn runs_or(alloc: Global, first: u64, pairs: &[u8]) -> Result<Runs, Memory>
+    ensures { IfOk result (λ runs. runs ≡ runs_or (runs_of first pairs.now)) }
+{
+    match mapping_pairs::read(alloc, pairs, first) {
+        Ok(runs) => Ok(runs),
+        Err(PairsFault::Memory) => Err(Memory),
+        Err(PairsFault::Header { .. }) => Ok(Runs::new(alloc)),
+        Err(PairsFault::Cut { .. }) => Ok(Runs::new(alloc)),
+        Err(PairsFault::Range { .. }) => Ok(Runs::new(alloc)),
+    }
+}
+
+fn push_runs(alloc: Global, out: &mut Vec<Run>, form: &OwnForm) -> Result<(), Memory>
+    ensures { OnOk result (out.new.items ≡ out.old.items ++ form_runs form.now) }
+{
+    match form {
+        OwnForm::Resident { .. } => Ok(()),
+        OwnForm::Mapped { sizes, pairs } => {
+            let runs = runs_or(alloc, sizes.first, pairs.as_slice())?;
+            out.extend_from_slice(runs.as_slice())?;
+            Ok(())
+        }
+    }
+}
+
+#[tactic(auto, unfolding(state_model::specs::Streams::piece_runs))]
+fn joined_runs(alloc: Global, pieces: &[&Attr]) -> Result<Runs, Memory>
+    ensures { IfOk result (λ runs. runs ≡ flat_map piece_runs (behind pieces.now)) }
+{
+    let mut runs = Vec::new(alloc);
+    for piece in pieces {
+        push_runs(alloc, &mut runs, &piece.form)?;
+    }
+    Ok(Runs::from(runs))
+}
+
+fn joined(alloc: Global, pieces: &[&Attr]) -> Result<Option<Stream>, Memory>
+    ensures { IfOk result (λ stream. stream ≡ joined (behind pieces.now)) }
+{
+    let Some((first, _)) = pieces.split_first() else {
+        return Ok(None);
+    };
+    match &first.form {
+        OwnForm::Resident { value, .. } => Ok(Some(Stream::Held(value.clone()?))),
+        OwnForm::Mapped { sizes, .. } => Ok(Some(Stream::Placed(Extents {
+            runs: joined_runs(alloc, pieces)?,
+            allocated: sizes.allocated,
+            real: sizes.real,
+            initialised: sizes.initialised,
+        }))),
+    }
+}
+
+/// The stream with this type and name (in UTF-16 units) among a record's attributes, if there is
+/// one (Linux-NTFS documentation, "Attribute Header"): the value of its first piece, where that is
+/// resident, else the runs of all its pieces by rising first VCN, with the sizes of the first. A
+/// piece whose mapping pairs are at fault has no runs. The error is want of memory.
+///
+/// Linear in the attributes and the runs where the pieces stand by rising first VCN; each piece
+/// that does not takes one pass over the pieces before it.
+#[tactic(auto, unfolding(state_model::specs::Streams::stream_of))]
+pub fn stream_of(
+    alloc: Global,
+    kind: u32,
+    name: &[u16],
+    attrs: &[Attr],
+) -> Result<Option<Stream>, Memory>
+    ensures value { IfOk result (λ stream. stream ≡ stream_of kind name.now attrs.now) }
+    ensures small { IfOk result (λ stream. IfSome stream HasSmallRuns) }
+{
+    let pieces = pieces_of(alloc, kind, name, attrs)?;
+    joined(alloc, &pieces)
+}
+
+/// The real size of a stream in bytes: that of its value, or the one that its first piece states.
+pub fn real_size(stream: &Stream) -> u64
+    ensures { result ≡ real_size stream.now }
+{
+    match stream {
+        Stream::Held(value) => value.len() as u64,
+        Stream::Placed(extents) => extents.real,
+    }
+}
