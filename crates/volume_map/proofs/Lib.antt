@@ -1,0 +1,6 @@
+pub mod Steps
+pub mod Numbered
+pub mod Owners
+pub mod Joins
+pub mod ReadLists
+pub mod Loaded

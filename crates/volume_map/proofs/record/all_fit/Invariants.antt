@@ -1,0 +1,7 @@
+use Rattle.std.proofs.Common.{◌≡◌, drop}
+use Rattle.std.specs.List.{list_all}
+use Rattle.state_model.specs.Loads.{has_fitting_pairs}
+use Rattle.volume_map.proofs.record.all_fit.Given as goal
+
+abbrev pub invariant-loop-attr : goal.invariant-loop-attr
+invariant-loop-attr l = list_all has_fitting_pairs (drop l.attr-index l.attrs) ≡ list_all has_fitting_pairs l.attrs

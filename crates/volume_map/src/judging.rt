@@ -1,0 +1,131 @@
+//! The least rule that each record breaks.
+ghost use Rattle.std.specs.Prelude.{◌≡◌, ◌==◌, ◌<◌, ◌≤◌, ℕ, length, IfOk, slice_index_or, None, false};
+ghost use Rattle.host_base.specs.Answers.{Gives};
+ghost use Rattle.state_model.specs.Indexes.{names_index};
+ghost use Rattle.state_model.specs.Streams.{has_cut_block, stream_of};
+ghost use Rattle.state_model.specs.Files.{is_directory_record};
+ghost use Rattle.state_model.specs.Loads.{cuts_index, has_cut_index_block, or_rule, rule_refusal, first_of, unless};
+ghost use Rattle.volume_map.specs.Errors.{map_cause};
+ghost use Rattle.volume_map.specs.Lists.{rule_by};
+
+use crate::fault::MapFault;
+use disk_model::BlockKind;
+use file_record::FileRec;
+use host_base::Memory;
+use record_model::RecordFlags;
+use state_model::{MapRefusal, Stream};
+use std::alloc::Global;
+use stream_map::{has_cut_block, stream_of};
+
+const INDEX_ALLOCATION: u32 = 0xA0;
+
+// $I30
+const NAMES_INDEX: [u16; 4] = [0x24, 0x49, 0x33, 0x30];
+
+fn has_cut_index_block(per: u64, stream: Option<Stream>) -> bool
+    requires some { 0 < per }
+    requires few { per ≤ 8 }
+    ensures { result ≡ has_cut_index_block per stream }
+{
+    match stream {
+        Some(Stream::Placed(extents)) => has_cut_block(
+            per,
+            BlockKind::Index,
+            extents.real / 4096,
+            extents.runs.as_slice(),
+        ),
+        _ => false,
+    }
+}
+
+fn is_directory(file: &FileRec) -> bool
+    ensures { result ≡ is_directory_record file.now }
+{
+    RecordFlags::has_directory(file.head().flags)
+}
+
+// Whether a block of the directory's index lies in two runs.
+#[tactic(auto, unfolding(state_model::specs::Indexes::names_index))]
+fn cuts_index(alloc: Global, per: u64, file: &Option<FileRec>) -> Result<bool, Memory>
+    requires some { 0 < per }
+    requires few { per ≤ 8 }
+    ensures { IfOk result (λ cuts. cuts ≡ cuts_index per file.now) }
+{
+    let Some(file) = file else {
+        return Ok(false);
+    };
+    if !is_directory(file) {
+        return Ok(false);
+    }
+    let stream = stream_of(
+        alloc,
+        INDEX_ALLOCATION,
+        &NAMES_INDEX,
+        file.attrs().as_slice(),
+    )?;
+    Ok(has_cut_index_block(per, stream))
+}
+
+// The rule of a record by what was found: that of 1 to 8, or 9 or 10.
+fn or_rule(rule: Option<u32>, nine: bool, ten: bool) -> Option<u32>
+    ensures { result ≡ or_rule rule nine ten }
+{
+    match rule {
+        Some(rule) => Some(rule),
+        None if nine => Some(9),
+        None if ten => Some(10),
+        None => None,
+    }
+}
+
+// The least rule that the record of that number breaks; `cut` says whether a record of the table
+// lies in two runs.
+fn rule_at(
+    alloc: Global,
+    per: u64,
+    cut: bool,
+    number: usize,
+    rules: &[Option<u32>],
+    tens: &[bool],
+    files: &[Option<FileRec>],
+) -> Result<Option<u32>, Memory>
+    requires some { 0 < per }
+    requires few { per ≤ 8 }
+    requires files { number < length files.now }
+    requires rules { number < length rules.now }
+    requires tens { number < length tens.now }
+    ensures { IfOk result (λ rule. rule ≡ rule_by per cut number rules.now tens.now files.now) }
+{
+    let nine = number == 0 && cut || cuts_index(alloc, per, &files[number])?;
+    Ok(or_rule(rules[number], nine, tens[number]))
+}
+
+/// Refuses the first record that breaks a rule, by what was found of each; `files` are the files with
+/// all their attributes. Linear in the records and the attributes of directories.
+pub fn check_rules(
+    alloc: Global,
+    per: u64,
+    cut: bool,
+    rules: &[Option<u32>],
+    tens: &[bool],
+    files: &[Option<FileRec>],
+) -> Result<(), MapFault>
+    requires some { 0 < per }
+    requires few { per ≤ 8 }
+    requires rules { length rules.now ≡ length files.now }
+    requires tens { length tens.now ≡ length files.now }
+    ensures { Gives (λ x. x) map_cause result (unless (first_of (λ n. rule_refusal n (rule_by per cut n rules.now tens.now files.now)) (length files.now))) }
+{
+    for number in 0..files.len() {
+        match rule_at(alloc, per, cut, number, rules, tens, files)? {
+            None => {}
+            Some(rule) => {
+                return Err(MapFault::Refused(MapRefusal::BadRecord {
+                    number: number as u64,
+                    rule,
+                }));
+            }
+        }
+    }
+    Ok(())
+}

@@ -1,0 +1,196 @@
+//! The file table, by record 0.
+ghost use Rattle.std.specs.Prelude.{◌≡◌, ◌+◌, ◌*◌, ◌^◌, ◌<◌, ◌≤◌, Ok, IfOk, IfSome, IsErrOf, OnOk, length};
+ghost use Rattle.host_base.specs.Answers.{Gives, GivesOrFails};
+ghost use Rattle.host_base.specs.Causes.{Rose};
+ghost use Rattle.record_model.specs.Records.{record_at};
+ghost use Rattle.state_model.specs.Files.{has_type};
+ghost use Rattle.state_model.specs.Loads.{boot_block, judged, most_records, no_extents, extents_or, record_count, table_extents, extents_in, table_of, piece_by, piece_of};
+ghost use Rattle.stream_map.specs.Runs.{AreSmall};
+ghost use Rattle.volume_map.specs.Errors.{map_cause};
+ghost use Rattle.volume_map.specs.Pieces.{seen};
+ghost use Rattle.volume_map.specs.Views.{KeepsView};
+
+use crate::fault::MapFault;
+use crate::piece::{Piece, own_piece_of, piece_of};
+use crate::record::has_all_pairs;
+use block_view::View;
+use disk_model::{Block, BlockKind, Body};
+use file_record::FileRec;
+use host_base::Memory;
+use record_model::Runs;
+use state_model::{Extents, Geometry, MapRefusal, Stream};
+use std::alloc::Global;
+use stream_map::stream_of;
+
+const DATA: u32 = 0x80;
+
+const ATTRIBUTE_LIST: u32 = 0x20;
+
+const MOST_RECORDS: u64 = 1_048_576;
+
+/// What the file record of a block is, by the rules 1 to 8; `body` is room for it.
+pub fn read_piece<V: View>(
+    alloc: Global,
+    view: &mut V,
+    block: Block,
+    body: &mut Body,
+) -> Result<Piece, MapFault>
+    requires { block.kind ≡ BlockKind.FileRec }
+    ensures answer { IfSome (V.content view.old) (λ c. GivesOrFails seen map_cause result (Ok (piece_of (c block)))) }
+    ensures kept { KeepsView V.content V.kept V.faults view.old view.new }
+    ensures fault { IsErrOf result MapFault.View → Rose (V.faults view.old) (V.faults view.new) }
+{
+    view.body(block, body)?;
+    Ok(piece_of(alloc, body)?)
+}
+
+// The same by the rules 1 to 6 and 8.
+fn read_own_piece<V: View>(
+    alloc: Global,
+    view: &mut V,
+    block: Block,
+    body: &mut Body,
+) -> Result<Piece, MapFault>
+    requires { block.kind ≡ BlockKind.FileRec }
+    ensures answer { IfSome (V.content view.old) (λ c. GivesOrFails seen map_cause result (Ok (piece_by record_at (c block)))) }
+    ensures kept { KeepsView V.content V.kept V.faults view.old view.new }
+    ensures fault { IsErrOf result MapFault.View → Rose (V.faults view.old) (V.faults view.new) }
+{
+    view.body(block, body)?;
+    Ok(own_piece_of(alloc, body)?)
+}
+
+// Where the record of that number lies, by the place that the boot sector gives the table.
+fn boot_block(geometry: Geometry, number: u64) -> Block
+    requires place { geometry.mft * geometry.per_cluster < 2 ^ 62 }
+    requires number { number < most_records }
+    ensures value { result ≡ boot_block geometry number }
+    ensures kind { result.kind ≡ BlockKind.FileRec }
+{
+    Block {
+        first: geometry.mft * geometry.per_cluster + 2 * number,
+        kind: BlockKind::FileRec,
+    }
+}
+
+/// The record of a piece that is read alone: torn, or breaking a rule, it is refused.
+pub fn judged(number: u64, piece: Piece) -> Result<Option<FileRec>, MapFault>
+    ensures { Gives (λ file. file) map_cause result (judged number (seen piece)) }
+{
+    match piece {
+        Piece::Torn => Err(MapFault::Refused(MapRefusal::BadFixup { number })),
+        Piece::Free => Ok(None),
+        Piece::Broken { rule } => Err(MapFault::Refused(MapRefusal::BadRecord { number, rule })),
+        Piece::Used(file) => Ok(Some(file)),
+    }
+}
+
+/// Whether the record has an attribute of this type.
+#[tactic(auto, unfolding(state_model::specs::Files::has_type))]
+pub fn has_type(file: &FileRec, kind: u32) -> bool
+    ensures { result ≡ has_type kind file.now }
+{
+    file.attrs()
+        .as_slice()
+        .iter()
+        .any(|attr| attr.head.kind == kind)
+}
+
+fn no_extents(alloc: Global) -> Extents
+    ensures value { result ≡ no_extents }
+    ensures small { AreSmall result.runs }
+{
+    Extents {
+        runs: Runs::new(alloc),
+        allocated: 0,
+        real: 0,
+        initialised: 0,
+    }
+}
+
+// The clusters of a stream; a value in a record is too short for records.
+fn extents_or(alloc: Global, stream: Option<Stream>) -> Extents
+    ensures value { result ≡ extents_or stream }
+{
+    match stream {
+        Some(Stream::Placed(extents)) => extents,
+        _ => no_extents(alloc),
+    }
+}
+
+// The clusters of the record's unnamed data.
+#[tactic(auto, unfolding(state_model::specs::Loads::table_extents, state_model::specs::Loads::data_stream))]
+fn table_extents(alloc: Global, file: &FileRec) -> Result<Extents, Memory>
+    ensures value { IfOk result (λ e. e ≡ table_extents file.now) }
+    ensures small { IfOk result (λ e. AreSmall e.runs) }
+{
+    let stream = stream_of(alloc, DATA, &[], file.attrs().as_slice())?;
+    match stream {
+        Some(Stream::Placed(extents)) => Ok(extents),
+        _ => Ok(no_extents(alloc)),
+    }
+}
+
+// The clusters of the table by record 0, or what refuses it.
+#[tactic(auto, unfolding(state_model::specs::Loads::extents_in))]
+fn extents_in(alloc: Global, file: Option<FileRec>) -> Result<Extents, MapFault>
+    ensures value { Gives (λ e. e) map_cause result (extents_in file) }
+    ensures small { IfOk result (λ e. AreSmall e.runs) }
+    ensures few { IfOk result (λ e. record_count e ≤ most_records) }
+{
+    let Some(file) = file else {
+        return Ok(no_extents(alloc));
+    };
+    if has_type(&file, ATTRIBUTE_LIST) {
+        return Err(MapFault::Refused(MapRefusal::MftList));
+    }
+    let extents = table_extents(alloc, &file)?;
+    let records = extents.real / 1024;
+    if records > MOST_RECORDS {
+        return Err(MapFault::Refused(MapRefusal::MftLarge { records }));
+    }
+    if !has_all_pairs(alloc, &file)? {
+        return Err(MapFault::Refused(MapRefusal::BadRecord { number: 0, rule: 7 }));
+    }
+    Ok(extents)
+}
+
+/// The clusters of the file table, by record 0 where the boot sector says that the table begins, or
+/// what refuses it; `body` is room for a body.
+pub fn table_of<V: View>(
+    alloc: Global,
+    view: &mut V,
+    geometry: Geometry,
+    body: &mut Body,
+) -> Result<Extents, MapFault>
+    requires { geometry.mft * geometry.per_cluster < 2 ^ 62 }
+    ensures answer { IfSome (V.content view.old) (λ c. GivesOrFails (λ e. e) map_cause result (table_of c geometry)) }
+    ensures small { IfOk result (λ e. AreSmall e.runs) }
+    ensures few { IfOk result (λ e. record_count e ≤ most_records) }
+    ensures kept { KeepsView V.content V.kept V.faults view.old view.new }
+    ensures fault { IsErrOf result MapFault.View → Rose (V.faults view.old) (V.faults view.new) }
+{
+    let piece = read_own_piece(alloc, view, boot_block(geometry, 0), body)?;
+    let file = judged(0, piece)?;
+    extents_in(alloc, file)
+}
+
+/// The record of that number, where the boot sector says that the table begins, by the rules 1 to 8;
+/// none where it isn't in use. One that is torn, or breaks a rule, is refused. `body` is room for a
+/// body.
+pub fn boot_record<V: View>(
+    alloc: Global,
+    view: &mut V,
+    geometry: Geometry,
+    number: u64,
+    body: &mut Body,
+) -> Result<Option<FileRec>, MapFault>
+    requires place { geometry.mft * geometry.per_cluster < 2 ^ 62 }
+    requires number { number < most_records }
+    ensures answer { IfSome (V.content view.old) (λ c. GivesOrFails (λ file. file) map_cause result (judged number (piece_of (c (boot_block geometry number))))) }
+    ensures kept { KeepsView V.content V.kept V.faults view.old view.new }
+    ensures fault { IsErrOf result MapFault.View → Rose (V.faults view.old) (V.faults view.new) }
+{
+    let piece = read_piece(alloc, view, boot_block(geometry, number), body)?;
+    judged(number, piece)
+}
