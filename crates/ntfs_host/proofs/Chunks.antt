@@ -11,10 +11,10 @@ use Rattle.disk_model.proofs.Sectors.{part-raw_from}
 use Rattle.sector_device.specs.Sectors.{IsDiskOf}
 use Rattle.ntfs_host.specs.declared.piece.Piece.{Piece}
 use Rattle.ntfs_host.specs.declared.walk.Findings.{Findings}
-use Rattle.ntfs_host.specs.declared.refusal.Refusal.{Refusal}
-use Rattle.ntfs_host.specs.declared.refusal.ScanError.{ScanError}
-use Rattle.ntfs_host.specs.declared.refusal.ScanError.TheVariants as errors
-use Rattle.ntfs_host.specs.Errors.{scan_cause}
+use Rattle.image_scan.specs.declared.refusal.Refusal.{Refusal}
+use Rattle.image_scan.specs.declared.refusal.ScanError.{ScanError}
+use Rattle.image_scan.specs.declared.refusal.ScanError.TheVariants as errors
+use Rattle.image_scan.specs.Errors.{scan_cause}
 use Rattle.ntfs_host.specs.Pieces.{piece_of}
 use Rattle.ntfs_host.specs.Reading.{IsDeviceOrMemory}
 use Rattle.ntfs_host.specs.Scan.{piece_at}

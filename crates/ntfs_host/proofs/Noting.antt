@@ -4,10 +4,10 @@ use Rattle.host_base.specs.Answers.{Explains, ExplainsOrFails}
 use Rattle.tree_model.specs.declared.link.Link.{Link}
 use Rattle.ntfs_host.specs.declared.piece.Piece.{Piece}
 use Rattle.ntfs_host.specs.declared.walk.Findings.{Findings}
-use Rattle.ntfs_host.specs.declared.refusal.Refusal.{Refusal}
-use Rattle.ntfs_host.specs.declared.refusal.ScanError.{ScanError}
-use Rattle.ntfs_host.specs.declared.refusal.ScanError.TheVariants as errors
-use Rattle.ntfs_host.specs.Errors.{scan_cause}
+use Rattle.image_scan.specs.declared.refusal.Refusal.{Refusal}
+use Rattle.image_scan.specs.declared.refusal.ScanError.{ScanError}
+use Rattle.image_scan.specs.declared.refusal.ScanError.TheVariants as errors
+use Rattle.image_scan.specs.Errors.{scan_cause}
 use Rattle.ntfs_host.specs.Links.{piece_links}
 use Rattle.ntfs_host.specs.Tables.{torn_refusal, rule_refusal, unbuilt_refusal, first_some, first_of, joined, unless}
 use Rattle.ntfs_host.specs.Walks.{Notes, FoundBelow}

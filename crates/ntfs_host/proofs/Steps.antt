@@ -14,11 +14,11 @@ use Rattle.tree_model.specs.declared.link.Link.{Link}
 use Rattle.ntfs_host.specs.declared.piece.Piece.{Piece}
 use Rattle.ntfs_host.specs.declared.table.DataRun.{DataRun}
 use Rattle.ntfs_host.specs.declared.walk.Findings.{Findings}
-use Rattle.ntfs_host.specs.declared.refusal.Refusal.{Refusal}
-use Rattle.ntfs_host.specs.declared.refusal.Refusal.TheVariants.{Unbuilt}
-use Rattle.ntfs_host.specs.declared.refusal.ScanError.{ScanError}
-use Rattle.ntfs_host.specs.declared.refusal.ScanError.TheVariants as errors
-use Rattle.ntfs_host.specs.Errors.{scan_cause}
+use Rattle.image_scan.specs.declared.refusal.Refusal.{Refusal}
+use Rattle.image_scan.specs.declared.refusal.Refusal.TheVariants.{Unbuilt}
+use Rattle.image_scan.specs.declared.refusal.ScanError.{ScanError}
+use Rattle.image_scan.specs.declared.refusal.ScanError.TheVariants as errors
+use Rattle.image_scan.specs.Errors.{scan_cause}
 use Rattle.ntfs_host.specs.Scan.{piece_at, log_of, table_of, volume_on}
 use Rattle.ntfs_host.specs.Volumes.{volume_of}
 use Rattle.ntfs_host.specs.Tables.{judged, log_place, is_emptied, has_empty_log, record_count, some_or, table_links}

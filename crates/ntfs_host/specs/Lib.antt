@@ -1,4 +1,3 @@
-pub mod Errors
 pub mod Volumes
 pub mod Pieces
 pub mod Links

@@ -12,8 +12,8 @@ use Rattle.record_tree.specs.Tables.{table_in}
 use Rattle.ntfs_host.specs.declared.boot.Volume.{Volume}
 use Rattle.ntfs_host.specs.declared.piece.Piece.{Piece}
 use Rattle.ntfs_host.specs.declared.piece.Piece.TheVariants.{Torn, Free, Broken as broken_piece, Used}
-use Rattle.ntfs_host.specs.declared.refusal.Refusal.{Refusal}
-use Rattle.ntfs_host.specs.declared.refusal.Refusal.TheVariants.{Unbuilt, BadVolume}
+use Rattle.image_scan.specs.declared.refusal.Refusal.{Refusal}
+use Rattle.image_scan.specs.declared.refusal.Refusal.TheVariants.{Unbuilt, BadVolume}
 use Rattle.ntfs_host.specs.Scan.{piece_at, log_of, table_of, volume_on}
 use Rattle.ntfs_host.specs.Tables.{table_links, unless}
 

@@ -1,7 +1,7 @@
 -- The statuses of a command.
 use Rattle.std.specs.Prelude.{◌≡◌, ◌⊎◌, ℕ, Result, Ok, Err}
-use Rattle.ntfs_host.specs.declared.refusal.WriteError.{WriteError}
-use Rattle.ntfs_host.specs.declared.refusal.WriteError.TheVariants.{Memory, Sink}
+use Rattle.ntfs_host.specs.declared.write_error.WriteError.{WriteError}
+use Rattle.ntfs_host.specs.declared.write_error.WriteError.TheVariants.{Memory, Sink}
 
 -- the status where the text is whole, or why it is not
 abbrev pub written_status : {A : Type 0} → Result A WriteError → ℕ → ℕ

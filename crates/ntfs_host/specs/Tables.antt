@@ -17,8 +17,8 @@ use Rattle.tree_model.specs.declared.link.Link.{Link}
 use Rattle.ntfs_host.specs.declared.piece.Piece.{Piece}
 use Rattle.ntfs_host.specs.declared.piece.Piece.TheVariants.{Torn, Free, Broken, Used}
 use Rattle.ntfs_host.specs.declared.table.DataRun.{DataRun}
-use Rattle.ntfs_host.specs.declared.refusal.Refusal.{Refusal}
-use Rattle.ntfs_host.specs.declared.refusal.Refusal.TheVariants.{BadFixup, BadRecord, Unbuilt}
+use Rattle.image_scan.specs.declared.refusal.Refusal.{Refusal}
+use Rattle.image_scan.specs.declared.refusal.Refusal.TheVariants.{BadFixup, BadRecord, Unbuilt}
 use Rattle.ntfs_host.specs.Links.{piece_links}
 
 -- ---- a stream of one run

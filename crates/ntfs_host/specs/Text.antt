@@ -6,8 +6,8 @@ use Rattle.std.specs.Io.KnownBytes.{Appends}
 use Rattle.host_base.specs.Causes.{AppendsPart}
 use Rattle.utf16_name.specs.Texts.{name_text}
 use Rattle.tree_model.specs.declared.link.Link.{Link}
-use Rattle.ntfs_host.specs.declared.refusal.Refusal.{Refusal}
-use Rattle.ntfs_host.specs.declared.refusal.Refusal.TheVariants.{NotNtfs, BadFixup, BadRecord, BadVolume, Unbuilt}
+use Rattle.image_scan.specs.declared.refusal.Refusal.{Refusal}
+use Rattle.image_scan.specs.declared.refusal.Refusal.TheVariants.{NotNtfs, Geometry, VolumeLarge, Short, BadFixup, BadRecord, MftList, MftLarge, BadVolume, Unbuilt}
 use Rattle.ntfs_host.specs.Order.{IsInOrder}
 
 -- N S P Q and a blank: child and sequence, parent and sequence
@@ -29,8 +29,13 @@ links_text links = flat_map link_line links ++ total_line (length links)
 -- the line of a refusal: its number, its name and its values
 unfoldable pub refusal_line : Refusal → List ℕ
 refusal_line (NotNtfs rule) = codes "refused 1 NotNtfs " ++ decimal rule ++ 10 ∷ []
+refusal_line (Geometry offset value) = codes "refused 2 Geometry " ++ (decimal offset ++ (32 ∷ (decimal value ++ 10 ∷ [])))
+refusal_line (VolumeLarge clusters) = codes "refused 3 VolumeLarge " ++ decimal clusters ++ 10 ∷ []
+refusal_line (Short sectors device) = codes "refused 4 Short " ++ (decimal sectors ++ (32 ∷ (decimal device ++ 10 ∷ [])))
 refusal_line (BadFixup number) = codes "refused 5 BadFixup " ++ decimal number ++ 10 ∷ []
 refusal_line (BadRecord number rule) = codes "refused 6 BadRecord " ++ (decimal number ++ (32 ∷ (decimal rule ++ 10 ∷ [])))
+refusal_line MftList = codes "refused 7 MftList\n"
+refusal_line (MftLarge records) = codes "refused 8 MftLarge " ++ decimal records ++ 10 ∷ []
 refusal_line (BadVolume rule number) = codes "refused 15 BadVolume " ++ (decimal rule ++ (32 ∷ (decimal number ++ 10 ∷ [])))
 refusal_line (Unbuilt rule) = codes "refused 17 Unbuilt " ++ decimal rule ++ 10 ∷ []
 

@@ -1,10 +1,10 @@
--- The boot sector, of the volumes that are handled: clusters of one sector.
+-- The boot sector, of the volumes on which scripts are run: clusters of one sector.
 use Rattle.std.specs.Prelude.{ℕ, ◌+◌, Bool, ◌&&◌, ◌==◌, nat_le, List, slice_index, Result, Ok}
 use Rattle.host_base.specs.Answers.{◌>>=◌, needs}
 use Rattle.disk_model.specs.Numbers.{field}
 use Rattle.ntfs_host.specs.declared.boot.Volume.{Volume}
-use Rattle.ntfs_host.specs.declared.refusal.Refusal.{Refusal}
-use Rattle.ntfs_host.specs.declared.refusal.Refusal.TheVariants.{NotNtfs, Unbuilt}
+use Rattle.image_scan.specs.declared.refusal.Refusal.{Refusal}
+use Rattle.image_scan.specs.declared.refusal.Refusal.TheVariants.{NotNtfs, Unbuilt}
 
 -- NTFS and four spaces
 abbrev pub is_ntfs : List ℕ → Bool

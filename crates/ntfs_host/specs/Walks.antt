@@ -7,9 +7,9 @@ use Rattle.disk_model.specs.Content.{body_of}
 use Rattle.ntfs_host.specs.declared.piece.Piece.{Piece}
 use Rattle.ntfs_host.specs.declared.walk.Findings.{Findings}
 use Rattle.tree_model.specs.declared.link.Link.{Link}
-use Rattle.ntfs_host.specs.declared.refusal.Refusal.{Refusal}
-use Rattle.ntfs_host.specs.declared.refusal.ScanError.{ScanError}
-use Rattle.ntfs_host.specs.Errors.{scan_cause}
+use Rattle.image_scan.specs.declared.refusal.Refusal.{Refusal}
+use Rattle.image_scan.specs.declared.refusal.ScanError.{ScanError}
+use Rattle.image_scan.specs.Errors.{scan_cause}
 use Rattle.ntfs_host.specs.Links.{piece_links}
 use Rattle.ntfs_host.specs.Pieces.{piece_of}
 use Rattle.ntfs_host.specs.Tables.{torn_refusal, rule_refusal, unbuilt_refusal, first_some, first_of, joined, unless}

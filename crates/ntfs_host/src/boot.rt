@@ -3,10 +3,10 @@ ghost use Rattle.std.specs.Prelude.{◌≡◌, ◌+◌, ◌≤◌, IsTrue, IfOk,
 ghost use Rattle.host_base.specs.Answers.{Gives};
 ghost use Rattle.disk_model.specs.Numbers.{field};
 ghost use Rattle.ntfs_host.specs.Volumes.{is_built, volume_of};
-ghost use Rattle.ntfs_host.specs.Errors.{scan_cause};
+ghost use Rattle.image_scan.specs.Errors.{scan_cause};
 
-use crate::refusal::{Refusal, ScanError};
 use disk_model::{u16_at, u64_at};
+use image_scan::{Refusal, ScanError};
 
 // The name NTFS and four spaces, as a number.
 const NTFS: u64 = 0x2020_2020_5346_544e;

@@ -1,21 +1,21 @@
-//! The links of a volume, read from its device.
+//! The volume of a device on which a script is run, its log and its file table.
 ghost use Rattle.std.specs.List.{list_all};
 ghost use Rattle.std.specs.Prelude.{◌==◌, ◌≡◌, ◌+◌, ◌*◌, ◌^◌, ◌<◌, ◌≤◌, length, IfOk, IfSome, IsErrOf};
 ghost use Rattle.host_base.specs.Answers.{Gives, GivesOrFails};
 ghost use Rattle.host_base.specs.Causes.{HasFailed};
 ghost use Rattle.disk_model.specs.Sectors.{raw_from, sector_of};
 ghost use Rattle.disk_model.specs.Content.{content_of};
-ghost use Rattle.ntfs_host.specs.Errors.{scan_cause};
+ghost use Rattle.image_scan.specs.Errors.{scan_cause};
 ghost use Rattle.ntfs_host.specs.Reading.{KeepsDevice, GivesPiece, IsDeviceOrMemory};
-ghost use Rattle.ntfs_host.specs.Scan.{piece_at, log_of, table_of, table_links_of, volume_links, volume_on, scan_of};
+ghost use Rattle.ntfs_host.specs.Scan.{piece_at, log_of, table_of, volume_on};
 ghost use Rattle.ntfs_host.specs.Tables.{is_emptied, table_links};
 ghost use Rattle.ntfs_host.specs.Walks.{FoundBelow, FindsOrFails, FindsAll, settled};
 
 use crate::boot::{Volume, volume_of};
 use crate::piece::{Piece, piece_of};
-use crate::refusal::{Refusal, ScanError};
 use crate::table::{judged, log_place, record_count};
 use crate::walk::{Findings, note_chunk};
+use image_scan::{Refusal, ScanError};
 use sector_device::Device;
 use std::alloc::Global;
 use tree_model::Link;
@@ -205,40 +205,6 @@ pub fn links_of_table<D: Device>(
     settled(findings)
 }
 
-// The links of the table of a volume whose log is empty.
-fn table_links_of<D: Device>(
-    alloc: Global,
-    device: &mut D,
-    volume: Volume,
-) -> Result<Vec<Link>, ScanError>
-    requires records { volume.mft + 8 ≤ volume.total }
-    requires within { volume.total ≤ D.sector_count device.old }
-    requires small { volume.total ≤ 16777216 }
-    ensures answer { IfSome (D.gives device.old) (λ disk. GivesOrFails (λ links. links.items) scan_cause result (table_links_of disk volume)) }
-    ensures kept { KeepsDevice D.gives D.sector_count D.fault_count device.old device.new }
-    ensures fault { IsErrOf result ScanError.Device → HasFailed (D.fault_count device.old) (D.fault_count device.new) (D.moment_of device.new) }
-{
-    let count = count_records(alloc, device, volume)?;
-    links_of_table(alloc, device, volume.mft, count)
-}
-
-// The links of a volume.
-fn volume_links<D: Device>(
-    alloc: Global,
-    device: &mut D,
-    volume: Volume,
-) -> Result<Vec<Link>, ScanError>
-    requires records { volume.mft + 8 ≤ volume.total }
-    requires within { volume.total ≤ D.sector_count device.old }
-    requires small { volume.total ≤ 16777216 }
-    ensures answer { IfSome (D.gives device.old) (λ disk. GivesOrFails (λ links. links.items) scan_cause result (volume_links disk volume)) }
-    ensures kept { KeepsDevice D.gives D.sector_count D.fault_count device.old device.new }
-    ensures fault { IsErrOf result ScanError.Device → HasFailed (D.fault_count device.old) (D.fault_count device.new) (D.moment_of device.new) }
-{
-    check_log(alloc, device, volume)?;
-    table_links_of(alloc, device, volume)
-}
-
 // The volume of the device, by its boot sector.
 pub fn read_volume<D: Device>(device: &mut D) -> Result<Volume, ScanError>
     ensures answer { IfSome (D.gives device.old) (λ disk. GivesOrFails (λ v. v) scan_cause result (volume_on disk)) }
@@ -255,18 +221,4 @@ pub fn read_volume<D: Device>(device: &mut D) -> Result<Volume, ScanError>
     let mut boot = [0; 512];
     device.read(0, &mut boot)?;
     volume_of(sectors, &boot)
-}
-
-/// The links of the volume on the device, by record and then as they stand in it: each long name
-/// of a record in use. It reads records 2 and 0, and then goes over the file table once, in reads
-/// of 64 KiB, in memory for one read and the links.
-///
-/// The errors are want of memory, a failure of the device, and the first refusal that applies.
-pub fn find_links<D: Device>(alloc: Global, device: &mut D) -> Result<Vec<Link>, ScanError>
-    ensures answer { IfSome (D.gives device.old) (λ disk. GivesOrFails (λ links. links.items) scan_cause result (scan_of disk)) }
-    ensures kept { KeepsDevice D.gives D.sector_count D.fault_count device.old device.new }
-    ensures fault { IsErrOf result ScanError.Device → HasFailed (D.fault_count device.old) (D.fault_count device.new) (D.moment_of device.new) }
-{
-    let volume = read_volume(device)?;
-    volume_links(alloc, device, volume)
 }

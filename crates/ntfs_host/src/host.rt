@@ -2,23 +2,22 @@
 ghost use Rattle.std.specs.Prelude.{◌≡◌, ◌≢◌, ◌⊎◌, ◌↔◌, IsTrue, IfSome, IsSomeAnd, IsOk, IsErr, IsErrAnd, Ok, ◌≤◌};
 ghost use Rattle.std.specs.Io.KnownBytes.{Appends};
 ghost use Rattle.host_base.specs.Causes.{Rose, HasFailed, AppendsPart};
+ghost use Rattle.image_scan.specs.Scans.{scan_of};
 ghost use Rattle.script_text.specs.Scripts.{script_of};
 ghost use Rattle.upcase_order.specs.Tables.{standard_table};
 ghost use Rattle.ntfs_host.specs.Mounts.{mounted_of};
 ghost use Rattle.ntfs_host.specs.Runs.{PrintsScript, PrintsScriptPart, IsRunStatus};
-ghost use Rattle.ntfs_host.specs.Scan.{scan_of};
 ghost use Rattle.ntfs_host.specs.Scripts.{script_line};
 ghost use Rattle.ntfs_host.specs.Text.{Prints, PrintsPart};
 ghost use Rattle.ntfs_host.specs.Statuses.{IsQuietStatus};
 ghost use Rattle.ntfs_host.specs.Words.{IsScan, IsRun, usage};
 
-use crate::finding::find_links;
 use crate::order::sort;
 use crate::output::{write_links, write_refusal};
-use crate::refusal::ScanError;
 use crate::script_run::run_command;
 use crate::status::{DEVICE_FAULT, DONE, MEMORY, REFUSED, SINK_FAULT, USAGE, status_of};
 use host_base::{Gate, Sink, Source, write_all};
+use image_scan::{ScanError, scan_image};
 use sector_device::Device;
 use std::alloc::Global;
 use std::sync::Wait;
@@ -74,7 +73,7 @@ fn scan_into<K: Sink, D: Device>(alloc: Global, sink: &mut K, device: &mut D) ->
     ensures silent { result ≡ 8 → K.taken sink.new ≡ K.taken sink.old }
     ensures gives { D.gives device.new ≡ D.gives device.old }
 {
-    match find_links(alloc, device) {
+    match scan_image(alloc, device) {
         Ok(links) => print_links(alloc, sink, links),
         Err(ScanError::Refused(refusal)) => status_of(write_refusal(alloc, sink, refusal), REFUSED),
         Err(ScanError::Memory) => MEMORY,
@@ -86,9 +85,12 @@ fn scan_into<K: Sink, D: Device>(alloc: Global, sink: &mut K, device: &mut D) ->
 ///
 /// `Scan` prints a line for each long name of a file record in use, `N S P Q NAME` with the number
 /// and sequence of the file and of its directory, by file number, directory number and raw units,
-/// and then `links K`; or the line of the first refusal that applies. It reads records 2 and 0, and
-/// then goes over the file table once, in reads of 64 KiB; its memory grows with the links, which
-/// it sorts.
+/// and then `links K`; or the line of the first refusal that applies. It takes each volume whose
+/// boot sector is in the profile, wherever its file table lies, and attribute lists. It reads the
+/// boot sector, record 2 and the first pages of the log, and then goes over the file table once, in
+/// reads of 64 KiB where its records lie one behind the other. Its time is linear in the file table,
+/// and in its runs for each record, and near linear in the links, which it sorts; its memory grows
+/// with both.
 pub fn quiet_command<K: Sink, D: Device>(
     alloc: Global,
     command: &Quiet,

@@ -1,10 +1,12 @@
 //! Commands over the image of an NTFS volume: the words of a command line, the refusals of an image
 //! and the text that is printed.
 //!
-//! The contract of the top call: at status 0 the sink took the scan text of what a read of the
-//! device gives, at 3 the line of the first refusal that applies, and each other status has its
-//! cause. A scan reads the layouts of the Linux-NTFS documentation, "$Boot", "$MFT" and "FILE
-//! Record".
+//! The contract of the top call: at status 0 the sink took the text of the scan, or of a run of the
+//! script, on what a read of the device gives; at 3 the line of the first refusal that applies; and
+//! each other status has its cause. A scan takes each volume whose boot sector is in the profile,
+//! wherever its file table lies (`image_scan`). A run takes volumes with clusters of one sector, a
+//! file table of one run and no attribute lists. The layouts are those of the Linux-NTFS
+//! documentation, "$Boot", "$MFT" and "FILE Record".
 #![tactic(auto)]
 
 mod boot;
@@ -18,7 +20,6 @@ mod output;
 mod piece;
 mod printing;
 mod reading;
-mod refusal;
 mod running;
 mod script_run;
 mod scripts;
@@ -26,5 +27,6 @@ mod status;
 mod table;
 mod text;
 mod walk;
+mod write_error;
 
 pub use host::{Outcome, Quiet, ntfs_host, quiet_command};

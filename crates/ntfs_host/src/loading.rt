@@ -6,7 +6,7 @@ ghost use Rattle.disk_model.specs.declared.block.BlockKind.TheVariants.{FileRec 
 ghost use Rattle.disk_model.specs.Sectors.{sector_of};
 ghost use Rattle.disk_model.specs.Content.{body_of, content_of};
 ghost use Rattle.ntfs_host.specs.declared.piece.Piece.{Piece as the_piece};
-ghost use Rattle.ntfs_host.specs.Errors.{scan_cause};
+ghost use Rattle.image_scan.specs.Errors.{scan_cause};
 ghost use Rattle.ntfs_host.specs.Mounts.{used_record, records_of};
 ghost use Rattle.ntfs_host.specs.Pieces.{piece_of};
 ghost use Rattle.ntfs_host.specs.Reading.{KeepsDevice, IsDeviceOrMemory};
@@ -15,10 +15,10 @@ ghost use Rattle.ntfs_host.specs.Walks.{IsChunk};
 
 use crate::finding::{CHUNK_RECORDS, read_chunk};
 use crate::piece::{Piece, piece_of};
-use crate::refusal::ScanError;
 use crate::walk::record_bytes;
 use file_record::FileRec;
 use host_base::Memory;
+use image_scan::ScanError;
 use sector_device::Device;
 use std::alloc::Global;
 

@@ -5,9 +5,10 @@ ghost use Rattle.host_base.specs.Causes.{Rose, AppendsPart};
 ghost use Rattle.ntfs_host.specs.Scripts.{script_line};
 ghost use Rattle.ntfs_host.specs.Text.{links_text, refusal_line};
 
-use crate::refusal::{Refusal, WriteError};
 use crate::text::{link_line, refusal_line, script_line, total_line};
+use crate::write_error::WriteError;
 use host_base::{Sink, write_all};
+use image_scan::Refusal;
 use script_text::ScriptFault;
 use std::alloc::Global;
 use tree_model::Link;

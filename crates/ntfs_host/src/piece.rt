@@ -9,6 +9,7 @@ use disk_model::u16_at;
 use file_record::{FileRec, RecFault};
 use fixup_record::to_body;
 use host_base::Memory;
+use record_model::RecordFlags;
 use std::alloc::Global;
 
 /// A file record as it stands on the disk.
@@ -47,7 +48,7 @@ fn is_used(body: &[u8]) -> bool
     requires { length body.now ≡ 1024 }
     ensures { result ≡ is_used body.now }
 {
-    is_signed(body) && u16_at(body, 0x16) % 2 == 1
+    is_signed(body) && RecordFlags::has_in_use(u16_at(body, 0x16))
 }
 
 // What a body that isn't torn is.

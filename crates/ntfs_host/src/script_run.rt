@@ -13,7 +13,6 @@ ghost use Rattle.ntfs_host.specs.Statuses.{IsQuietStatus};
 use crate::mounting::mount;
 use crate::output::{write_refusal, write_script_fault};
 use crate::printing::write_lines;
-use crate::refusal::ScanError;
 use crate::running::serial_run;
 use crate::scripts::{ScriptError, read_script};
 use crate::status::{
@@ -21,6 +20,7 @@ use crate::status::{
 };
 use file_record::FileRec;
 use host_base::{Gate, Memory, Sink, Source};
+use image_scan::ScanError;
 use record_tree::RecordTree;
 use run_model::Turn;
 use sector_device::Device;

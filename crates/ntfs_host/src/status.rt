@@ -2,7 +2,7 @@
 ghost use Rattle.std.specs.Prelude.{◌≡◌};
 ghost use Rattle.ntfs_host.specs.Statuses.{written_status};
 
-use crate::refusal::WriteError;
+use crate::write_error::WriteError;
 
 pub const DONE: u8 = 0;
 

@@ -2,14 +2,14 @@
 ghost use Rattle.std.specs.Prelude.{◌≡◌, ◌≤◌, ◌+◌, ◌*◌, ◌/◌, IsTrue, IfOk, IfSome, IfNone, filter, [], ◌∷◌};
 ghost use Rattle.std.specs.List.{list_any};
 ghost use Rattle.ntfs_host.specs.Tables.{is_unnamed_data, only_run, form_run, data_run, judged, log_place, placed, begins_at, is_table, record_count, is_unbuilt_attr, is_unbuilt};
-ghost use Rattle.ntfs_host.specs.Errors.{scan_cause};
+ghost use Rattle.image_scan.specs.Errors.{scan_cause};
 ghost use Rattle.host_base.specs.Answers.{Gives};
 
 use crate::boot::Volume;
 use crate::piece::Piece;
-use crate::refusal::{Refusal, ScanError};
 use file_record::{Attr, FileRec, OwnForm, Sizes};
 use host_base::Memory;
+use image_scan::{Refusal, ScanError};
 use record_model::{PairsFault, Run};
 use std::alloc::Global;
 

@@ -3,8 +3,8 @@ ghost use Rattle.std.specs.Prelude.{◌≡◌, IfOk, string_bytes};
 ghost use Rattle.ntfs_host.specs.Scripts.{script_line};
 ghost use Rattle.ntfs_host.specs.Text.{link_start, link_line, total_line, refusal_line};
 
-use crate::refusal::Refusal;
 use host_base::Memory;
+use image_scan::Refusal;
 use script_text::ScriptFault;
 use std::alloc::{AllocError, Global};
 use tree_model::Link;
@@ -45,10 +45,21 @@ pub fn refusal_line(alloc: Global, refusal: Refusal) -> Result<String, AllocErro
 {
     match refusal {
         Refusal::NotNtfs { rule } => format!(in alloc; "refused 1 NotNtfs {rule}\n"),
+        Refusal::Geometry { field, value } => {
+            format!(in alloc; "refused 2 Geometry {field} {value}\n")
+        }
+        Refusal::VolumeLarge { clusters } => {
+            format!(in alloc; "refused 3 VolumeLarge {clusters}\n")
+        }
+        Refusal::Short { sectors, device } => {
+            format!(in alloc; "refused 4 Short {sectors} {device}\n")
+        }
         Refusal::BadFixup { number } => format!(in alloc; "refused 5 BadFixup {number}\n"),
         Refusal::BadRecord { number, rule } => {
             format!(in alloc; "refused 6 BadRecord {number} {rule}\n")
         }
+        Refusal::MftList => String::from_str(alloc, "refused 7 MftList\n"),
+        Refusal::MftLarge { records } => format!(in alloc; "refused 8 MftLarge {records}\n"),
         Refusal::BadVolume { rule, number } => {
             format!(in alloc; "refused 15 BadVolume {rule} {number}\n")
         }

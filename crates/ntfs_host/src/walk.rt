@@ -4,7 +4,7 @@ ghost use Rattle.host_base.specs.Answers.{Gives};
 ghost use Rattle.disk_model.specs.declared.block.BlockKind.TheVariants.{FileRec as file_kind};
 ghost use Rattle.disk_model.specs.Bytes.{part};
 ghost use Rattle.disk_model.specs.Content.{body_of};
-ghost use Rattle.ntfs_host.specs.Errors.{scan_cause};
+ghost use Rattle.image_scan.specs.Errors.{scan_cause};
 ghost use Rattle.ntfs_host.specs.Pieces.{piece_of};
 ghost use Rattle.ntfs_host.specs.Tables.{torn_refusal, unless, first_of, first_some};
 ghost use Rattle.ntfs_host.specs.Walks.{Notes, FoundBelow, IsChunk, FindsBelow};
@@ -12,8 +12,8 @@ ghost use Rattle.ntfs_host.specs.declared.piece.Piece.{Piece as the_piece};
 
 use crate::names::push_links;
 use crate::piece::{Piece, piece_of};
-use crate::refusal::{Refusal, ScanError};
 use crate::table::is_unbuilt;
+use image_scan::{Refusal, ScanError};
 use std::alloc::Global;
 use tree_model::Link;
 

@@ -1,0 +1,64 @@
+//! The boot sector of a device.
+ghost use Rattle.std.specs.Prelude.{◌≡◌, ◌≤◌, IfOk, IfSome, IsErrOf, nat_le, length};
+ghost use Rattle.host_base.specs.Answers.{Gives, GivesOrFails, needs};
+ghost use Rattle.host_base.specs.Causes.{Rose};
+ghost use Rattle.boot_sector.specs.BootSectors.{boot_of, IsInProfile};
+ghost use Rattle.volume_map.specs.Views.{KeepsView};
+ghost use Rattle.image_scan.specs.Errors.{scan_cause, boot_refusal, refused_as};
+ghost use Rattle.image_scan.specs.Scans.{boot_in, sized_on, boot_on};
+
+use crate::refusal::{Refusal, ScanError};
+use block_view::View;
+use boot_sector::Boot;
+use disk_model::{Block, BlockKind, Body};
+
+const BOOT_PLACE: Block = Block {
+    first: 0,
+    kind: BlockKind::Plain,
+};
+
+fn boot_of(bytes: &[u8]) -> Result<Boot, ScanError>
+    requires { length bytes.now ≡ 512 }
+    ensures answer { Gives (λ b. b) scan_cause result (refused_as boot_refusal (boot_of bytes.now)) }
+    ensures profile { IfOk result IsInProfile }
+{
+    Ok(Boot::read(bytes)?)
+}
+
+// The fields of the first sector.
+fn read_boot<V: View>(view: &mut V, body: &mut Body) -> Result<Boot, ScanError>
+    ensures answer { IfSome (V.content view.old) (λ c. GivesOrFails (λ b. b) scan_cause result (boot_in c)) }
+    ensures profile { IfOk result IsInProfile }
+    ensures kept { KeepsView V.content V.kept V.faults view.old view.new }
+    ensures fault { IsErrOf result ScanError.Device → Rose (V.faults view.old) (V.faults view.new) }
+{
+    view.body(BOOT_PLACE, body)?;
+    boot_of(body.bytes())
+}
+
+// Refuses a device that is shorter than its volume.
+fn sized_on(sectors: u64, boot: Boot) -> Result<Boot, ScanError>
+    requires { IsInProfile boot }
+    ensures answer { Gives (λ b. b) scan_cause result (sized_on sectors boot) }
+    ensures profile { IfOk result IsInProfile }
+{
+    if boot.sectors > sectors {
+        return Err(ScanError::Refused(Refusal::Short {
+            sectors: boot.sectors,
+            device: sectors,
+        }));
+    }
+    Ok(boot)
+}
+
+/// The fields of the boot sector of a volume on so many sectors, or what refuses it; `body` is room
+/// for a body.
+pub fn boot_on<V: View>(view: &mut V, sectors: u64, body: &mut Body) -> Result<Boot, ScanError>
+    ensures answer { IfSome (V.content view.old) (λ c. GivesOrFails (λ b. b) scan_cause result (boot_on c sectors)) }
+    ensures profile { IfOk result IsInProfile }
+    ensures kept { KeepsView V.content V.kept V.faults view.old view.new }
+    ensures fault { IsErrOf result ScanError.Device → Rose (V.faults view.old) (V.faults view.new) }
+{
+    let boot = read_boot(view, body)?;
+    sized_on(sectors, boot)
+}

@@ -1,0 +1,18 @@
+//! The long names of the volume on a device, or the first refusal of the image.
+//!
+//! The contract: `scan_image` answers the long names of the files that the device's content stands
+//! for, or the refusal of the definition, and the device is only read. The layouts are those of the
+//! Linux-NTFS documentation, "$Boot", "$LogFile", "$MFT" and "$FILE_NAME".
+#![tactic(auto)]
+
+mod boot;
+mod log;
+mod names;
+mod refusal;
+mod scan;
+
+pub use refusal::{Refusal, ScanError};
+pub use scan::scan_image;
+
+#[cfg(test)]
+mod tests;

@@ -1,0 +1,162 @@
+use block_view::ViewFault;
+use boot_sector::BootFault;
+use host_base::Failed;
+use state_model::MapRefusal;
+use std::alloc::{AllocError, AllocFailed};
+use thiserror::Error;
+use volume_map::MapFault;
+
+/// Why an image isn't taken.
+#[derive(Clone, Copy, Debug, PartialEq, Eq, Error)]
+pub enum Refusal {
+    /// The boot sector hasn't the name `NTFS` (rule 1) or its last two bytes 55 AA (rule 2).
+    #[error("not an NTFS volume: rule {rule}")]
+    NotNtfs { rule: u32 },
+    /// The boot sector's field at this offset is out of the profile; its value is the raw unsigned
+    /// number.
+    #[error("the boot field at {field} is {value}")]
+    Geometry { field: u32, value: u64 },
+    /// The volume has more than 16,777,216 clusters.
+    #[error("{clusters} clusters are too many")]
+    VolumeLarge { clusters: u64 },
+    /// The device has fewer sectors than the volume, or none.
+    #[error("the volume has {sectors} sectors and the device {device}")]
+    Short { sectors: u64, device: u64 },
+    /// This file record is torn, or the array of its update sequence is out of shape.
+    #[error("file record {number} is torn")]
+    BadFixup { number: u64 },
+    /// This file record in use breaks the rule, and no lower one.
+    #[error("file record {number} breaks rule {rule}")]
+    BadRecord { number: u64, rule: u32 },
+    /// Record 0 has an attribute list.
+    #[error("the file table has an attribute list")]
+    MftList,
+    /// The file table has more than 1,048,576 records.
+    #[error("{records} file records are too many")]
+    MftLarge { records: u64 },
+    /// The records stand for no tree: this rule is broken, first at this record.
+    #[error("the volume breaks rule {rule} at {number}")]
+    BadVolume { rule: u32, number: u64 },
+    /// The image is of a kind that isn't handled yet. A scan refuses a log whose first two pages
+    /// aren't all FF (rule 7). A run refuses a geometry (rule 1), the place of a file table (rule
+    /// 2), a log (rule 3), a record with clusters or an attribute list (rule 4), and a directory's
+    /// index with blocks (rule 5).
+    #[error("not handled yet: rule {rule}")]
+    Unbuilt { rule: u32 },
+}
+
+/// Why a scan found no links.
+#[derive(Clone, Copy, Debug, PartialEq, Eq, Error)]
+pub enum ScanError {
+    #[error("no memory")]
+    Memory,
+    #[error("the device failed")]
+    Device,
+    #[error("refused: {0}")]
+    Refused(Refusal),
+}
+
+impl From<AllocError> for ScanError {
+    ghost use Rattle.std.specs.Prelude.{◌≡◌};
+    ghost use Rattle.image_scan.specs.declared.refusal.ScanError.TheVariants as scans;
+
+    ghost from_gives = { λ _ e. e ≡ scans.Memory };
+
+    fn from(_: AllocError) -> Self {
+        ScanError::Memory
+    }
+}
+
+impl<T: Drop> From<AllocFailed<T>> for ScanError {
+    ghost use Rattle.std.specs.Prelude.{◌≡◌};
+    ghost use Rattle.image_scan.specs.declared.refusal.ScanError.TheVariants as scans;
+
+    ghost from_gives = { λ _ e. e ≡ scans.Memory };
+
+    fn from(_: AllocFailed<T>) -> Self {
+        ScanError::Memory
+    }
+}
+
+impl From<host_base::Memory> for ScanError {
+    ghost use Rattle.std.specs.Prelude.{◌≡◌};
+    ghost use Rattle.image_scan.specs.declared.refusal.ScanError.TheVariants as scans;
+
+    ghost from_gives = { λ _ e. e ≡ scans.Memory };
+
+    fn from(_: host_base::Memory) -> Self {
+        ScanError::Memory
+    }
+}
+
+impl From<Failed> for ScanError {
+    ghost use Rattle.std.specs.Prelude.{◌≡◌};
+    ghost use Rattle.image_scan.specs.declared.refusal.ScanError.TheVariants as scans;
+
+    ghost from_gives = { λ _ e. e ≡ scans.Device };
+
+    fn from(_: Failed) -> Self {
+        ScanError::Device
+    }
+}
+
+impl From<ViewFault> for ScanError {
+    ghost use Rattle.std.specs.Prelude.{◌≡◌};
+    ghost use Rattle.image_scan.specs.Errors.{error_of_view};
+
+    ghost from_gives = { λ fault e. e ≡ error_of_view fault };
+
+    fn from(fault: ViewFault) -> Self {
+        match fault {
+            ViewFault::Fault => ScanError::Device,
+            ViewFault::Memory => ScanError::Memory,
+        }
+    }
+}
+
+impl From<BootFault> for ScanError {
+    ghost use Rattle.std.specs.Prelude.{◌≡◌};
+    ghost use Rattle.image_scan.specs.Errors.{boot_refusal};
+    ghost use Rattle.image_scan.specs.declared.refusal.ScanError.TheVariants as scans;
+
+    ghost from_gives = { λ fault e. e ≡ scans.Refused (boot_refusal fault) };
+
+    fn from(fault: BootFault) -> Self {
+        ScanError::Refused(match fault {
+            BootFault::NotNtfs { rule } => Refusal::NotNtfs { rule },
+            BootFault::Geometry { field, value } => Refusal::Geometry { field, value },
+            BootFault::VolumeLarge { clusters } => Refusal::VolumeLarge { clusters },
+        })
+    }
+}
+
+impl From<MapRefusal> for Refusal {
+    ghost use Rattle.std.specs.Prelude.{◌≡◌};
+    ghost use Rattle.image_scan.specs.Errors.{map_refusal};
+
+    ghost from_gives = { λ refusal r. r ≡ map_refusal refusal };
+
+    fn from(refusal: MapRefusal) -> Self {
+        match refusal {
+            MapRefusal::BadFixup { number } => Refusal::BadFixup { number },
+            MapRefusal::BadRecord { number, rule } => Refusal::BadRecord { number, rule },
+            MapRefusal::MftList => Refusal::MftList,
+            MapRefusal::MftLarge { records } => Refusal::MftLarge { records },
+        }
+    }
+}
+
+impl From<MapFault> for ScanError {
+    ghost use Rattle.std.specs.Prelude.{◌≡◌};
+    ghost use Rattle.image_scan.specs.Errors.{error_of_map};
+
+    ghost from_gives = { λ fault e. e ≡ error_of_map fault };
+
+    fn from(fault: MapFault) -> Self {
+        match fault {
+            MapFault::Refused(refusal) => ScanError::Refused(Refusal::from(refusal)),
+            MapFault::View => ScanError::Device,
+            MapFault::Memory => ScanError::Memory,
+        }
+    }
+}

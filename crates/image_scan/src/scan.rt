@@ -1,0 +1,145 @@
+//! The links of the volume on a device.
+ghost use Rattle.std.specs.Prelude.{◌≡◌, ◌*◌, ◌^◌, ◌<◌, ◌≤◌, IfSome, IsErrOf};
+ghost use Rattle.host_base.specs.Answers.{GivesOrFails};
+ghost use Rattle.host_base.specs.Causes.{HasFailed, Rose};
+ghost use Rattle.disk_model.specs.Sectors.{sector_of};
+ghost use Rattle.disk_model.specs.Content.{content_of};
+ghost use Rattle.boot_sector.specs.BootSectors.{IsInProfile};
+ghost use Rattle.device_view.specs.Devices.{KeepsDevice};
+ghost use Rattle.volume_map.specs.Views.{KeepsView};
+ghost use Rattle.image_scan.specs.Errors.{scan_cause};
+ghost use Rattle.image_scan.specs.Scans.{geometry_of, files_of, links_in, volume_links, scan_in, scan_of};
+
+use crate::boot::boot_on;
+use crate::log::check_log;
+use crate::names::long_links;
+use crate::refusal::{Refusal, ScanError};
+use block_view::View;
+use boot_sector::Boot;
+use device_view::{DeviceView, piece_room};
+use disk_model::Body;
+use file_record::FileRec;
+use sector_device::Device;
+use state_model::Geometry;
+use std::alloc::Global;
+use tree_model::Link;
+use volume_map::load;
+
+// The files of the volume.
+fn files_of<V: View>(
+    alloc: Global,
+    view: &mut V,
+    geometry: Geometry,
+) -> Result<Vec<Option<FileRec>>, ScanError>
+    requires some { 0 < geometry.per_cluster }
+    requires few { geometry.per_cluster ≤ 8 }
+    requires place { geometry.mft * geometry.per_cluster < 2 ^ 62 }
+    ensures answer { IfSome (V.content view.old) (λ c. GivesOrFails (λ files. files.items) scan_cause result (files_of c geometry)) }
+    ensures kept { KeepsView V.content V.kept V.faults view.old view.new }
+    ensures fault { IsErrOf result ScanError.Device → Rose (V.faults view.old) (V.faults view.new) }
+{
+    Ok(load(alloc, view, geometry)?)
+}
+
+// The links of the volume's files.
+fn links_in<V: View>(
+    alloc: Global,
+    view: &mut V,
+    geometry: Geometry,
+) -> Result<Vec<Link>, ScanError>
+    requires some { 0 < geometry.per_cluster }
+    requires few { geometry.per_cluster ≤ 8 }
+    requires place { geometry.mft * geometry.per_cluster < 2 ^ 62 }
+    ensures answer { IfSome (V.content view.old) (λ c. GivesOrFails (λ links. links.items) scan_cause result (links_in c geometry)) }
+    ensures kept { KeepsView V.content V.kept V.faults view.old view.new }
+    ensures fault { IsErrOf result ScanError.Device → Rose (V.faults view.old) (V.faults view.new) }
+{
+    let files = files_of(alloc, view, geometry)?;
+    Ok(long_links(alloc, &files)?)
+}
+
+// The links of a volume of this geometry.
+fn volume_links<V: View>(
+    alloc: Global,
+    view: &mut V,
+    geometry: Geometry,
+    body: &mut Body,
+) -> Result<Vec<Link>, ScanError>
+    requires some { 0 < geometry.per_cluster }
+    requires few { geometry.per_cluster ≤ 8 }
+    requires place { geometry.mft * geometry.per_cluster < 2 ^ 62 }
+    ensures answer { IfSome (V.content view.old) (λ c. GivesOrFails (λ links. links.items) scan_cause result (volume_links c geometry)) }
+    ensures kept { KeepsView V.content V.kept V.faults view.old view.new }
+    ensures fault { IsErrOf result ScanError.Device → Rose (V.faults view.old) (V.faults view.new) }
+{
+    check_log(alloc, view, geometry, body)?;
+    links_in(alloc, view, geometry)
+}
+
+#[tactic(auto, unfolding(crate::specs::Scans::geometry_of))]
+fn geometry_of(boot: &Boot) -> Geometry
+    requires { IsInProfile boot.now }
+    ensures value { result ≡ geometry_of boot.now }
+    ensures some { 0 < result.per_cluster }
+    ensures few { result.per_cluster ≤ 8 }
+    ensures place { result.mft * result.per_cluster < 2 ^ 62 }
+{
+    Geometry {
+        per_cluster: u64::from(boot.per_cluster),
+        mft: boot.mft,
+    }
+}
+
+// The links of a view of so many sectors.
+fn scan_view<V: View>(alloc: Global, view: &mut V, sectors: u64) -> Result<Vec<Link>, ScanError>
+    ensures answer { IfSome (V.content view.old) (λ c. GivesOrFails (λ links. links.items) scan_cause result (scan_in c sectors)) }
+    ensures kept { KeepsView V.content V.kept V.faults view.old view.new }
+    ensures fault { IsErrOf result ScanError.Device → Rose (V.faults view.old) (V.faults view.new) }
+{
+    let mut body = Body::empty(alloc)?;
+    let boot = boot_on(view, sectors, &mut body)?;
+    volume_links(alloc, view, geometry_of(&boot), &mut body)
+}
+
+// The links of a device of so many sectors.
+fn scan_device<D: Device>(
+    alloc: Global,
+    device: &mut D,
+    sectors: u64,
+) -> Result<Vec<Link>, ScanError>
+    ensures answer { IfSome (D.gives device.old) (λ disk. GivesOrFails (λ links. links.items) scan_cause result (scan_in (content_of (sector_of disk)) sectors)) }
+    ensures kept { KeepsDevice D.gives D.sector_count D.fault_count device.old device.new }
+    ensures fault { IsErrOf result ScanError.Device → HasFailed (D.fault_count device.old) (D.fault_count device.new) (D.moment_of device.new) }
+{
+    let mut room = piece_room(alloc)?;
+    let mut view = DeviceView::new(&mut room, device);
+    scan_view(alloc, &mut view, sectors)
+}
+
+/// The long names of the volume on the device, by the numbers of their files and then as they stand
+/// in the file records.
+///
+/// It reads the boot sector, record 2 and the first two pages of the log, and then goes over the
+/// file table once, in reads of 64 KiB where its records lie one behind the other. Time is linear in
+/// the file table, and in its runs for each record; memory is linear in the file table.
+///
+/// - [`ScanError::Refused`]: the first refusal that applies. First [`Refusal::Short`] of 1 and 0
+///   where the device has no sectors; then those of the boot sector; then `Short` with the sectors
+///   of the volume and of the device, where the device has fewer; then record 2, by the rules 1 to
+///   8, and a log whose first two pages aren't all FF; then record 0, and all records.
+/// - [`ScanError::Device`]: the device failed.
+/// - [`ScanError::Memory`]: want of memory.
+pub fn scan_image<D: Device>(alloc: Global, device: &mut D) -> Result<Vec<Link>, ScanError>
+    ensures answer { IfSome (D.gives device.old) (λ disk. GivesOrFails (λ links. links.items) scan_cause result (scan_of disk)) }
+    ensures kept { KeepsDevice D.gives D.sector_count D.fault_count device.old device.new }
+    ensures fault { IsErrOf result ScanError.Device → HasFailed (D.fault_count device.old) (D.fault_count device.new) (D.moment_of device.new) }
+{
+    let sectors = device.sectors();
+    if sectors == 0 {
+        return Err(ScanError::Refused(Refusal::Short {
+            sectors: 1,
+            device: 0,
+        }));
+    }
+    scan_device(alloc, device, sectors)
+}
