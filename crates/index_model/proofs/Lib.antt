@@ -1,0 +1,9 @@
+pub mod OneTree
+pub mod Orders
+pub mod Marks
+pub mod Shapes
+pub mod Steps
+pub mod Sound
+pub mod Complete
+pub mod WalkLaw
+pub mod Faults

@@ -1,0 +1,5 @@
+pub mod Trees
+pub mod Indexes
+pub mod Walks
+pub mod Laws
+pub mod Breaks

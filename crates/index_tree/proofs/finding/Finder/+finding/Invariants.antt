@@ -1,0 +1,29 @@
+use Rattle.std.proofs.Common.{◌≡◌, ◌+◌, ◌*◌, ◌≤◌, drop}
+use Rattle.std.specs.Prelude.{IfSome}
+use Rattle.index_model.specs.Indexes.{node_of_block}
+use Rattle.index_model.specs.Walks.{all_judged, sought_in}
+use Rattle.index_tree.specs.Places.{place_of}
+use Rattle.index_tree.proofs.finding.Finder.+finding.Given as goal
+
+abbrev pub decreases-child : goal.decreases-child
+decreases-child g l = 5 * l.levels
+
+abbrev pub decreases-below : goal.decreases-below
+decreases-below g l = 5 * l.levels + 1
+
+abbrev pub decreases-beside : goal.decreases-beside
+decreases-beside g l = 5 * l.levels + 2
+
+abbrev pub decreases-entry : goal.decreases-entry
+decreases-entry g l = 5 * l.levels + 3
+
+abbrev pub decreases-entries : goal.decreases-entries
+decreases-entries g l = 5 * l.levels + 4
+
+-- the entries that are left, of what was met, give what all give of what was met before
+abbrev pub invariant-entries-loop-entry : goal.invariant-entries-loop-entry
+invariant-entries-loop-entry g l = record {
+  rest : IfSome (g.V.View.content l.initial.v) (λ c. all_judged (place_of l.self.dir.now) l.self.up.now l.met (sought_in l.self.up.now l.self.name.now (node_of_block c (place_of l.self.dir.now)) l.levels l.vcn (drop l.entry-index l.entries)) ≡ all_judged (place_of l.self.dir.now) l.self.up.now l.initial.met (sought_in l.self.up.now l.self.name.now (node_of_block c (place_of l.self.dir.now)) l.levels l.vcn l.entries));
+  same : g.V.View.content l.v ≡ g.V.View.content l.initial.v;
+  later : g.V.View.faults l.initial.v ≤ g.V.View.faults l.v;
+}

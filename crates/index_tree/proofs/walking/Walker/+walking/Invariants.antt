@@ -1,0 +1,26 @@
+use Rattle.std.proofs.Common.{◌≡◌, ◌+◌, ◌*◌, ◌≤◌, drop}
+use Rattle.std.specs.Prelude.{IfSome}
+use Rattle.index_model.specs.Indexes.{node_of_block}
+use Rattle.index_model.specs.Walks.{all_judged, met_in}
+use Rattle.index_tree.specs.Places.{place_of}
+use Rattle.index_tree.proofs.walking.Walker.+walking.Given as goal
+
+abbrev pub decreases-child : goal.decreases-child
+decreases-child g l = 4 * l.levels
+
+abbrev pub decreases-below : goal.decreases-below
+decreases-below g l = 4 * l.levels + 1
+
+abbrev pub decreases-entry : goal.decreases-entry
+decreases-entry g l = 4 * l.levels + 2
+
+abbrev pub decreases-entries : goal.decreases-entries
+decreases-entries g l = 4 * l.levels + 3
+
+-- the entries that are left, of what was met, give what all give of what was met before
+abbrev pub invariant-entries-loop-entry : goal.invariant-entries-loop-entry
+invariant-entries-loop-entry g l = record {
+  rest : IfSome (g.V.View.content l.initial.v) (λ c. all_judged (place_of l.self.dir.now) l.self.up.now l.met (met_in (node_of_block c (place_of l.self.dir.now)) l.levels l.vcn (drop l.entry-index l.entries)) ≡ all_judged (place_of l.self.dir.now) l.self.up.now l.initial.met (met_in (node_of_block c (place_of l.self.dir.now)) l.levels l.vcn l.entries));
+  same : g.V.View.content l.v ≡ g.V.View.content l.initial.v;
+  later : g.V.View.faults l.initial.v ≤ g.V.View.faults l.v;
+}

@@ -1,0 +1,53 @@
+-- Where an error of a call over an index comes from.
+use Rattle.std.specs.Prelude.{ℕ, ◌≤◌, ⊤, Result, Ok, Err, IfErr, Bool, true, false}
+use Rattle.host_base.specs.Answers.{Cause, refused, no_memory, failed, never}
+use Rattle.host_base.specs.Causes.{Rose}
+use Rattle.block_view.specs.declared.fault.ViewFault.{ViewFault}
+use Rattle.block_view.specs.declared.fault.ViewFault.TheVariants.{Fault, Memory}
+use Rattle.index_model.specs.declared.side.Side.{Side}
+use Rattle.index_model.specs.declared.side.Side.TheVariants.{Unnamed, Before, Same, Behind}
+use Rattle.index_model.specs.Walks.{Broken}
+use Rattle.index_tree.specs.declared.fault.TreeFault.{TreeFault}
+use Rattle.index_tree.specs.declared.fault.TreeFault.TheVariants.{Node, Present, Absent, Deep, View}
+
+abbrev pub view_cause : ViewFault → Cause Broken
+view_cause Fault = failed
+view_cause Memory = no_memory
+
+-- of a call that only reads: a refusal is a node and the rule that it breaks
+abbrev pub tree_cause : TreeFault → Cause Broken
+tree_cause (Node vcn rule) = refused (record { vcn = vcn; rule = rule })
+tree_cause Present = never
+tree_cause Absent = never
+tree_cause (Deep height) = never
+tree_cause (View cause) = view_cause cause
+
+-- the view's faults rose where it failed
+abbrev pub ViewRose : ℕ → ℕ → ViewFault → Type 0
+ViewRose before now Fault = Rose before now
+ViewRose before now Memory = ⊤
+
+-- the error of a call that only reads: a node at fault, or a view whose faults rose where it failed; no other one comes
+abbrev pub FaultRose : ℕ → ℕ → TreeFault → Type 0
+FaultRose before now (Node vcn rule) = ⊤
+FaultRose before now Present = ⊥
+FaultRose before now Absent = ⊥
+FaultRose before now (Deep height) = ⊥
+FaultRose before now (View cause) = ViewRose before now cause
+
+-- the view's faults did not fall, and rose where the call failed by them
+pub record FailsByView {T : Type 0} (before now : ℕ) (result : Result T TreeFault) : Type 0 where
+  pub later : before ≤ now
+  pub rose : IfErr result (FaultRose before now)
+
+-- the node with this VCN, or it as the one at fault
+abbrev pub broken_at : {A : Type 0} → ℕ → Result A ℕ → Result A Broken
+broken_at v (Ok x) = Ok x
+broken_at v (Err rule) = Err (record { vcn = v; rule = rule })
+
+-- a search ends at an entry of this side
+abbrev pub is_behind : Side → Bool
+is_behind Unnamed = false
+is_behind Before = false
+is_behind Same = false
+is_behind Behind = true

@@ -1,0 +1,43 @@
+ghost use Rattle.std.specs.Prelude.{◌≡◌};
+ghost use Rattle.index_model.specs.Indexes.{number_of, block_at};
+ghost use Rattle.index_tree.specs.Places.{place_of};
+
+use block_view::Block;
+use host_base::Bytes;
+
+/// Where a directory's index lies.
+#[derive(Drop)]
+pub struct DirPlace {
+    /// The value of the index root.
+    pub root: Bytes,
+    /// The index blocks in order; block i has the VCN i * step.
+    pub blocks: Vec<Block>,
+    /// The VCNs from one block to the next.
+    pub step: u64,
+    /// The used bytes of the file record that holds the root.
+    pub used: u32,
+}
+
+impl DirPlace {
+    /// The number of the block that has this VCN, if one has it.
+    pub fn number_of(&self, vcn: u64) -> usize
+        ensures { result ≡ number_of (place_of self.now) vcn }
+    {
+        if self.step == 0 {
+            0
+        } else {
+            (vcn / self.step) as usize
+        }
+    }
+
+    /// The block that has this VCN. There is none where the VCN lies outside the allocation.
+    #[tactic(auto, unfolding(index_model::specs::Indexes::block_at))]
+    pub fn block_at(&self, vcn: u64) -> Option<Block>
+        ensures { result ≡ block_at (place_of self.now) vcn }
+    {
+        if self.step == 0 || vcn % self.step != 0 {
+            return None;
+        }
+        self.blocks.get(self.number_of(vcn)).copied()
+    }
+}
