@@ -1,0 +1,54 @@
+use Rattle.std.proofs.Common.{arith, ◌≡◌, ◌<◌, Ok, Some, None, IsTrue}
+use Rattle.host_base.proofs.Known.{one}
+use Rattle.index_plan.specs.declared.plan.Rooted.{Rooted}
+use Rattle.index_model.specs.Trees.{raw}
+use Rattle.index_plan.specs.Lists.{rise, rooted}
+use Rattle.index_plan.specs.Laws.{InsertsInto, LevelFits, NeedsLevel, TakesFew}
+use Rattle.index_plan.specs.Reading.{nodes_of, way_of}
+use Rattle.index_plan.proofs.Steps.{weaker, on_ok, deeper}
+use Rattle.index_plan.proofs.Fitting.{insertion_fits, insertion_left}
+use Rattle.index_plan.proofs.Inserting.{inserts, as_level, takes_few}
+use Rattle.index_plan.proofs.insertion.plan_insert.Goals as goal
+
+pub returns-clause-plan : goal.returns-clause-plan
+returns-clause-plan g c =
+    let known = g.N.Nodes.reads c.args.nodes.now in
+    let goes = g.T.Test.goes c.args.test.now in
+    weaker c.plan_at.result (λ (p : Rooted). p ≡ rooted c.args.room c.args.root c.stop-at.result (rise c.in_ok-path.path.items (record { pending = Some (raw c.args.key None); plan = c.args.draft }))) _
+    (λ x is. one known (λ reads. way_of reads goes c.args.root ≡ Ok c.in_ok-path.path.items) (λ reads. InsertsInto (nodes_of reads) goes c.args.key c.args.draft.fresh c.args.root c.args.room x)
+    (λ reads w. inserts reads goes c.args.key c.args.root c.args.room c.stop-at.result c.in_ok-path.path.items c.args.draft x c.requires.unwritten c.stop-at.ensures.value w is) c.in_ok-path.ensures.way)
+    c.plan_at.ensures.plan
+
+pub returns-clause-level : goal.returns-clause-level
+returns-clause-level g c =
+    let known = g.N.Nodes.reads c.args.nodes.now in
+    let goes = g.T.Test.goes c.args.test.now in
+    on_ok c.plan_at.result _ _
+    (λ fits. one known (λ reads. way_of reads goes c.args.root ≡ Ok c.in_ok-path.path.items) (λ reads. LevelFits (nodes_of reads) goes c.args.key c.args.draft.fresh c.args.root c.args.room c.args.height)
+    (λ reads w. as_level reads goes c.args.key c.args.root c.args.room c.stop-at.result c.in_ok-path.path.items c.args.draft (λ more. IsTrue more → c.args.height < 16) c.requires.unwritten c.stop-at.ensures.value w fits) c.in_ok-path.ensures.way)
+    c.plan_at.ensures.level
+
+pub returns-clause-deep : goal.returns-clause-deep
+returns-clause-deep g c =
+    let known = g.N.Nodes.reads c.args.nodes.now in
+    let goes = g.T.Test.goes c.args.test.now in
+    deeper c.plan_at.result c.args.height _ _
+    (λ full. one known (λ reads. way_of reads goes c.args.root ≡ Ok c.in_ok-path.path.items) (λ reads. NeedsLevel (nodes_of reads) goes c.args.key c.args.draft.fresh c.args.root c.args.room)
+    (λ reads w. as_level reads goes c.args.key c.args.root c.args.room c.stop-at.result c.in_ok-path.path.items c.args.draft IsTrue c.requires.unwritten c.stop-at.ensures.value w full) c.in_ok-path.ensures.way)
+    c.plan_at.ensures.deep
+
+pub returns-clause-fits : goal.returns-clause-fits
+returns-clause-fits g c =
+    weaker c.plan_at.result (λ (p : Rooted). p ≡ rooted c.args.room c.args.root c.stop-at.result (rise c.in_ok-path.path.items (record { pending = Some (raw c.args.key None); plan = c.args.draft }))) _
+    (λ x is sized short. insertion_fits c.args.room c.args.root c.stop-at.result c.in_ok-path.path.items c.args.key c.args.draft x c.requires.unwritten c.in_ok-path.ensures.sized (let few = c.in_ok-path.ensures.few in let enough = c.requires.enough in omega arith) sized short is)
+    c.plan_at.ensures.plan
+
+pub returns-clause-taken : goal.returns-clause-taken
+returns-clause-taken g c =
+    let known = g.N.Nodes.reads c.args.nodes.now in
+    let goes = g.T.Test.goes c.args.test.now in
+    weaker c.plan_at.result (λ (p : Rooted). p ≡ rooted c.args.room c.args.root c.stop-at.result (rise c.in_ok-path.path.items (record { pending = Some (raw c.args.key None); plan = c.args.draft }))) _
+    (λ x is short. one known (λ reads. way_of reads goes c.args.root ≡ Ok c.in_ok-path.path.items) (λ reads. TakesFew reads goes c.args.key c.args.draft c.args.root c.args.room x)
+    (λ reads w. takes_few reads goes c.args.root c.args.room c.stop-at.result c.in_ok-path.path.items c.args.key c.args.draft x c.stop-at.ensures.value w
+    (insertion_left c.args.room c.args.root c.stop-at.result c.in_ok-path.path.items c.args.key c.args.draft x c.requires.unwritten c.in_ok-path.ensures.sized (let few = c.in_ok-path.ensures.few in let enough = c.requires.enough in omega arith) short is)) c.in_ok-path.ensures.way)
+    c.plan_at.ensures.plan

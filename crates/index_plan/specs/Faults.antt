@@ -1,0 +1,87 @@
+-- Why no plan is made.
+use Rattle.std.specs.Prelude.{ℕ, ◌≤◌, Result, IfErr, nat_eq, if◌then◌else◌}
+use Rattle.host_base.specs.Answers.{Cause, refused, no_memory, failed, never}
+use Rattle.host_base.specs.Causes.{Rose}
+use Rattle.index_plan.specs.declared.fault.PlanFault.{PlanFault}
+use Rattle.index_plan.specs.declared.fault.PlanFault.TheVariants.{Node, Absent, Deep, Failed, Memory}
+use Rattle.index_plan.specs.declared.fault.ReadFault.{ReadFault}
+use Rattle.index_plan.specs.declared.fault.ReadFault.TheVariants as reading
+use Rattle.index_plan.specs.Reading.{Broken}
+
+-- of a call that reads one node: a refusal is the rule that it breaks
+abbrev pub read_cause : ReadFault → Cause ℕ
+read_cause (reading.Rule rule) = refused rule
+read_cause reading.Failed = failed
+read_cause reading.Memory = no_memory
+
+-- of a call that reads nodes alone: a refusal is the node that breaks a rule
+abbrev pub way_cause : PlanFault → Cause Broken
+way_cause (Node vcn rule) = refused (record { vcn = vcn; rule = rule })
+way_cause Absent = never
+way_cause (Deep height) = never
+way_cause Failed = failed
+way_cause Memory = no_memory
+
+-- what is said of a node v below the node above that was not read
+abbrev pub told : ℕ → ℕ → ReadFault → PlanFault
+told above v (reading.Rule rule) = Node (if nat_eq rule 7 then above else v) rule
+told above v reading.Failed = Failed
+told above v reading.Memory = Memory
+
+abbrev pub OnNode : PlanFault → (Broken → Type 0) → Type 0
+OnNode (Node vcn rule) P = P (record { vcn = vcn; rule = rule })
+OnNode Absent P = Unit {0}
+OnNode (Deep height) P = Unit {0}
+OnNode Failed P = Unit {0}
+OnNode Memory P = Unit {0}
+
+abbrev pub OnAbsent : PlanFault → Type 0 → Type 0
+OnAbsent Absent P = P
+OnAbsent (Node vcn rule) P = Unit {0}
+OnAbsent (Deep height) P = Unit {0}
+OnAbsent Failed P = Unit {0}
+OnAbsent Memory P = Unit {0}
+
+abbrev pub OnDeep : PlanFault → (ℕ → Type 0) → Type 0
+OnDeep (Deep height) P = P height
+OnDeep (Node vcn rule) P = Unit {0}
+OnDeep Absent P = Unit {0}
+OnDeep Failed P = Unit {0}
+OnDeep Memory P = Unit {0}
+
+-- of a call that reads no node: there is one level too many, or no memory
+abbrev pub OnlyDeep : PlanFault → (ℕ → Type 0) → Type 0
+OnlyDeep (Deep height) P = P height
+OnlyDeep (Node vcn rule) P = ⊥
+OnlyDeep Absent P = ⊥
+OnlyDeep Failed P = ⊥
+OnlyDeep Memory P = Unit {0}
+
+-- of a call that reads nodes alone
+abbrev pub OnlyReading : PlanFault → Type 0
+OnlyReading (Node vcn rule) = Unit {0}
+OnlyReading Absent = ⊥
+OnlyReading (Deep height) = ⊥
+OnlyReading Failed = Unit {0}
+OnlyReading Memory = Unit {0}
+
+abbrev pub OnFailed : PlanFault → Type 0 → Type 0
+OnFailed Failed P = P
+OnFailed (Node vcn rule) P = Unit {0}
+OnFailed Absent P = Unit {0}
+OnFailed (Deep height) P = Unit {0}
+OnFailed Memory P = Unit {0}
+
+abbrev pub OnReadFailed : ReadFault → Type 0 → Type 0
+OnReadFailed reading.Failed P = P
+OnReadFailed (reading.Rule rule) P = Unit {0}
+OnReadFailed reading.Memory P = Unit {0}
+
+-- a count of faults did not fall, and rose where a node could not be read
+pub record ReadFails {T : Type 0} (before now : ℕ) (result : Result T ReadFault) : Type 0 where
+  pub later : before ≤ now
+  pub failed : IfErr result (λ e. OnReadFailed e (Rose before now))
+
+pub record Fails {T : Type 0} (before now : ℕ) (result : Result T PlanFault) : Type 0 where
+  pub later : before ≤ now
+  pub failed : IfErr result (λ e. OnFailed e (Rose before now))

@@ -1,0 +1,12 @@
+pub mod Paths
+pub mod Growth
+pub mod Removal
+pub mod Search
+pub mod Plans
+pub mod Lists
+pub mod Takings
+pub mod Faults
+pub mod Reading
+pub mod Seeking
+pub mod Room
+pub mod Laws

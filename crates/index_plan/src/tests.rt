@@ -1,0 +1,257 @@
+ghost use Rattle.std.specs.Prelude.{◌≡◌, ◌<◌, ◌≤◌, OnOk, IfOk, length, true};
+ghost use Rattle.index_plan.specs.Room.{Sized};
+
+use super::*;
+use crate::node::last_node;
+use host_base::{Bytes, FileRef};
+use index_model::Key;
+use record_model::{Entry, EntryList};
+use std::alloc::{AllocError, Global};
+use std::test::Fail;
+
+// Nodes in memory; the place of one is its VCN.
+#[derive(Drop)]
+struct Store {
+    nodes: Vec<EntryList>,
+    faults: u64,
+}
+
+fn copy_of(alloc: Global, node: &EntryList) -> Result<EntryList, AllocError> {
+    let mut copy = EntryList::new(alloc);
+    for entry in node.as_slice() {
+        copy.push(entry.clone()?)?;
+    }
+    Ok(copy)
+}
+
+impl Nodes for Store {
+    ghost use Rattle.std.specs.Prelude.{None};
+
+    ghost reads = { λ _. None };
+
+    ghost faults = { λ s. s.faults };
+
+    fn read(&mut self, alloc: Global, vcn: u64) -> Result<EntryList, ReadFault> {
+        let Some(node) = self.nodes.get(vcn as usize) else {
+            return Err(ReadFault::Rule { rule: 7 });
+        };
+        match copy_of(alloc, node) {
+            Err(_) => Err(ReadFault::Memory),
+            Ok(copy) => {
+                if copy.len() > 0 && is_sized(&copy) {
+                    return Ok(copy);
+                }
+                self.faults = self.faults.saturating_add(1);
+                Err(ReadFault::Failed)
+            }
+        }
+    }
+}
+
+// A number that stands before the greater numbers.
+#[derive(Drop)]
+struct Number(u64);
+
+impl Test for Number {
+    ghost use Rattle.std.specs.Prelude.{nat_lt};
+
+    ghost goes = { λ s k. nat_lt s.0 k.child.number };
+
+    fn goes_before(&self, entry: &Entry) -> bool {
+        self.0 < entry.child.number
+    }
+}
+
+impl Target for Number {
+    ghost use Rattle.std.specs.Prelude.{nat_lt, if◌then◌else◌};
+    ghost use Rattle.index_plan.specs.declared.side.Side.TheVariants.{Behind, Here, Before};
+
+    ghost side = { λ s k. if nat_lt k.child.number s.0 then Behind else (if nat_lt s.0 k.child.number then Before else Here) };
+
+    fn side(&self, entry: &Entry) -> Side {
+        if entry.child.number < self.0 {
+            return Side::Behind;
+        }
+        if self.0 < entry.child.number {
+            return Side::Before;
+        }
+        Side::Here
+    }
+}
+
+// A directory's index: its nodes, the root, and VCNs that aren't in use.
+#[derive(Drop)]
+struct Index {
+    store: Store,
+    root: EntryList,
+    free: Vec<u64>,
+}
+
+impl Index {
+    fn new(alloc: Global, blocks: u64) -> Result<Index, Fail> {
+        let mut nodes = Vec::new(alloc);
+        let mut free = Vec::new(alloc);
+        for vcn in 0..blocks {
+            nodes.push(EntryList::new(alloc))?;
+            free.push(vcn)?;
+        }
+        Ok(Index {
+            store: Store { nodes, faults: 0 },
+            root: last_node(alloc, None)?,
+            free,
+        })
+    }
+
+    // Seventeen VCNs, taken from the free ones.
+    fn fresh(&mut self, alloc: Global) -> Result<Vec<u64>, Fail> {
+        let mut fresh = Vec::new(alloc);
+        for _ in 0..17 {
+            if let Some(vcn) = self.free.pop() {
+                fresh.push(vcn)?;
+            }
+        }
+        Ok(fresh)
+    }
+
+    // Makes the writes of a plan.
+    fn take(&mut self, rooted: Rooted) -> Result<(), Fail> {
+        let Rooted { root, plan } = rooted;
+        let (writes, fresh) = plan.into_parts();
+        for write in writes {
+            let Write { vcn, entries } = write;
+            if let Some(node) = self.store.nodes.get_mut(vcn as usize) {
+                *node = entries;
+            }
+        }
+        for vcn in fresh {
+            self.free.push(vcn)?;
+        }
+        self.root = root;
+        Ok(())
+    }
+
+    // The plan that puts a number in, with a key of so many bytes, where the index has so many levels.
+    fn plan_with(
+        &mut self,
+        alloc: Global,
+        number: u64,
+        bytes: usize,
+        fresh: Vec<u64>,
+        height: u32,
+    ) -> Result<Rooted, PlanFault> {
+        let root = copy_of(alloc, &self.root)?;
+        if root.len() == 0 || fresh.len() < 17 {
+            return Err(PlanFault::Memory);
+        }
+        let key = Key {
+            child: FileRef { number, seq: 1 },
+            value: Bytes::from(vec![in alloc; 7u8; bytes]?),
+        };
+        let draft = Draft::new(alloc, fresh);
+        plan_insert(
+            &mut self.store,
+            alloc,
+            &Number(number),
+            root,
+            key,
+            draft,
+            600,
+            height,
+        )
+    }
+
+    fn insert(&mut self, alloc: Global, number: u64, bytes: usize) -> Result<(), Fail> {
+        let fresh = self.fresh(alloc)?;
+        let rooted = self.plan_with(alloc, number, bytes, fresh, 3)?;
+        self.take(rooted)
+    }
+
+    // The plan that takes a number out.
+    fn plan_without(
+        &mut self,
+        alloc: Global,
+        number: u64,
+        fresh: Vec<u64>,
+    ) -> Result<(Rooted, Numbers), PlanFault> {
+        if fresh.len() < 17 {
+            return Err(PlanFault::Memory);
+        }
+        let root = copy_of(alloc, &self.root)?;
+        let draft = Draft::new(alloc, fresh);
+        plan_remove(&mut self.store, alloc, &Number(number), root, draft, 600, 3)
+    }
+
+    fn remove(&mut self, alloc: Global, number: u64) -> Result<(), Fail> {
+        let fresh = self.fresh(alloc)?;
+        let (rooted, freed) = self.plan_without(alloc, number, fresh)?;
+        self.take(rooted)?;
+        for vcn in freed.into_vec() {
+            self.free.push(vcn)?;
+        }
+        Ok(())
+    }
+
+    // The numbers in the order of the walk, from these entries down, on so many levels.
+    fn walk(&self, node: &EntryList, levels: u32, numbers: &mut Vec<u64>) -> Result<(), Fail> {
+        for (i, entry) in node.as_slice().iter().enumerate() {
+            if let Some(vcn) = entry.down {
+                if levels > 0 {
+                    if let Some(below) = self.store.nodes.get(vcn as usize) {
+                        self.walk(below, levels - 1, numbers)?;
+                    }
+                }
+            }
+            if i != node.len() - 1 {
+                numbers.push(entry.child.number)?;
+            }
+        }
+        Ok(())
+    }
+
+    fn numbers(&self, alloc: Global) -> Result<Vec<u64>, Fail> {
+        let mut numbers = Vec::new(alloc);
+        self.walk(&self.root, 16, &mut numbers)?;
+        Ok(numbers)
+    }
+}
+
+#[test]
+fn two_hundred_keys(rt: HostRuntime) -> Result<(), Fail> {
+    let alloc = rt.alloc();
+    let mut index = Index::new(alloc, 120)?;
+    for number in (0..200u64).rev() {
+        index.insert(alloc, number, 500)?;
+    }
+    let numbers = index.numbers(alloc)?;
+    assert_eq!(rt; numbers.len(), 200);
+    for (i, number) in numbers.iter().enumerate() {
+        assert_eq!(rt; *number, i as u64);
+    }
+    for number in 0..200u64 {
+        index.remove(alloc, number * 77 % 200)?;
+        assert_eq!(rt; index.numbers(alloc)?.len() as u64, 199 - number);
+    }
+    let fresh = index.fresh(alloc)?;
+    let plan = index.plan_without(alloc, 5, fresh);
+    assert_eq!(rt; plan.err(), Some(PlanFault::Absent));
+    Ok(())
+}
+
+#[test]
+fn answers_by_number(rt: HostRuntime) -> Result<(), Fail> {
+    let alloc = rt.alloc();
+    let mut index = Index::new(alloc, 120)?;
+    index.insert(alloc, 2, 500)?;
+    let fresh = index.fresh(alloc)?;
+    let deep = index.plan_with(alloc, 1, 500, fresh, 16);
+    assert_eq!(rt; deep.err(), Some(PlanFault::Deep { height: 16 }));
+    let fresh = index.fresh(alloc)?;
+    index.root = last_node(alloc, Some(120))?;
+    let outside = index.plan_with(alloc, 1, 500, fresh, 3);
+    let broken = PlanFault::Node { vcn: ROOT, rule: 7 };
+    assert_eq!(rt; outside.err(), Some(broken));
+    let fresh = index.fresh(alloc)?;
+    let unread = index.plan_without(alloc, 1, fresh);
+    assert_eq!(rt; unread.err(), Some(broken));
+    Ok(())
+}
