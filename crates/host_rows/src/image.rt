@@ -185,7 +185,19 @@ fn protect(image: &mut [u8], at: usize, sector: usize)
 pub fn put_record(image: &mut [u8], head: RecordHead, attributes: &[&[u8]])
     ensures { length image.new ≡ length image.old }
 {
-    let at = TABLE + RECORD_BYTES * usize::from(head.number);
+    put_record_at(
+        image,
+        TABLE + RECORD_BYTES * usize::from(head.number),
+        head,
+        attributes,
+    );
+}
+
+/// Writes a file record from `at` on, which is below 2^32.
+pub fn put_record_at(image: &mut [u8], at: usize, head: RecordHead, attributes: &[&[u8]])
+    ensures { length image.new ≡ length image.old }
+{
+    let at = at % 0x1_0000_0000;
     put(image, at, &[0; RECORD_BYTES]);
     put(image, at, b"FILE");
     put(image, at + 0x04, &[0x30, 0, 3]);
@@ -265,6 +277,15 @@ fn put_root(alloc: Global, image: &mut [u8]) -> Result<(), AllocError>
     };
     put_record(image, head, &[named.as_slice()]);
     Ok(())
+}
+
+/// An entry of an attribute list for an attribute without a name, by its type and id, in the record
+/// with this number and sequence (Linux-NTFS documentation, "$ATTRIBUTE_LIST").
+pub fn list_entry(kind: u8, id: u8, number: u8, sequence: u8) -> [u8; 32] {
+    [
+        kind, 0, 0, 0, 32, 0, 0, 0x1a, 0, 0, 0, 0, 0, 0, 0, 0, number, 0, 0, 0, 0, 0, sequence, 0,
+        id, 0, 0, 0, 0, 0, 0, 0,
+    ]
 }
 
 /// The tiny image: 65 sectors, of which 8 to 39 are 16 file records, 40 to 55 a log of FF, and 56
