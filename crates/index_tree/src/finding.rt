@@ -75,6 +75,7 @@ impl<'a> Finder<'a> {
     ) -> Result<(), TreeFault>
         ensures value { IfSome (V.content v.old) (λ c. GivesOrFails (λ _. met.new) tree_cause result (all_judged (place_of self.now.dir.now) self.now.up.now met.old (kid_sought self.now.up.now self.now.name.now (node_of_block c (place_of self.now.dir.now)) levels vcn child))) }
         ensures same { V.content v.new ≡ V.content v.old }
+        ensures kept { V.kept v.new ≡ V.kept v.old }
         ensures cause { FailsByView (V.faults v.old) (V.faults v.new) result }
     {
         if levels == 0 {
@@ -97,6 +98,7 @@ impl<'a> Finder<'a> {
     ) -> Result<(), TreeFault>
         ensures value { IfSome (V.content v.old) (λ c. GivesOrFails (λ _. met.new) tree_cause result (all_judged (place_of self.now.dir.now) self.now.up.now met.old (below (kid_sought self.now.up.now self.now.name.now (node_of_block c (place_of self.now.dir.now)) levels vcn) down))) }
         ensures same { V.content v.new ≡ V.content v.old }
+        ensures kept { V.kept v.new ≡ V.kept v.old }
         ensures cause { FailsByView (V.faults v.old) (V.faults v.new) result }
     {
         match down {
@@ -119,6 +121,7 @@ impl<'a> Finder<'a> {
     ) -> Result<(), TreeFault>
         ensures value { IfSome (V.content v.old) (λ c. GivesOrFails (λ _. met.new) tree_cause result (all_judged (place_of self.now.dir.now) self.now.up.now met.old (beside side (below (kid_sought self.now.up.now self.now.name.now (node_of_block c (place_of self.now.dir.now)) levels vcn) down)))) }
         ensures same { V.content v.new ≡ V.content v.old }
+        ensures kept { V.kept v.new ≡ V.kept v.old }
         ensures cause { FailsByView (V.faults v.old) (V.faults v.new) result }
     {
         match side {
@@ -142,6 +145,7 @@ impl<'a> Finder<'a> {
         ensures value { IfSome (V.content v.old) (λ c. GivesOrFails (λ _. met.new) tree_cause result (all_judged (place_of self.now.dir.now) self.now.up.now met.old (entry_sought (side_of self.now.up.now self.now.name.now (entry_link entry.now)) (entry_link entry.now) (below (kid_sought self.now.up.now self.now.name.now (node_of_block c (place_of self.now.dir.now)) levels vcn) entry.now.down)))) }
         ensures side { IfOk result (λ side. side ≡ side_of self.now.up.now self.now.name.now (entry_link entry.now)) }
         ensures same { V.content v.new ≡ V.content v.old }
+        ensures kept { V.kept v.new ≡ V.kept v.old }
         ensures cause { FailsByView (V.faults v.old) (V.faults v.new) result }
     {
         let link = entry_link(self.alloc, entry)?;
@@ -164,6 +168,7 @@ impl<'a> Finder<'a> {
     ) -> Result<(), TreeFault>
         ensures value { IfSome (V.content v.old) (λ c. GivesOrFails (λ _. met.new) tree_cause result (all_judged (place_of self.now.dir.now) self.now.up.now met.old (sought_in self.now.up.now self.now.name.now (node_of_block c (place_of self.now.dir.now)) levels vcn entries.now))) }
         ensures same { V.content v.new ≡ V.content v.old }
+        ensures kept { V.kept v.new ≡ V.kept v.old }
         ensures cause { FailsByView (V.faults v.old) (V.faults v.new) result }
     {
         for entry in entries {
@@ -186,6 +191,7 @@ fn find_from<V: View>(
 ) -> Result<LinkList, TreeFault>
     ensures value { IfSome (V.content v.old) (λ c. GivesOrFails (λ links. links) tree_cause result (find_of c (place_of dir.now) up.now name.now dir.now.root)) }
     ensures same { V.content v.new ≡ V.content v.old }
+    ensures kept { V.kept v.new ≡ V.kept v.old }
     ensures cause { FailsByView (V.faults v.old) (V.faults v.new) result }
 {
     let root = read_root(alloc, dir)?;
@@ -218,6 +224,7 @@ pub fn find<V: View>(
     ensures value { IfSome (V.content v.old) (λ c. GivesOrFails (λ links. links) tree_cause result (find_of c (place_of dir.now) up.now name.now dir.now.root)) }
     ensures found { IfSome (V.content v.old) (λ c. FindGives c (place_of dir.now) up.now name.now dir.now.root result) }
     ensures same { V.content v.new ≡ V.content v.old }
+    ensures kept { V.kept v.new ≡ V.kept v.old }
     ensures cause { FailsByView (V.faults v.old) (V.faults v.new) result }
 {
     find_from(alloc, v, dir, up, name)

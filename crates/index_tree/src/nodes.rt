@@ -43,6 +43,7 @@ pub fn read_root(alloc: Global, dir: &DirPlace) -> Result<EntryList, TreeFault>
 fn read_body<V: View>(alloc: Global, v: &mut V, block: Block) -> Result<Body, TreeFault>
     ensures value { IfSome (V.content v.old) (λ c. GivesOrFails (λ body. body) tree_cause result (Ok (c block))) }
     ensures same { V.content v.new ≡ V.content v.old }
+    ensures kept { V.kept v.new ≡ V.kept v.old }
     ensures cause { FailsByView (V.faults v.old) (V.faults v.new) result }
 {
     let mut body = Body::empty(alloc)?;
@@ -95,6 +96,7 @@ pub fn read_node<V: View>(
 ) -> Result<Node, TreeFault>
     ensures value { IfSome (V.content v.old) (λ c. GivesOrFails (λ n. n.entries) tree_cause result (broken_at vcn (node_of_block c (place_of dir.now) vcn))) }
     ensures same { V.content v.new ≡ V.content v.old }
+    ensures kept { V.kept v.new ≡ V.kept v.old }
     ensures cause { FailsByView (V.faults v.old) (V.faults v.new) result }
 {
     let Some(block) = dir.block_at(vcn) else {

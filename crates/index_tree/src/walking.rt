@@ -37,6 +37,7 @@ impl<'a> Walker<'a> {
     ) -> Result<(), TreeFault>
         ensures value { IfSome (V.content v.old) (λ c. GivesOrFails (λ _. met.new) tree_cause result (all_judged (place_of self.now.dir.now) self.now.up.now met.old (kid_met (node_of_block c (place_of self.now.dir.now)) levels vcn child))) }
         ensures same { V.content v.new ≡ V.content v.old }
+        ensures kept { V.kept v.new ≡ V.kept v.old }
         ensures cause { FailsByView (V.faults v.old) (V.faults v.new) result }
     {
         if levels == 0 {
@@ -59,6 +60,7 @@ impl<'a> Walker<'a> {
     ) -> Result<(), TreeFault>
         ensures value { IfSome (V.content v.old) (λ c. GivesOrFails (λ _. met.new) tree_cause result (all_judged (place_of self.now.dir.now) self.now.up.now met.old (below (kid_met (node_of_block c (place_of self.now.dir.now)) levels vcn) down))) }
         ensures same { V.content v.new ≡ V.content v.old }
+        ensures kept { V.kept v.new ≡ V.kept v.old }
         ensures cause { FailsByView (V.faults v.old) (V.faults v.new) result }
     {
         match down {
@@ -79,6 +81,7 @@ impl<'a> Walker<'a> {
     ) -> Result<(), TreeFault>
         ensures value { IfSome (V.content v.old) (λ c. GivesOrFails (λ _. met.new) tree_cause result (all_judged (place_of self.now.dir.now) self.now.up.now met.old (entry_met (kid_met (node_of_block c (place_of self.now.dir.now)) levels vcn) vcn entry.now))) }
         ensures same { V.content v.new ≡ V.content v.old }
+        ensures kept { V.kept v.new ≡ V.kept v.old }
         ensures cause { FailsByView (V.faults v.old) (V.faults v.new) result }
     {
         self.below(v, levels, vcn, entry.down, met)?;
@@ -97,6 +100,7 @@ impl<'a> Walker<'a> {
     ) -> Result<(), TreeFault>
         ensures value { IfSome (V.content v.old) (λ c. GivesOrFails (λ _. met.new) tree_cause result (all_judged (place_of self.now.dir.now) self.now.up.now met.old (met_in (node_of_block c (place_of self.now.dir.now)) levels vcn entries.now))) }
         ensures same { V.content v.new ≡ V.content v.old }
+        ensures kept { V.kept v.new ≡ V.kept v.old }
         ensures cause { FailsByView (V.faults v.old) (V.faults v.new) result }
     {
         for entry in entries {
@@ -115,6 +119,7 @@ fn walk_from<V: View>(
 ) -> Result<LinkList, TreeFault>
     ensures value { IfSome (V.content v.old) (λ c. GivesOrFails (λ links. links) tree_cause result (walk_of c (place_of dir.now) up.now dir.now.root)) }
     ensures same { V.content v.new ≡ V.content v.old }
+    ensures kept { V.kept v.new ≡ V.kept v.old }
     ensures cause { FailsByView (V.faults v.old) (V.faults v.new) result }
 {
     let root = read_root(alloc, dir)?;
@@ -141,6 +146,7 @@ pub fn walk<V: View>(
     ensures value { IfSome (V.content v.old) (λ c. GivesOrFails (λ links. links) tree_cause result (walk_of c (place_of dir.now) up.now dir.now.root)) }
     ensures index { IfSome (V.content v.old) (λ c. WalkGives c (place_of dir.now) up.now dir.now.root result) }
     ensures same { V.content v.new ≡ V.content v.old }
+    ensures kept { V.kept v.new ≡ V.kept v.old }
     ensures cause { FailsByView (V.faults v.old) (V.faults v.new) result }
 {
     walk_from(alloc, v, dir, up)

@@ -20,6 +20,7 @@ entries-loop-entry-preserved g t c = record {
       entry_passes _ _ (place_of c.args.self.now.dir.now) c.args.self.now.up.now c.loop-entry.met c.entry.new.met c.args.met.now (λ (content : Content). node_of_block content (place_of c.args.self.now.dir.now)) c.args.levels c.args.vcn c.args.entries.now c.loop-entry.entry-index c.entry-item.result
       c.loop-entry.invariant.same c.loop-entry-test.true c.entry-item.is c.loop-entry.invariant.rest c.in_ok-entry.ensures.value;
   same = c.in_ok-entry.ensures.same ∙ c.loop-entry.invariant.same;
+  kept = c.in_ok-entry.ensures.kept ∙ c.loop-entry.invariant.kept;
   later = omega (arith, c.loop-entry.invariant.later, c.in_ok-entry.ensures.cause.later);
 }
 
