@@ -1,0 +1,7 @@
+pub mod UsnRead
+pub mod UsnSpelled
+pub mod UsnWorked
+pub mod PageRead
+pub mod RecordsBehind
+pub mod JournalPages
+pub mod JournalParts

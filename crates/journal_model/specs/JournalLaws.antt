@@ -1,0 +1,39 @@
+-- The laws of pages and of journals.
+use Rattle.std.specs.Prelude.{◌≡◌, ◌↔◌, ℕ, ◌*◌, ◌%◌, ◌+◌, ◌<◌, ◌≤◌, List, [], ◌∷◌, ◌++◌, length, drop, Ok, Err}
+use Rattle.host_base.specs.Answers.{◌>>=◌}
+use Rattle.disk_model.specs.Bytes.{AreBytes, zeros}
+use Rattle.tree_model.specs.declared.journal.Usn.{Usn}
+use Rattle.journal_model.specs.declared.fault.UsnFault.{UsnFault}
+use Rattle.journal_model.specs.UsnRecords.{page_size, usn_spelling, FitsUsn}
+use Rattle.journal_model.specs.Pages.{page_records, records_of, HasRecords, AreRecords, HasFault}
+use Rattle.journal_model.specs.Journals.{bytes_between, page_entries, pages_before, journal_from, journal_in}
+
+-- a page is read exactly where it is records and then zeros, and refused exactly at the first record that is refused
+pub record PageIsTable : Type 0 where
+  pub read : (page : List ℕ) (at : ℕ) (entries : List Usn) → AreBytes page → (page_records page at ≡ Ok entries) ↔ HasRecords (drop (at % page_size) page) at entries
+  pub refused : (page : List ℕ) (at : ℕ) (fault : UsnFault) → AreBytes page → (page_records page at ≡ Err fault) ↔ HasFault (drop (at % page_size) page) at fault
+
+-- records that stand one behind the other are read one behind the other
+pub record RecordsJoin : Type 0 where
+  -- what is written is such records
+  pub one : (entry : Usn) → FitsUsn entry → AreRecords (usn_spelling entry) entry.usn (entry ∷ [])
+  pub more : (xs ys : List ℕ) (at : ℕ) (entries others : List Usn) → AreRecords xs at entries → AreRecords ys (at + length xs) others → AreRecords (xs ++ ys) at (entries ++ others)
+  -- and whatever stands behind them is read as it is
+  pub joined : (bytes rest : List ℕ) (at : ℕ) (entries : List Usn) → AreRecords bytes at entries → records_of (bytes ++ rest) at ≡ (records_of rest (at + length bytes) >>= λ behind. Ok (entries ++ behind))
+  -- zeros behind bytes that are read add nothing
+  pub filled : (bytes : List ℕ) (at n : ℕ) (entries : List Usn) → AreBytes bytes → records_of bytes at ≡ Ok entries → records_of (bytes ++ zeros n) at ≡ Ok entries
+
+-- a journal is read page by page
+pub record JournalIsPages : Type 0 where
+  -- the entries from a page on are its own, and those of the pages behind it
+  pub next : (byte : ℕ → ℕ) (first next k : ℕ) → k < pages_before next → journal_from byte first next k ≡ (page_entries byte first next k >>= λ here. journal_from byte first next (k + 1) >>= λ behind. Ok (here ++ behind))
+  -- there are none behind the last page
+  pub last : (byte : ℕ → ℕ) (first next k : ℕ) → pages_before next ≤ k → journal_from byte first next k ≡ Ok []
+  -- bytes outside it don't count
+  pub same : (byte byte' : ℕ → ℕ) (first next : ℕ) → ((i : ℕ) → first ≤ i → i < next → byte i ≡ byte' i) → journal_in byte first next ≡ journal_in byte' first next
+  -- a page's bytes are read from an offset on as those that stand there
+  pub from : (byte : ℕ → ℕ) (k at to : ℕ) → page_size * k ≤ at → at < page_size * k + page_size → page_records (bytes_between byte (page_size * k) to) at ≡ records_of (bytes_between byte at to) at
+  -- a journal is that before the begin of a page, and that from there on
+  pub split : (byte : ℕ → ℕ) (first next k : ℕ) → first ≤ page_size * k → page_size * k ≤ next → journal_in byte first next ≡ (journal_in byte first (page_size * k) >>= λ front. journal_in byte (page_size * k) next >>= λ behind. Ok (front ++ behind))
+  -- zeros behind a journal that is read add nothing
+  pub filled : (byte : ℕ → ℕ) (first next next' : ℕ) (entries : List Usn) → ((i : ℕ) → byte i < 256) → next ≤ next' → ((i : ℕ) → next ≤ i → i < next' → byte i ≡ 0) → journal_in byte first next ≡ Ok entries → journal_in byte first next' ≡ Ok entries

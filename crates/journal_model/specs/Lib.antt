@@ -1,0 +1,6 @@
+pub mod UsnRecords
+pub mod Pages
+pub mod Journals
+pub mod UsnLaws
+pub mod JournalLaws
+pub mod UsnVector
