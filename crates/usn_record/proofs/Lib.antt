@@ -1,0 +1,4 @@
+pub mod Judged
+pub mod Chained
+pub mod Walked
+pub mod Appended

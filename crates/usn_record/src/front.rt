@@ -1,0 +1,55 @@
+ghost use Rattle.std.specs.Prelude.{◌≡◌, ◌%◌, ◌<◌, ◌^◌, drop};
+ghost use Rattle.disk_model.specs.Bytes.{up8};
+ghost use Rattle.journal_model.specs.UsnRecords.{page_size, is_whole, is_length, all_zeros};
+
+use disk_model::u32_at;
+
+// The bytes of a page of the journal.
+const PAGE: u64 = 4096;
+
+/// The bytes of a record before its name.
+pub const HEAD: usize = 0x3c;
+
+/// The version that is read and written.
+pub const KNOWN_VERSION: u16 = 2;
+
+/// The bytes of a page from this offset of the journal on.
+#[tactic(auto, using(std::proofs::lemmas::List::drop_min))]
+pub fn from_offset(page: &[u8], at: u64) -> &[u8]
+    ensures { result.now ≡ drop (at % page_size) page.now }
+{
+    let place = (at % PAGE) as usize;
+    page.split_at(place.min(page.len())).1
+}
+
+/// Whether the bytes have a length, and as many bytes as it says.
+#[tactic(auto, unfolding(journal_model::specs::UsnRecords::is_whole))]
+pub fn is_whole(bytes: &[u8]) -> bool
+    ensures { result ≡ is_whole bytes.now }
+{
+    bytes.len() >= 4 && u32_at(bytes, 0) as usize <= bytes.len()
+}
+
+/// Whether a record can have this length.
+#[tactic(auto, unfolding(journal_model::specs::UsnRecords::is_length))]
+pub fn is_length(length: u32) -> bool
+    ensures { result ≡ is_length length }
+{
+    length >= 8 && length % 8 == 0
+}
+
+/// Whether the bytes are zeros.
+#[tactic(auto, unfolding(journal_model::specs::UsnRecords::all_zeros))]
+pub fn all_zeros(bytes: &[u8]) -> bool
+    ensures { result ≡ all_zeros bytes.now }
+{
+    bytes.iter().all(|byte| *byte == 0)
+}
+
+/// The least multiple of 8 that isn't below n.
+pub fn up8(n: usize) -> usize
+    requires { n < 2 ^ 32 }
+    ensures { result ≡ up8 n }
+{
+    8 * ((n + 7) / 8)
+}

@@ -1,0 +1,87 @@
+ghost use Rattle.std.specs.Prelude.{◌<◌, ◌^◌, IfOk};
+
+use super::*;
+use host_base::FileRef;
+use std::alloc::{AllocError, Global};
+use std::test::Fail;
+use utf16_name::{Name, NameFault};
+
+// File 26/1 in 25/1 (hexadecimal) with the name `f` was created and closed.
+static RECORD: [u8; 0x40] = [
+    0x40, 0, 0, 0, 2, 0, 0, 0, 0x26, 0, 0, 0, 0, 0, 1, 0, 0x25, 0, 0, 0, 0, 0, 1, 0, 0x40, 0, 0, 0,
+    0, 0, 0, 0, 0xea, 3, 0, 0, 0, 0, 0, 0, 0, 1, 0, 0x80, 0, 0, 0, 0, 0, 0, 0, 0, 0x20, 0, 0, 0, 2,
+    0, 0x3c, 0, 0x66, 0, 0, 0,
+];
+
+// A record of version 3 of eight bytes.
+static OTHER: [u8; 8] = [8, 0, 0, 0, 3, 0, 0, 0];
+
+fn worked(alloc: Global) -> Result<Usn, NameFault>
+    ensures child { IfOk result (λ entry. entry.child.number < 2 ^ 48) }
+    ensures parent { IfOk result (λ entry. entry.parent.number < 2 ^ 48) }
+{
+    Ok(Usn {
+        usn: 64,
+        child: FileRef {
+            number: 0x26,
+            seq: 1,
+        },
+        parent: FileRef {
+            number: 0x25,
+            seq: 1,
+        },
+        reason: 0x8000_0100,
+        flags: 0x20,
+        time: 1002,
+        source: 0,
+        security: 0,
+        name: Name::checked(alloc, &[0x66])?,
+    })
+}
+
+// A page: records of another version, as many as asked for, then the worked record, and then zeros.
+fn page(alloc: Global, others: usize) -> Result<Vec<u8>, AllocError> {
+    let mut page = Vec::new(alloc);
+    for _ in 0..others {
+        page.extend_from_slice(&OTHER)?;
+    }
+    page.extend_from_slice(&RECORD)?;
+    page.extend_from_slice(&[0; 16])?;
+    Ok(page)
+}
+
+#[test]
+fn worked_record(rt: HostRuntime) -> Result<(), Fail> {
+    let alloc = rt.alloc();
+    let entry = worked(alloc)?;
+    let mut out = Vec::new(alloc);
+    write(&entry, &mut out)?;
+    assert_eq!(rt; out.as_slice(), RECORD.as_slice());
+    let page = page(alloc, 8)?;
+    assert_eq!(rt; read(alloc, &page, 64)?, (Some(entry), 0x40));
+    assert_eq!(rt; read(alloc, &page, 0)?, (None, 8));
+    Ok(())
+}
+
+#[test]
+fn whole_page(rt: HostRuntime) -> Result<(), Fail> {
+    let alloc = rt.alloc();
+    let page = page(alloc, 8)?;
+    let entries = read_page(alloc, &page, 0)?;
+    assert_eq!(rt; entries.as_slice(), [worked(alloc)?].as_slice());
+    assert_eq!(rt; check_page(&page, 0), Ok(()));
+    Ok(())
+}
+
+#[test]
+fn refused_records(rt: HostRuntime) -> Result<(), Fail> {
+    let page = page(rt.alloc(), 7)?;
+    assert_eq!(rt; check_page(&page, 0), Err(UsnFault::Shape { at: 56 }));
+    assert_eq!(rt;
+        check_page(&RECORD, 4096),
+        Err(UsnFault::Shape { at: 4096 })
+    );
+    let cut = RECORD.split_at(0x38).0;
+    assert_eq!(rt; check_page(cut, 0), Err(UsnFault::Cut { at: 0 }));
+    Ok(())
+}
