@@ -8,7 +8,7 @@ use Rattle.record_model.specs.Records.{Record}
 use Rattle.state_model.specs.declared.broken.Broken.{Broken}
 use Rattle.state_model.specs.Indexes.{any_has_children}
 use Rattle.state_model.specs.Rules.{broken_rule}
-use Rattle.record_tree.specs.Tables.{table_in}
+use Rattle.state_model.specs.Loads.{table_in}
 use Rattle.ntfs_host.specs.declared.boot.Volume.{Volume}
 use Rattle.ntfs_host.specs.declared.piece.Piece.{Piece}
 use Rattle.ntfs_host.specs.declared.piece.Piece.TheVariants.{Torn, Free, Broken as broken_piece, Used}

@@ -5,7 +5,7 @@ use Rattle.host_base.specs.Causes.{AppendsPart}
 use Rattle.record_model.specs.Records.{Record}
 use Rattle.tree_model.specs.declared.script.Command.{Command}
 use Rattle.state_model.specs.Trees.{nodes_of, all_links}
-use Rattle.record_tree.specs.Tables.{table_in}
+use Rattle.state_model.specs.Loads.{table_in}
 use Rattle.run_model.specs.declared.turn.Turn.{Turn}
 use Rattle.run_model.specs.Texts.{IsRunText}
 use Rattle.upcase_order.specs.Tables.{standard_table}

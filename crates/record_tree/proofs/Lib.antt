@@ -1,10 +1,4 @@
-pub mod Ascents
-pub mod Climbs
 pub mod Held
-pub mod Links
-pub mod Lists
 pub mod Numbers
 pub mod Placed
-pub mod Rises
 pub mod Slots
-pub mod Tallies

@@ -5,15 +5,13 @@ ghost use Rattle.host_base.specs.Answers.{Gives};
 ghost use Rattle.index_node.specs.Faults.{rule_cause};
 ghost use Rattle.state_model.specs.Indexes.{is_names_root, form_entries, index_of, entry_link, entry_links, have_children, has_children, file_has_children, any_has_children};
 ghost use Rattle.state_model.specs.Files.{file_at};
-ghost use Rattle.record_tree.specs.Tables.{table_in};
+ghost use Rattle.state_model.specs.Loads.{table_in};
 
-use crate::files::file_at;
-use crate::names::{push_some, value_link};
-use crate::naming::is_directory_record;
 use file_record::FileRec;
 use host_base::Memory;
 use index_node::{EntryList, NodeFault, read_root};
 use record_model::{Attr, Entry, OwnForm};
+use record_rules::{file_at, is_directory_record, push_some, value_link};
 use std::alloc::Global;
 use tree_model::{Link, LinkList};
 
@@ -63,7 +61,7 @@ fn entry_link(alloc: Global, entry: &Entry) -> Result<Option<Link>, Memory>
 }
 
 /// The names that entries hold, in order. The error is want of memory.
-#[tactic(auto, using(crate::proofs::Lists::filter_map_more), unfolding(state_model::specs::Indexes::entry_links))]
+#[tactic(auto, using(record_rules::proofs::Lists::filter_map_more), unfolding(state_model::specs::Indexes::entry_links))]
 pub fn entry_links(alloc: Global, entries: &[Entry]) -> Result<LinkList, Memory>
     ensures { IfOk result (λ links. links ≡ entry_links entries.now) }
 {

@@ -1,9 +1,8 @@
 ghost use Rattle.std.specs.Prelude.{◌≡◌, None, IfOk, length, slice_index_or};
 ghost use Rattle.std.specs.Option.{option_copied};
 ghost use Rattle.state_model.specs.Trees.{nodes_of, all_links};
-ghost use Rattle.record_tree.specs.Tables.{table_in};
+ghost use Rattle.state_model.specs.Loads.{table_in};
 
-use crate::climbing::all_links;
 use crate::index::{
     Key, count_long_names, long_links_in, long_names_of, places_by_directory, places_by_name,
     same_links,
@@ -11,6 +10,7 @@ use crate::index::{
 use crate::nodes::nodes_by_number;
 use file_record::FileRec;
 use host_base::Memory;
+use record_rules::all_links;
 use std::alloc::{AllocError, Global};
 use std::collections::BTreeMap;
 use std::marker::Model;

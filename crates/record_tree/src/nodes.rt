@@ -1,25 +1,21 @@
-ghost use Rattle.std.specs.Prelude.{◌≡◌, ◌==◌, IfOk, find, length, map};
+ghost use Rattle.std.specs.Prelude.{◌≡◌, IfOk, length, map};
 ghost use Rattle.std.specs.List.{range_with_len};
 ghost use Rattle.std.specs.Option.{option_copied};
-ghost use Rattle.record_model.specs.StdValues.{std_info_of};
-ghost use Rattle.record_model.specs.declared.attribute.Attr.{Attr as the_attr};
-ghost use Rattle.state_model.specs.Files.{record_links, no_info, has_type, data_of, attr_flags, attr_bytes, form_info, attr_info, info_of, info_or, is_encrypted, is_compressed, is_sparse, why_of, is_opaque, is_fixed, is_directory_record};
-ghost use Rattle.state_model.specs.Trees.{kind_of, shown, node_with, node_of, is_nameless, node_if, node_in};
-ghost use Rattle.record_tree.specs.Tables.{table_in};
+ghost use Rattle.state_model.specs.Files.{record_links, data_of, attr_flags, attr_bytes, why_of, is_opaque, is_fixed};
+ghost use Rattle.state_model.specs.Trees.{kind_of, shown, node_with, node_of, node_if, node_in};
+ghost use Rattle.state_model.specs.Loads.{table_in};
 
-use crate::climbing::{Climber, FIRST_USER_RECORD};
-use crate::files::file_at;
-use crate::names::record_links;
 use file_record::FileRec;
 use host_base::{Bytes, Memory};
-use record_model::{Attr, AttributeFlags, OwnForm, RecordFlags, StdInfo};
+use record_model::{Attr, OwnForm};
+use record_rules::{
+    Climber, FIRST_USER_RECORD, file_at, has_type, info_of, is_compressed, is_directory_record,
+    is_encrypted, is_sparse, links_in, record_links,
+};
 use std::alloc::{AllocError, Global};
-use std_values::FixedValue;
 use tree_model::{Kind, Link, Node, Why};
 
 // The types of attributes.
-const STANDARD_INFORMATION: u32 = 0x10;
-
 const ATTRIBUTE_LIST: u32 = 0x20;
 
 const OBJECT_ID: u32 = 0x40;
@@ -27,15 +23,6 @@ const OBJECT_ID: u32 = 0x40;
 const DATA: u32 = 0x80;
 
 const REPARSE_POINT: u32 = 0xC0;
-
-// Whether the record has an attribute of this type.
-#[tactic(auto, unfolding(state_model::specs::Files::has_type))]
-fn has_type(kind: u32, file: &FileRec) -> bool
-    ensures { result ≡ has_type kind file.now }
-{
-    let attrs = file.attrs().as_slice();
-    attrs.iter().any(|attr| attr.head.kind == kind)
-}
 
 // The unnamed data.
 #[tactic(auto, unfolding(state_model::specs::Files::data_of))]
@@ -69,75 +56,6 @@ fn attr_bytes(data: Option<&Attr>) -> &[u8]
         OwnForm::Resident { value, .. } => value.as_slice(),
         OwnForm::Mapped { .. } => &[],
     }
-}
-
-// The fields of a value; one that is too short has no flags and times of zero.
-fn info_or_none(value: &[u8]) -> StdInfo
-    ensures { result ≡ info_or (std_info_of value.now) }
-{
-    match StdInfo::read(value) {
-        Ok(info) => info,
-        Err(_) => no_info(),
-    }
-}
-
-fn no_info() -> StdInfo
-    ensures { result ≡ no_info }
-{
-    StdInfo {
-        created: 0,
-        modified: 0,
-        changed: 0,
-        read_at: 0,
-        flags: 0,
-    }
-}
-
-fn form_info(form: &OwnForm) -> StdInfo
-    ensures { result ≡ form_info form.now }
-{
-    match form {
-        OwnForm::Resident { value, .. } => info_or_none(value.as_slice()),
-        OwnForm::Mapped { .. } => no_info(),
-    }
-}
-
-fn std_info_attr(file: &FileRec) -> Option<&Attr>
-    ensures { option_copied result ≡ find (λ (a : the_attr). a.head.kind == 0x10) file.now.attrs }
-{
-    let attrs = file.attrs().as_slice();
-    attrs
-        .iter()
-        .find(|attr| attr.head.kind == STANDARD_INFORMATION)
-}
-
-// The standard information.
-#[tactic(auto, unfolding(state_model::specs::Files::info_of))]
-fn info_of(file: &FileRec) -> StdInfo
-    ensures { result ≡ info_of file.now }
-{
-    match std_info_attr(file) {
-        Some(attr) => form_info(&attr.form),
-        None => no_info(),
-    }
-}
-
-fn is_encrypted(flags: u16) -> bool
-    ensures { result ≡ is_encrypted flags }
-{
-    AttributeFlags::has_encrypted(flags)
-}
-
-fn is_compressed(flags: u16) -> bool
-    ensures { result ≡ is_compressed flags }
-{
-    AttributeFlags::has_compressed(flags)
-}
-
-fn is_sparse(flags: u16) -> bool
-    ensures { result ≡ is_sparse flags }
-{
-    AttributeFlags::has_sparse(flags)
 }
 
 // Why the file can't be changed, the first that applies.
@@ -176,12 +94,6 @@ fn is_fixed(file: &FileRec) -> bool
     ensures { result ≡ is_fixed file.now }
 {
     has_type(ATTRIBUTE_LIST, file) || is_sparse(attr_flags(data_of(file)))
-}
-
-fn is_directory_record(file: &FileRec) -> bool
-    ensures { result ≡ is_directory_record file.now }
-{
-    RecordFlags::has_directory(file.head().flags)
 }
 
 // What kind of file the record with this number and these names is.
@@ -278,7 +190,7 @@ fn node_if(
 }
 
 // The node of each record, by its number.
-#[tactic(auto, using(crate::proofs::Ascents::map_more), unfolding(state_model::specs::Trees::node_in))]
+#[tactic(auto, using(record_rules::proofs::Ascents::map_more), unfolding(state_model::specs::Trees::node_in))]
 fn nodes_of(alloc: Global, climber: &Climber) -> Result<Vec<Option<Node>>, Memory>
     ensures { IfOk result (λ nodes. nodes.items ≡ map (node_in (table_in climber.now.records.now) (length climber.now.records.now)) (range_with_len 0 (length climber.now.records.now))) }
 {
@@ -299,6 +211,7 @@ pub fn nodes_by_number(
 ) -> Result<Vec<Option<Node>>, Memory>
     ensures { IfOk result (λ nodes. nodes.items ≡ map (node_in (table_in records.now) (length records.now)) (range_with_len 0 (length records.now))) }
 {
-    let climber = Climber::new(alloc, records)?;
+    let links = links_in(alloc, records)?;
+    let climber = Climber::new(alloc, records, &links)?;
     nodes_of(alloc, &climber)
 }

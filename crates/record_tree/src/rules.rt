@@ -1,61 +1,18 @@
 ghost use Rattle.std.specs.Prelude.{◌≡◌, ◌<◌, ℕ, [], ◌∷◌, IfOk, length, slice_index};
-ghost use Rattle.state_model.specs.Rules.{keeps_1, keeps_2, keeps_3, keeps_8, keeps, first_failing, first_broken, broken_rule};
-ghost use Rattle.record_tree.specs.Counts.{names_at};
-ghost use Rattle.record_tree.specs.Tables.{table_in, links_in};
+ghost use Rattle.state_model.specs.Rules.{keeps_3, keeps_8, keeps, first_failing, first_broken, broken_rule};
+ghost use Rattle.record_rules.specs.Counts.{names_at};
+ghost use Rattle.state_model.specs.Loads.{table_in};
+ghost use Rattle.record_rules.specs.Links.{links_in};
 
-use crate::counts::counts_in;
 use crate::holding::keeps_index;
-use crate::linking::{links_in, links_of};
-use crate::naming::keeps_names_at;
-use crate::parents::have_directories;
-use crate::ways::keeps_way;
 use file_record::FileRec;
 use host_base::Memory;
+use record_rules::{Climber, counts_in, first_misnamed, first_misplaced, first_unrooted, links_in};
 use state_model::Broken;
 use std::alloc::Global;
 use tree_model::LinkList;
 
 // Of each rule the least number at which it is broken. `links` are the names of each file.
-
-#[tactic(auto, using(crate::proofs::Links::links_found))]
-fn keeps_1(records: &[Option<FileRec>], links: &[LinkList], number: u64) -> bool
-    requires { links.now ≡ links_in records.now }
-    ensures { result ≡ keeps_1 (table_in records.now) number }
-{
-    keeps_names_at(records, links_of(links, number), number)
-}
-
-#[tactic(auto, using(crate::proofs::Links::links_found), unfolding(state_model::specs::Rules::keeps_2))]
-fn keeps_2(records: &[Option<FileRec>], links: &[LinkList], number: u64) -> bool
-    requires { links.now ≡ links_in records.now }
-    ensures { result ≡ keeps_2 (table_in records.now) number }
-{
-    have_directories(records, links_of(links, number))
-}
-
-#[tactic(auto, unfolding(state_model::specs::Rules::first_failing))]
-fn failing_1(records: &[Option<FileRec>], links: &[LinkList]) -> Option<u64>
-    requires { links.now ≡ links_in records.now }
-    ensures { result ≡ first_failing (keeps_1 (table_in records.now)) (length records.now) }
-{
-    (0..records.len() as u64).find(|number| !keeps_1(records, links, *number))
-}
-
-#[tactic(auto, unfolding(state_model::specs::Rules::first_failing))]
-fn failing_2(records: &[Option<FileRec>], links: &[LinkList]) -> Option<u64>
-    requires { links.now ≡ links_in records.now }
-    ensures { result ≡ first_failing (keeps_2 (table_in records.now)) (length records.now) }
-{
-    (0..records.len() as u64).find(|number| !keeps_2(records, links, *number))
-}
-
-#[tactic(auto, unfolding(state_model::specs::Rules::first_failing))]
-fn failing_8(records: &[Option<FileRec>], links: &[LinkList]) -> Option<u64>
-    requires { links.now ≡ links_in records.now }
-    ensures { result ≡ first_failing (keeps_8 (table_in records.now) (length records.now)) (length records.now) }
-{
-    (0..records.len() as u64).find(|number| !keeps_way(records, links, *number))
-}
 
 // With the count of the names that stand in each file.
 #[tactic(auto, using(crate::proofs::Numbers::failing_here, crate::proofs::Numbers::failing_past), unfolding(state_model::specs::Rules::first_failing))]
@@ -92,6 +49,18 @@ fn failing_3(
     failing_3_by(alloc, upper, records, links, &counts)
 }
 
+fn failing_8(
+    alloc: Global,
+    records: &[Option<FileRec>],
+    links: &[LinkList],
+) -> Result<Option<u64>, Memory>
+    requires { links.now ≡ links_in records.now }
+    ensures { IfOk result (λ number. number ≡ first_failing (keeps_8 (table_in records.now) (length records.now)) (length records.now)) }
+{
+    let climber = Climber::new(alloc, records, links)?;
+    Ok(first_unrooted(&climber))
+}
+
 // The rules from the third on.
 #[tactic(auto, unfolding(state_model::specs::Rules::keeps))]
 fn broken_from_3(
@@ -106,7 +75,7 @@ fn broken_from_3(
     if let Some(number) = failing_3(alloc, upper, records, links)? {
         return Ok(Some(Broken { rule: 3, number }));
     }
-    Ok(failing_8(records, links).map(|number| Broken { rule: 8, number }))
+    Ok(failing_8(alloc, records, links)?.map(|number| Broken { rule: 8, number }))
 }
 
 // The rules from the second on.
@@ -120,7 +89,7 @@ fn broken_from_2(
     requires { links.now ≡ links_in records.now }
     ensures { IfOk result (λ found. found ≡ first_broken upper.now (table_in records.now) (length records.now) (2 ∷ 3 ∷ 8 ∷ [])) }
 {
-    if let Some(number) = failing_2(records, links) {
+    if let Some(number) = first_misplaced(records, links) {
         return Ok(Some(Broken { rule: 2, number }));
     }
     broken_from_3(alloc, upper, records, links)
@@ -144,7 +113,7 @@ pub fn broken_rule(
     ensures value { IfOk result (λ found. found ≡ broken_rule upper.now (table_in records.now) (length records.now)) }
 {
     let links = links_in(alloc, records)?;
-    if let Some(number) = failing_1(records, &links) {
+    if let Some(number) = first_misnamed(records, &links) {
         return Ok(Some(Broken { rule: 1, number }));
     }
     broken_from_2(alloc, upper, records, &links)

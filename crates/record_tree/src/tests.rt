@@ -17,8 +17,6 @@ enum Form {
     // one whose index has a block below its root
     Large,
     File,
-    // one without standard information
-    Bare,
     // a record that extends the root's
     Extension,
 }
@@ -29,9 +27,7 @@ enum Names {
     Dot,
     D,
     FG,
-    // a partner of namespace 3, two short names, a directory of another sequence, a name in itself
-    Both,
-    Twice,
+    // a directory of another sequence, a name in itself
     Old,
     Itself,
 }
@@ -59,14 +55,6 @@ static DOT: [OneName; 1] = [OneName(5, 5, 3, b'.')];
 static D: [OneName; 1] = [OneName(5, 5, 0, b'd')];
 
 static FG: [OneName; 2] = [OneName(5, 5, 1, b'f'), OneName(5, 5, 2, b'g')];
-
-static BOTH: [OneName; 2] = [OneName(5, 5, 3, b'f'), OneName(5, 5, 2, b'g')];
-
-static TWICE: [OneName; 3] = [
-    OneName(5, 5, 1, b'f'),
-    OneName(5, 5, 2, b'g'),
-    OneName(5, 5, 2, b'h'),
-];
 
 static OLD: [OneName; 1] = [OneName(5, 6, 1, b'f')];
 
@@ -100,7 +88,7 @@ static NO_D: [OneEntry; 3] = [
 
 static ITSELF: [OneEntry; 1] = [OneEntry(24, 1, OneName(24, 1, 0, b'd'))];
 
-static ROWS: [Row; 11] = [
+static ROWS: [Row; 8] = [
     Row(
         &[
             OneFile(5, 5, Form::Directory, Names::Dot, Entries::All),
@@ -113,30 +101,11 @@ static ROWS: [Row; 11] = [
     ),
     // no records
     Row(&[], 0, 0),
-    // a file without a name, one without standard information, a partner of namespace 3, two short
-    // names
+    // a file without a name
     Row(
         &[OneFile(24, 1, Form::File, Names::None, Entries::None)],
         1,
         24,
-    ),
-    Row(
-        &[OneFile(24, 1, Form::Bare, Names::D, Entries::None)],
-        1,
-        24,
-    ),
-    Row(
-        &[
-            OneFile(5, 5, Form::Directory, Names::Dot, Entries::All),
-            OneFile(25, 2, Form::File, Names::Both, Entries::None),
-        ],
-        1,
-        25,
-    ),
-    Row(
-        &[OneFile(25, 2, Form::File, Names::Twice, Entries::None)],
-        1,
-        25,
     ),
     // the root's sequence is another one
     Row(
@@ -192,8 +161,6 @@ fn names_of(names: Names) -> &'static [OneName] {
         Names::Dot => &DOT,
         Names::D => &D,
         Names::FG => &FG,
-        Names::Both => &BOTH,
-        Names::Twice => &TWICE,
         Names::Old => &OLD,
         Names::Itself => &SELF,
     }

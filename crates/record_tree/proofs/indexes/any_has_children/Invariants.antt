@@ -2,7 +2,7 @@ use Rattle.std.proofs.Common.{◌≡◌, ◌-◌, length}
 use Rattle.std.specs.List.{list_any, range_with_len}
 use Rattle.state_model.specs.Files.{file_at}
 use Rattle.state_model.specs.Indexes.{file_has_children}
-use Rattle.record_tree.specs.Tables.{table_in}
+use Rattle.state_model.specs.Loads.{table_in}
 use Rattle.record_tree.proofs.indexes.any_has_children.Given as goal
 
 -- some directory has, where one of those that are left has

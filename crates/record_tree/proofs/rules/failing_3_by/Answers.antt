@@ -1,6 +1,6 @@
 use Rattle.std.proofs.Common.{rules, ◌≡◌, ◌<◌, length, true, ◌∙◌, arith}
 use Rattle.state_model.specs.Rules.{keeps_3}
-use Rattle.record_tree.specs.Tables.{table_in}
+use Rattle.state_model.specs.Loads.{table_in}
 use Rattle.record_tree.proofs.Numbers.{failing_kept}
 use Rattle.record_tree.proofs.rules.failing_3_by.Goals as goal
 

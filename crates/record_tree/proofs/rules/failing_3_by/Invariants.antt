@@ -1,7 +1,7 @@
 use Rattle.std.proofs.Common.{◌≡◌, ◌-◌, length, find, not}
 use Rattle.std.specs.List.{range_with_len}
 use Rattle.state_model.specs.Rules.{keeps_3}
-use Rattle.record_tree.specs.Tables.{table_in}
+use Rattle.state_model.specs.Loads.{table_in}
 use Rattle.record_tree.proofs.rules.failing_3_by.Given as goal
 
 -- the first that fails is the first of those that are left

@@ -1,6 +1,6 @@
 use Rattle.std.proofs.Common.{List, ℕ, length, refl, subst}
 use Rattle.tree_model.specs.declared.link.Link.{Link}
-use Rattle.record_tree.specs.Tables.{table_in}
+use Rattle.state_model.specs.Loads.{table_in}
 use Rattle.record_tree.specs.Lookups.{HasCounts, HasListings, HasNames}
 use Rattle.record_tree.proofs.Slots.{nodes_present, numbered}
 use Rattle.record_tree.proofs.lookup.RecordTree.new.Goals as goal
@@ -14,4 +14,4 @@ invariant_of-result c = record {
 }
 
 pub returns : goal.returns
-returns c = record { value = (refl, nodes_present (table_in c.args.records.now) (length c.args.records.now) c.in_ok-slots.slots.items c.in_ok-slots.ensures, c.in_ok-links.ensures) }
+returns c = record { value = (refl, nodes_present (table_in c.args.records.now) (length c.args.records.now) c.in_ok-slots.slots.items c.in_ok-slots.ensures, c.in_ok-links.ensures.value) }

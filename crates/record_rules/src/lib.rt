@@ -1,0 +1,35 @@
+//! The rules under which records that are held in memory stand for a tree, each in a call of its
+//! own: what one record says by itself, its names, the directories in which they stand, and the way
+//! up from there.
+//!
+//! The contract: each answer is that of the definition, for the table that the records are. Records
+//! and names are those of the Linux-NTFS documentation, "FILE Record" and "$FILE_NAME".
+#![tactic(auto)]
+
+mod climbing;
+mod comparing;
+mod counts;
+mod fields;
+mod files;
+mod linking;
+mod names;
+mod naming;
+mod references;
+mod rising;
+mod rules;
+#[cfg(test)]
+mod tests;
+mod ways;
+
+pub use climbing::{Climber, all_links};
+pub use comparing::is_index;
+pub use counts::counts_in;
+pub use fields::{
+    FIRST_USER_RECORD, has_type, info_of, is_compressed, is_directory_record, is_encrypted,
+    is_sparse,
+};
+pub use files::file_at;
+pub use linking::{links_in, links_of};
+pub use names::{push_some, record_links, value_link};
+pub use references::is_same_reference;
+pub use rules::{first_misnamed, first_misplaced, first_unrooted};

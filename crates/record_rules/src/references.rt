@@ -1,0 +1,40 @@
+//! References to files, and whether they are those of directories.
+ghost use Rattle.std.specs.Prelude.{◌≡◌};
+ghost use Rattle.std.specs.List.{list_all};
+ghost use Rattle.tree_model.specs.declared.link.Link.{Link as the_link};
+ghost use Rattle.state_model.specs.Rules.{same_reference, is_directory_at};
+ghost use Rattle.state_model.specs.Loads.{table_in};
+
+use crate::fields::is_directory_record;
+use crate::files::file_at;
+use file_record::FileRec;
+use host_base::FileRef;
+use tree_model::Link;
+
+/// Whether two references are of one file: they agree in number and sequence (Linux-NTFS
+/// documentation, "File Reference").
+pub fn is_same_reference(a: FileRef, b: FileRef) -> bool
+    ensures value { result ≡ same_reference a b }
+{
+    a.number == b.number && a.seq == b.seq
+}
+
+// Whether the reference is that of a directory.
+#[tactic(auto, unfolding(state_model::specs::Rules::is_directory_at))]
+fn is_directory_at(records: &[Option<FileRec>], file: FileRef) -> bool
+    ensures { result ≡ is_directory_at (table_in records.now) file }
+{
+    match file_at(records, file.number) {
+        Some(record) => is_directory_record(record) && record.head().seq == file.seq,
+        None => false,
+    }
+}
+
+/// Whether each of these names stands in a directory.
+pub fn have_directories(records: &[Option<FileRec>], links: &[Link]) -> bool
+    ensures { result ≡ list_all (λ (l : the_link). is_directory_at (table_in records.now) l.parent) links.now }
+{
+    links
+        .iter()
+        .all(|link| is_directory_at(records, link.parent))
+}
