@@ -1,0 +1,29 @@
+-- The files of a volume are those that a scan loads.
+use Rattle.std.proofs.Common.{◌≡◌, ℕ, List, Option, Result, Ok, Err, refl}
+use Rattle.host_base.specs.Answers.{◌>>=◌}
+use Rattle.disk_model.specs.Content.{Content}
+use Rattle.record_model.specs.Records.{Record}
+use Rattle.state_model.specs.declared.geometry.Geometry.{Geometry}
+use Rattle.state_model.specs.declared.geometry.MapRefusal.{MapRefusal}
+use Rattle.state_model.specs.declared.stream.Extents.{Extents}
+use Rattle.state_model.specs.Loads.{table_of, files_in, loaded}
+use Rattle.volume_model.specs.Volumes.{Volume, volume_of}
+
+-- a volume with these files
+abbrev pub with_files : ℕ → ℕ → Extents → List (Option Record) → Volume
+with_files per clusters e files = record { per = per; clusters = clusters; table = e; files = files }
+
+abbrev pub okay : Volume → Result Volume MapRefusal
+okay v = Ok v
+
+files_again : (per clusters : ℕ) (e : Extents) (read : Result (List (Option Record)) MapRefusal) → ((read >>= λ files. okay (with_files per clusters e files)) >>= λ v. Ok v.files) ≡ read
+files_again per clusters e (Ok files) = refl
+files_again per clusters e (Err refusal) = refl
+
+table_again : (per clusters : ℕ) (f : Extents → Result (List (Option Record)) MapRefusal) (table : Result Extents MapRefusal) → ((table >>= λ e. f e >>= λ files. okay (with_files per clusters e files)) >>= λ v. Ok v.files) ≡ (table >>= f)
+table_again per clusters f (Ok e) = files_again per clusters e (f e)
+table_again per clusters f (Err refusal) = refl
+
+pub loaded_again : (c : Content) (g : Geometry) (clusters : ℕ) → (volume_of c g clusters >>= λ v. Ok v.files) ≡ loaded c g
+unfolding volume_of loaded
+loaded_again c g clusters = table_again g.per_cluster clusters (files_in c g.per_cluster) (table_of c g)
