@@ -1,0 +1,13 @@
+pub mod Framing
+pub mod Changing
+pub mod Placing
+pub mod Recording
+pub mod Counting
+pub mod Sharing
+pub mod Replacing
+pub mod Putting
+pub mod Editing
+pub mod Loading
+pub mod Rewriting
+pub mod Tabling
+pub mod Leaving

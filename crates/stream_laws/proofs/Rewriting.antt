@@ -1,0 +1,481 @@
+-- The volume after some records are rewritten.
+use Rattle.std.proofs.Common.{◌≡◌, ℕ, zero, suc, ◌<◌, ◌≤◌, Bool, true, false, not, cond, ◌&&◌, ◌||◌, eqb, List, [], ◌∷◌, ◌++◌, length, get_or, set, map, Option, Some, None, Result, Ok, Err, refl, sym, ap, subst, ◌∙◌, inl, inr, arith}
+use mathlib.Core.Path.{fun_ext}
+use Rattle.std.specs.List.{filter, flat_map, list_all, list_any, range_with_len, AllByRecursion}
+use Rattle.std.proofs.lemmas.Bool.{cases_Bool, cases_lt, or_parts, or_from, eqb-true, eqb-false, ne_eqb, both_ways}
+use Rattle.std.proofs.lemmas.List.{append-nil, get_or_past, get_or-set_same, get_or-set_other}
+use Rattle.std.proofs.lemmas.List.FromFn.{length-map-range_with_len, get_or-map-range_with_len}
+use Rattle.std.proofs.Math.ListN.{length-set}
+use Rattle.host_base.specs.Answers.{◌>>=◌}
+use Rattle.disk_model.specs.declared.block.BlockKind.TheVariants.{FileRec}
+use Rattle.disk_model.specs.Content.{Content, HasSizes}
+use Rattle.disk_model.specs.Writes.{Write, overlay}
+use Rattle.record_model.specs.declared.attribute.Attr.{Attr}
+use Rattle.record_model.specs.declared.list_entry.ListEntry.{ListEntry}
+use Rattle.record_model.specs.ListEntries.{ReadEntries}
+use Rattle.record_model.specs.Records.{Record}
+use Rattle.state_model.specs.declared.geometry.Geometry.{Geometry}
+use Rattle.state_model.specs.declared.geometry.MapRefusal.{MapRefusal}
+use Rattle.state_model.specs.declared.stream.Extents.{Extents}
+use Rattle.state_model.specs.Files.{Table, file_at, only_base, is_base_record, reference}
+use Rattle.state_model.specs.Rules.{same_reference}
+use Rattle.state_model.specs.Streams.{has_cut_block}
+use Rattle.state_model.specs.Loads.{Piece, Torn, Free, Broken, Used, boot_block, record_count, table_of, table_piece, used_record, records_of, table_in, list_stream, entries_in, entries_of, no_entries, is_named_in, named_attrs, all_attrs, whole_file, joined_file, holds_named, is_held, holds_all, has_held_list, cuts_index, breaks_9, breaks_list, breaks_10, broken_rule, or_rule, rule_at, torn_refusal, rule_refusal, first_some, first_of, unless, files_of, files_in}
+use Rattle.volume_model.specs.Volumes.{Volume, volume_of, count_of}
+use Rattle.stream_laws.specs.Changes.{AreElsewhere}
+use Rattle.stream_laws.specs.Volumes.{base_record}
+use Rattle.stream_laws.specs.Replacing.{FileEdit, with_edits, AreEdits}
+use Rattle.stream_laws.specs.Rewrites.{StandsAlone, names_one, ChangesRecords, new_file, changed_file, with_files, changed_volume, is_edited, RewritesRecords}
+use Rattle.stream_laws.proofs.Framing.{same_map, same_piece}
+use Rattle.stream_laws.proofs.Changing.{body_elsewhere, bytes_agree, record_agrees}
+use Rattle.stream_laws.proofs.Editing.{length-with_edits, other_file}
+use Rattle.stream_laws.proofs.Counting.{same_list}
+use Rattle.stream_laws.proofs.Loading.{same_table, same_entries}
+
+-- ---- lists
+
+filter_none : {A : Type 0} (p : A → Bool) (xs : List A) → ((x : A) → p x ≡ false) → filter p xs ≡ []
+filter_none p [] fails = refl
+filter_none p (x ∷ xs) fails = rw (fails x) (filter_none p xs fails)
+
+flat_map_none : {A B : Type 0} (f : A → List B) (xs : List A) → ((x : A) → f x ≡ []) → flat_map f xs ≡ []
+flat_map_none f [] empty = refl
+flat_map_none f (x ∷ xs) empty = rw (empty x) (flat_map_none f xs empty)
+
+either_way : {A : Type 0} (t : Bool) (x : A) → cond t x x ≡ x
+either_way true x = refl
+either_way false x = refl
+
+-- ---- what an attribute list names
+
+-- no entry names an attribute in a record that none names
+no_entry : (touched : ℕ → Bool) (k : ℕ) (q : Record) (a : Attr) (entries : List ListEntry) → names_one touched entries ≡ false → touched k ≡ true → list_any (is_named_in k q a) entries ≡ false
+no_entry touched k q a [] unnamed is = refl
+no_entry touched k q a (e ∷ entries) unnamed is =
+    let parts = or_parts (touched e.holder.number) (names_one touched entries) unnamed in
+    let other : eqb e.holder.number k ≡ false = ne_eqb e.holder.number k (λ same. both_ways (touched k) (sym (ap touched same) ∙ parts.0) is) in
+    rw other (no_entry touched k q a entries parts.1 is)
+
+nothing_named : (touched : ℕ → Bool) (entries : List ListEntry) (n : ℕ) (r : Record) (k : ℕ) (o : Option Record) → names_one touched entries ≡ false → touched k ≡ true → named_attrs entries n r k o ≡ []
+nothing_named touched entries n r k None unnamed is = refl
+nothing_named touched entries n r k (Some q) unnamed is =
+    let test = not (eqb k n) && same_reference q.head.base (reference n r) in
+    ap (λ (l : List Attr). cond test l []) (filter_none (λ a. list_any (is_named_in k q a) entries) q.attrs (λ a. no_entry touched k q a entries unnamed is))
+    ∙ either_way test []
+
+-- nor in any, where there is no entry
+no_names : (n : ℕ) (r : Record) (k : ℕ) (o : Option Record) → named_attrs [] n r k o ≡ []
+no_names n r k None = refl
+no_names n r k (Some q) =
+    let test = not (eqb k n) && same_reference q.head.base (reference n r) in
+    ap (λ (l : List Attr). cond test l []) (filter_none (λ a. list_any (is_named_in k q a) []) q.attrs (λ a. refl)) ∙ either_way test []
+
+-- entries that name none of the touched records are held alike by two tables that agree on the others
+same_holders : (p q : Table) (touched : ℕ → Bool) (n : ℕ) (r : Record) (entries : List ListEntry) → ((m : ℕ) → touched m ≡ false → q m ≡ p m) → names_one touched entries ≡ false → list_all (is_held q n r) entries ≡ list_all (is_held p n r) entries
+unfolding is_held
+same_holders p q touched n r [] same unnamed = refl
+same_holders p q touched n r (e ∷ entries) same unnamed =
+    let parts = or_parts (touched e.holder.number) (names_one touched entries) unnamed in
+    ap (λ (o : Option Record). holds_named n r e o && list_all (is_held q n r) entries) (same e.holder.number parts.0)
+    ∙ ap (λ (t : Bool). is_held p n r e && t) (same_holders p q touched n r entries same parts.1)
+
+-- ---- a record that stands alone
+
+entries_alone : (d : Content) (per : ℕ) (r : Record) → list_stream r ≡ None → entries_of d per r ≡ no_entries
+unfolding entries_of
+entries_alone d per r alone = ap (entries_in d per) alone
+
+-- the same record, its fields one by one
+again : Record → List Attr → Option Record
+again r attrs = Some (record { head = r.head; attrs = attrs })
+
+pub attrs_alone : (d : Content) (per : ℕ) (q : Table) (count m : ℕ) (r : Record) → list_stream r ≡ None → all_attrs d per q count m r ≡ r.attrs
+unfolding all_attrs
+attrs_alone d per q count m r alone =
+    ap (λ (l : ReadEntries). r.attrs ++ flat_map (λ k. named_attrs l.entries m r k (q k)) (range_with_len 0 count)) (entries_alone d per r alone)
+    ∙ ap (λ (l : List Attr). r.attrs ++ l) (flat_map_none (λ k. named_attrs [] m r k (q k)) (range_with_len 0 count) (λ k. no_names m r k (q k)))
+    ∙ append-nil r.attrs
+
+whole_alone : (d : Content) (per : ℕ) (q : Table) (count m : ℕ) (r : Record) (t : Bool) → list_stream r ≡ None → whole_file d per q count m (cond t (Some r) None) ≡ cond t (Some r) None
+unfolding again
+whole_alone d per q count m r true alone = ap (again r) (attrs_alone d per q count m r alone)
+whole_alone d per q count m r false alone = refl
+
+file_alone : (d : Content) (per : ℕ) (q : Table) (count m : ℕ) (x : Piece) → StandsAlone per x → whole_file d per q count m (only_base (used_record x)) ≡ only_base (used_record x)
+file_alone d per q count m Torn alone = absurd alone
+file_alone d per q count m Free alone = refl
+file_alone d per q count m (Broken rule) alone = absurd alone
+file_alone d per q count m (Used r) alone = whole_alone d per q count m r (is_base_record r) alone.0
+
+uncut_base : (per : ℕ) (r : Record) (t : Bool) → cuts_index per (Some r) ≡ false → cuts_index per (cond t (Some r) None) ≡ false
+uncut_base per r true uncut = uncut
+uncut_base per r false uncut = refl
+
+uncut_alone : (per : ℕ) (x : Piece) → StandsAlone per x → cuts_index per (only_base (used_record x)) ≡ false
+uncut_alone per Torn alone = absurd alone
+uncut_alone per Free alone = refl
+uncut_alone per (Broken rule) alone = absurd alone
+uncut_alone per (Used r) alone = uncut_base per r (is_base_record r) alone.1
+
+held_alone : (d : Content) (per : ℕ) (q : Table) (m : ℕ) (r : Record) (t : Bool) → list_stream r ≡ None → breaks_list d per q m (cond t (Some r) None) ≡ false
+unfolding has_held_list
+held_alone d per q m r true alone = ap (λ (l : ReadEntries). not (holds_all q m r l)) (entries_alone d per r alone)
+held_alone d per q m r false alone = refl
+
+list_alone : (d : Content) (per : ℕ) (q : Table) (m : ℕ) (x : Piece) → StandsAlone per x → breaks_list d per q m (only_base (used_record x)) ≡ false
+list_alone d per q m Torn alone = absurd alone
+list_alone d per q m Free alone = refl
+list_alone d per q m (Broken rule) alone = absurd alone
+list_alone d per q m (Used r) alone = held_alone d per q m r (is_base_record r) alone.0
+
+untorn_alone : (per m : ℕ) (x : Piece) → StandsAlone per x → torn_refusal m x ≡ None
+untorn_alone per m Torn alone = absurd alone
+untorn_alone per m Free alone = refl
+untorn_alone per m (Broken rule) alone = absurd alone
+untorn_alone per m (Used r) alone = refl
+
+unbroken_alone : (per : ℕ) (x : Piece) → StandsAlone per x → broken_rule x ≡ None
+unbroken_alone per Torn alone = absurd alone
+unbroken_alone per Free alone = refl
+unbroken_alone per (Broken rule) alone = absurd alone
+unbroken_alone per (Used r) alone = refl
+
+-- ---- no refusal
+
+some_none : {A : Type 0} (a b : Option A) → first_some a b ≡ None → (a ≡ None) × (b ≡ None)
+some_none None b is = (refl, is)
+some_none (Some x) b is = absurd cc
+
+none_below : {A : Type 0} (f : ℕ → Option A) (count : ℕ) → first_of f count ≡ None → (m : ℕ) → m < count → f m ≡ None
+unfolding first_of
+none_below f zero is m below = absurd (omega arith)
+none_below {A} f (suc count) is m below =
+    let parts = some_none (first_of f count) (f count) is in
+    elim (cases_lt m count) [
+      | inl less ↦ none_below f count parts.0 m less
+      | inr last ↦ (let same : m ≡ count = omega arith in ap f same ∙ parts.1)
+    ]
+
+none_at_all : {A : Type 0} (f : ℕ → Option A) (count : ℕ) → ((m : ℕ) → m < count → f m ≡ None) → first_of f count ≡ None
+unfolding first_of
+none_at_all f zero each = refl
+none_at_all {A} f (suc count) each = ap (λ (o : Option A). first_some o (f count)) (none_at_all f count (λ m below. each m (omega arith))) ∙ each count (omega arith)
+
+unruled : (m : ℕ) (o : Option ℕ) → rule_refusal m o ≡ None → o ≡ None
+unruled m None is = refl
+unruled m (Some rule) is = absurd cc
+
+first_part : (o : Option ℕ) (nine ten : Bool) → or_rule o nine ten ≡ None → nine ≡ false
+first_part (Some rule) nine ten is = absurd cc
+first_part None true ten is = absurd cc
+first_part None false ten is = refl
+
+no_rule : (o : Option ℕ) (nine ten : Bool) → o ≡ None → nine ≡ false → ten ≡ false → or_rule o nine ten ≡ None
+no_rule o nine ten none first second = rw (none, first, second) refl
+
+-- ---- the table of two contents that differ in some records
+
+module _ (c d : Content) (per : ℕ) (e : Extents) (touched : ℕ → Bool) (changes : ChangesRecords c d per e touched) where
+  same_other : (m : ℕ) → m < record_count e → touched m ≡ false → table_piece d per e m ≡ table_piece c per e m
+  same_other m below other = same_piece c d per e m (changes.others m below other)
+
+  in_table : (x : Content) (m : ℕ) → m < record_count e → table_in (records_of (table_piece x per e) (record_count e)) m ≡ used_record (table_piece x per e m)
+  unfolding records_of
+  in_table x m below = get_or-map-range_with_len (λ n. used_record (table_piece x per e n)) 0 (record_count e) m m None below (omega arith)
+
+  past_table : (x : Content) (m : ℕ) → record_count e ≤ m → table_in (records_of (table_piece x per e) (record_count e)) m ≡ None
+  unfolding records_of
+  past_table x m past =
+      let size = length-map-range_with_len (λ n. used_record (table_piece x per e n)) 0 (record_count e) in
+      get_or_past (map (λ n. used_record (table_piece x per e n)) (range_with_len 0 (record_count e))) m None (omega (arith, size))
+
+  same_in_table : (m : ℕ) → touched m ≡ false → table_in (records_of (table_piece d per e) (record_count e)) m ≡ table_in (records_of (table_piece c per e) (record_count e)) m
+  same_in_table m other = elim (cases_lt m (record_count e)) [
+    | inl below ↦ in_table d m below ∙ ap used_record (same_other m below other) ∙ sym (in_table c m below)
+    | inr past ↦ past_table d m past ∙ sym (past_table c m past)
+  ]
+
+  same_base : (m : ℕ) → touched m ≡ false → file_at (table_in (records_of (table_piece d per e) (record_count e))) m ≡ base_record c per e m
+  unfolding file_at
+  same_base m other = ap only_base (same_in_table m other)
+
+  new_base : (m : ℕ) → m < record_count e → file_at (table_in (records_of (table_piece d per e) (record_count e))) m ≡ only_base (used_record (table_piece d per e m))
+  unfolding file_at
+  new_base m below = ap only_base (in_table d m below)
+
+  -- ---- one file
+
+  -- the attributes of a file that isn't touched
+  same_named : (n : ℕ) (r : Record) (entries : List ListEntry) → names_one touched entries ≡ false → (k : ℕ)
+      → named_attrs entries n r k (table_in (records_of (table_piece d per e) (record_count e)) k) ≡ named_attrs entries n r k (table_in (records_of (table_piece c per e) (record_count e)) k)
+  same_named n r entries unnamed k =
+      let new = table_in (records_of (table_piece d per e) (record_count e)) k in
+      let old = table_in (records_of (table_piece c per e) (record_count e)) k in
+      elim (cases_Bool (touched k)) [
+        | inl is ↦ nothing_named touched entries n r k new unnamed is ∙ sym (nothing_named touched entries n r k old unnamed is)
+        | inr other ↦ ap (named_attrs entries n r k) (same_in_table k other)
+      ]
+
+  same_all : (m : ℕ) (r : Record) → touched m ≡ false → base_record c per e m ≡ Some r
+      → all_attrs d per (table_in (records_of (table_piece d per e) (record_count e))) (record_count e) m r ≡ all_attrs c per (table_in (records_of (table_piece c per e) (record_count e))) (record_count e) m r
+  unfolding all_attrs
+  same_all m r other is =
+      let q = table_in (records_of (table_piece d per e) (record_count e)) in
+      let entries = (entries_of c per r).entries in
+      ap (λ (l : ReadEntries). r.attrs ++ flat_map (λ k. named_attrs l.entries m r k (q k)) (range_with_len 0 (record_count e))) (same_entries c d per r (changes.lists m r other is))
+      ∙ ap (λ (f : ℕ → List Attr). r.attrs ++ flat_map f (range_with_len 0 (record_count e))) (fun_ext (λ k. same_named m r entries (changes.unnamed m r other is) k))
+
+  whole_other : (m : ℕ) (o : Option Record) → touched m ≡ false → base_record c per e m ≡ o
+      → whole_file d per (table_in (records_of (table_piece d per e) (record_count e))) (record_count e) m o ≡ whole_file c per (table_in (records_of (table_piece c per e) (record_count e))) (record_count e) m o
+  unfolding again
+  whole_other m None other is = refl
+  whole_other m (Some r) other is = ap (again r) (same_all m r other is)
+
+  joined_other : (m : ℕ) → touched m ≡ false
+      → joined_file d per (table_in (records_of (table_piece d per e) (record_count e))) (record_count e) m ≡ joined_file c per (table_in (records_of (table_piece c per e) (record_count e))) (record_count e) m
+  unfolding joined_file
+  joined_other m other =
+      let q = table_in (records_of (table_piece d per e) (record_count e)) in
+      ap (whole_file d per q (record_count e) m) (same_base m other) ∙ whole_other m (base_record c per e m) other refl
+
+  joined_new : (m : ℕ) → m < record_count e → touched m ≡ true
+      → joined_file d per (table_in (records_of (table_piece d per e) (record_count e))) (record_count e) m ≡ only_base (used_record (table_piece d per e m))
+  unfolding joined_file
+  joined_new m below is =
+      let q = table_in (records_of (table_piece d per e) (record_count e)) in
+      ap (whole_file d per q (record_count e) m) (new_base m below) ∙ file_alone d per q (record_count e) m (table_piece d per e m) (changes.alone m below is)
+
+  -- ---- its rules
+
+  held_other : (m : ℕ) (r : Record) → touched m ≡ false → base_record c per e m ≡ Some r
+      → has_held_list d per (table_in (records_of (table_piece d per e) (record_count e))) m r ≡ has_held_list c per (table_in (records_of (table_piece c per e) (record_count e))) m r
+  unfolding has_held_list
+  held_other m r other is =
+      let q = table_in (records_of (table_piece d per e) (record_count e)) in
+      let p = table_in (records_of (table_piece c per e) (record_count e)) in
+      let read = entries_of c per r in
+      ap (holds_all q m r) (same_entries c d per r (changes.lists m r other is))
+      ∙ ap (λ (t : Bool). read.whole && t) (same_holders p q touched m r read.entries same_in_table (changes.unnamed m r other is))
+
+  list_other : (m : ℕ) (o : Option Record) → touched m ≡ false → base_record c per e m ≡ o
+      → breaks_list d per (table_in (records_of (table_piece d per e) (record_count e))) m o ≡ breaks_list c per (table_in (records_of (table_piece c per e) (record_count e))) m o
+  list_other m None other is = refl
+  list_other m (Some r) other is = ap not (held_other m r other is)
+
+  ten_other : (m : ℕ) → touched m ≡ false
+      → breaks_10 d per (table_in (records_of (table_piece d per e) (record_count e))) m ≡ breaks_10 c per (table_in (records_of (table_piece c per e) (record_count e))) m
+  unfolding breaks_10
+  ten_other m other =
+      let q = table_in (records_of (table_piece d per e) (record_count e)) in
+      ap (breaks_list d per q m) (same_base m other) ∙ list_other m (base_record c per e m) other refl
+
+  nine_other : (m : ℕ) → touched m ≡ false
+      → breaks_9 d per e (table_in (records_of (table_piece d per e) (record_count e))) (record_count e) m ≡ breaks_9 c per e (table_in (records_of (table_piece c per e) (record_count e))) (record_count e) m
+  unfolding breaks_9
+  nine_other m other = ap (λ (o : Option Record). ((eqb m 0) && has_cut_block per FileRec (record_count e) e.runs) || cuts_index per o) (joined_other m other)
+
+  rule_other : (m : ℕ) → m < record_count e → touched m ≡ false → rule_at d per e m ≡ rule_at c per e m
+  unfolding rule_at
+  rule_other m below other =
+      let q = table_in (records_of (table_piece d per e) (record_count e)) in
+      ap (λ (x : Piece). or_rule (broken_rule x) (breaks_9 d per e q (record_count e) m) (breaks_10 d per q m)) (same_other m below other)
+      ∙ ap (λ (t : Bool). or_rule (broken_rule (table_piece c per e m)) t (breaks_10 d per q m)) (nine_other m other)
+      ∙ ap (or_rule (broken_rule (table_piece c per e m)) (breaks_9 c per e (table_in (records_of (table_piece c per e) (record_count e))) (record_count e) m)) (ten_other m other)
+
+  uncut_table : (m : ℕ) → rule_at c per e m ≡ None → ((eqb m 0) && has_cut_block per FileRec (record_count e) e.runs) ≡ false
+  unfolding rule_at breaks_9
+  uncut_table m lawful =
+      let p = table_in (records_of (table_piece c per e) (record_count e)) in
+      let nine = first_part (broken_rule (table_piece c per e m)) (breaks_9 c per e p (record_count e) m) (breaks_10 c per p m) lawful in
+      (or_parts ((eqb m 0) && has_cut_block per FileRec (record_count e) e.runs) (cuts_index per (joined_file c per p (record_count e) m)) nine).0
+
+  nine_new : (m : ℕ) → m < record_count e → touched m ≡ true → rule_at c per e m ≡ None → breaks_9 d per e (table_in (records_of (table_piece d per e) (record_count e))) (record_count e) m ≡ false
+  unfolding breaks_9
+  nine_new m below is lawful =
+      let q = table_in (records_of (table_piece d per e) (record_count e)) in
+      or_from _ _ (uncut_table m lawful) (ap (cuts_index per) (joined_new m below is) ∙ uncut_alone per (table_piece d per e m) (changes.alone m below is))
+
+  ten_new : (m : ℕ) → m < record_count e → touched m ≡ true → breaks_10 d per (table_in (records_of (table_piece d per e) (record_count e))) m ≡ false
+  unfolding breaks_10
+  ten_new m below is =
+      let q = table_in (records_of (table_piece d per e) (record_count e)) in
+      ap (breaks_list d per q m) (new_base m below) ∙ list_alone d per q m (table_piece d per e m) (changes.alone m below is)
+
+  rule_new : (m : ℕ) → m < record_count e → touched m ≡ true → rule_at c per e m ≡ None → rule_at d per e m ≡ None
+  unfolding rule_at
+  rule_new m below is lawful = no_rule _ _ _ (unbroken_alone per (table_piece d per e m) (changes.alone m below is)) (nine_new m below is lawful) (ten_new m below is)
+
+  no_rule_now : (m : ℕ) → m < record_count e → rule_at c per e m ≡ None → rule_at d per e m ≡ None
+  no_rule_now m below lawful = elim (cases_Bool (touched m)) [
+    | inl is ↦ rule_new m below is lawful
+    | inr other ↦ rule_other m below other ∙ lawful
+  ]
+
+  untorn_now : (m : ℕ) → m < record_count e → torn_refusal m (table_piece c per e m) ≡ None → torn_refusal m (table_piece d per e m) ≡ None
+  untorn_now m below whole = elim (cases_Bool (touched m)) [
+    | inl is ↦ untorn_alone per m (table_piece d per e m) (changes.alone m below is)
+    | inr other ↦ ap (torn_refusal m) (same_other m below other) ∙ whole
+  ]
+
+  -- the file at each number, where the old files are these
+  file_now : (files : List (Option Record)) (m : ℕ) → m < record_count e → files ≡ files_of c per (table_in (records_of (table_piece c per e) (record_count e))) (record_count e)
+      → joined_file d per (table_in (records_of (table_piece d per e) (record_count e))) (record_count e) m ≡ cond (touched m) (only_base (used_record (table_piece d per e m))) (table_in files m)
+  unfolding files_of
+  file_now files m below are =
+      let p = table_in (records_of (table_piece c per e) (record_count e)) in
+      let new = only_base (used_record (table_piece d per e m)) in
+      elim (cases_Bool (touched m)) [
+        | inl is ↦ joined_new m below is ∙ sym (ap (λ (t : Bool). cond t new (table_in files m)) is)
+        | inr other ↦
+            joined_other m other
+            ∙ sym (ap (λ (l : List (Option Record)). get_or l m None) are ∙ get_or-map-range_with_len (joined_file c per p (record_count e)) 0 (record_count e) m m None below (omega arith))
+            ∙ sym (ap (λ (t : Bool). cond t new (table_in files m)) other)
+      ]
+
+-- ---- the files
+
+-- what is asked of each record, and then the files
+abbrev asked : Option MapRefusal → Option MapRefusal → List (Option Record) → Result (List (Option Record)) MapRefusal
+asked torn broken files = unless torn >>= λ _. unless broken >>= λ _. Ok files
+
+asked_parts : (torn broken : Option MapRefusal) (now files : List (Option Record)) → asked torn broken now ≡ Ok files → (torn ≡ None) × (broken ≡ None) × (files ≡ now)
+asked_parts None None now files is = (refl, refl, cc)
+asked_parts None (Some refusal) now files is = absurd cc
+asked_parts (Some refusal) broken now files is = absurd cc
+
+asked_none : (torn broken : Option MapRefusal) (now files : List (Option Record)) → torn ≡ None → broken ≡ None → now ≡ files → asked torn broken now ≡ Ok files
+asked_none torn broken now files whole lawful are = rw (whole, lawful) (ap (λ (l : List (Option Record)). Ok l) are)
+
+-- what the files are
+pub parts_of_files : (c : Content) (per : ℕ) (e : Extents) (files : List (Option Record)) → files_in c per e ≡ Ok files
+    → ((m : ℕ) → m < record_count e → torn_refusal m (table_piece c per e m) ≡ None) × ((m : ℕ) → m < record_count e → rule_at c per e m ≡ None) × (files ≡ files_of c per (table_in (records_of (table_piece c per e) (record_count e))) (record_count e))
+unfolding files_in
+parts_of_files c per e files is =
+    let p = table_in (records_of (table_piece c per e) (record_count e)) in
+    let torn : ℕ → Option MapRefusal = λ n. torn_refusal n (table_piece c per e n) in
+    let broken : ℕ → Option MapRefusal = λ n. rule_refusal n (rule_at c per e n) in
+    let parts = asked_parts (first_of torn (record_count e)) (first_of broken (record_count e)) (files_of c per p (record_count e)) files is in (
+      none_below torn (record_count e) parts.0,
+      λ m below. unruled m (rule_at c per e m) (none_below broken (record_count e) parts.1 m below),
+      parts.2,
+    )
+
+pub files_now : (c d : Content) (per : ℕ) (e : Extents) (touched : ℕ → Bool) (files : List (Option Record)) → ChangesRecords c d per e touched → files_in c per e ≡ Ok files
+    → files_in d per e ≡ Ok (map (λ m. cond (touched m) (only_base (used_record (table_piece d per e m))) (table_in files m)) (range_with_len 0 (length files)))
+unfolding files_in files_of
+files_now c d per e touched files changes is =
+    let old = parts_of_files c per e files is in
+    let q = table_in (records_of (table_piece d per e) (record_count e)) in
+    let p = table_in (records_of (table_piece c per e) (record_count e)) in
+    let now : ℕ → Option Record = λ m. cond (touched m) (only_base (used_record (table_piece d per e m))) (table_in files m) in
+    let size : length files ≡ record_count e = ap length old.2 ∙ length-map-range_with_len (joined_file c per p (record_count e)) 0 (record_count e) in
+    asked_none _ _ _ _
+    (none_at_all (λ n. torn_refusal n (table_piece d per e n)) (record_count e) (λ m below. untorn_now c d per e touched changes m below (old.0 m below)))
+    (none_at_all (λ n. rule_refusal n (rule_at d per e n)) (record_count e) (λ m below. ap (rule_refusal m) (no_rule_now c d per e touched changes m below (old.1 m below))))
+    (same_map (joined_file d per q (record_count e)) now 0 (record_count e) (λ m low high. file_now c d per e touched changes files m (omega arith) old.2)
+    ∙ ap (λ (k : ℕ). map now (range_with_len 0 k)) (sym size))
+
+-- ---- the volume
+
+abbrev volume_with : ℕ → ℕ → Extents → List (Option Record) → Volume
+volume_with per clusters e files = record { per = per; clusters = clusters; table = e; files = files }
+
+pub record VolumeParts (c : Content) (g : Geometry) (clusters : ℕ) (v : Volume) : Type 0 where
+  pub table : table_of c g ≡ Ok v.table
+  pub files : files_in c g.per_cluster v.table ≡ Ok v.files
+  pub per : g.per_cluster ≡ v.per
+  pub count : clusters ≡ v.clusters
+
+files_part : (per clusters : ℕ) (e : Extents) (read : Result (List (Option Record)) MapRefusal) (v : Volume) → (read >>= λ files. Ok (volume_with per clusters e files)) ≡ Ok v → (read ≡ Ok v.files) × (per ≡ v.per) × (clusters ≡ v.clusters) × (e ≡ v.table)
+files_part per clusters e (Ok files) v is =
+    let made : volume_with per clusters e files ≡ v = cc in
+    (ap (λ (x : Volume). Ok x.files) made, ap (λ (x : Volume). x.per) made, ap (λ (x : Volume). x.clusters) made, ap (λ (x : Volume). x.table) made)
+files_part per clusters e (Err refusal) v is = absurd cc
+
+table_part : (c : Content) (g : Geometry) (clusters : ℕ) (t : Result Extents MapRefusal) (v : Volume) → (t >>= λ e. files_in c g.per_cluster e >>= λ files. Ok (volume_with g.per_cluster clusters e files)) ≡ Ok v
+    → (t ≡ Ok v.table) × (files_in c g.per_cluster v.table ≡ Ok v.files) × (g.per_cluster ≡ v.per) × (clusters ≡ v.clusters)
+table_part c g clusters (Ok e) v is =
+    let parts = files_part g.per_cluster clusters e (files_in c g.per_cluster e) v is in
+    (ap (λ (x : Extents). Ok x) parts.3, sym (ap (files_in c g.per_cluster) parts.3) ∙ parts.0, parts.1, parts.2)
+table_part c g clusters (Err refusal) v is = absurd cc
+
+pub volume_parts : (c : Content) (g : Geometry) (clusters : ℕ) (v : Volume) → volume_of c g clusters ≡ Ok v → VolumeParts c g clusters v
+unfolding volume_of
+volume_parts c g clusters v is =
+    let parts = table_part c g clusters (table_of c g) v is in
+    record { table = parts.0; files = parts.1; per = parts.2; count = parts.3 }
+
+-- a volume from its parts
+volume_from : (d : Content) (g : Geometry) (clusters : ℕ) (e : Extents) (files : List (Option Record)) → table_of d g ≡ Ok e → files_in d g.per_cluster e ≡ Ok files → volume_of d g clusters ≡ Ok (volume_with g.per_cluster clusters e files)
+unfolding volume_of
+volume_from d g clusters e files table is = rw (table, is) refl
+
+pub volume_now : (c d : Content) (g : Geometry) (clusters : ℕ) (v : Volume) (touched : ℕ → Bool) → volume_of c g clusters ≡ Ok v → d (boot_block g 0) ≡ c (boot_block g 0) → ChangesRecords c d v.per v.table touched → volume_of d g clusters ≡ Ok (changed_volume d v touched)
+volume_now c d g clusters v touched is boot changes =
+    let parts = volume_parts c g clusters v is in
+    let old : files_in c v.per v.table ≡ Ok v.files = sym (ap (λ (per : ℕ). files_in c per v.table) parts.per) ∙ parts.files in
+    let files = map (changed_file d v touched) (range_with_len 0 (count_of v)) in
+    let new : files_in d v.per v.table ≡ Ok files = files_now c d v.per v.table touched v.files changes old in
+    let there : files_in d g.per_cluster v.table ≡ Ok files = ap (λ (per : ℕ). files_in d per v.table) parts.per ∙ new in
+    volume_from d g clusters v.table files (same_table c d g boot ∙ parts.table) there
+    ∙ ap (λ (per : ℕ). Ok (volume_with per clusters v.table files)) parts.per
+    ∙ ap (λ (count : ℕ). Ok (volume_with v.per count v.table files)) parts.count
+
+record_changes : (c : Content) (writes : List Write) (per : ℕ) (e : Extents) (touched : ℕ → Bool) → HasSizes c → RewritesRecords c writes per e touched → ChangesRecords c (overlay c writes) per e touched
+record_changes c writes per e touched sized rewrites = record {
+  others = λ m below other. record_agrees c writes per e m sized (rewrites.others m below other);
+  lists = λ m r other is. bytes_agree c writes per (list_stream r) (rewrites.lists m r other is);
+  unnamed = rewrites.unnamed;
+  alone = rewrites.alone;
+}
+
+pub volume_written : (c : Content) (writes : List Write) (g : Geometry) (clusters : ℕ) (v : Volume) (touched : ℕ → Bool) → HasSizes c → volume_of c g clusters ≡ Ok v → AreElsewhere writes (boot_block g 0) → RewritesRecords c writes v.per v.table touched → volume_of (overlay c writes) g clusters ≡ Ok (changed_volume (overlay c writes) v touched)
+volume_written c writes g clusters v touched sized is boot rewrites =
+    volume_now c (overlay c writes) g clusters v touched is (body_elsewhere c writes (boot_block g 0) sized boot) (record_changes c writes v.per v.table touched sized rewrites)
+
+-- ---- the files by number
+
+-- files that are as many, and the changed ones at each number, are the changed files
+changed_by_number : (d : Content) (v : Volume) (touched : ℕ → Bool) (files : List (Option Record)) → length files ≡ count_of v → ((m : ℕ) → m < count_of v → changed_file d v touched m ≡ table_in files m) → changed_volume d v touched ≡ with_files v files
+changed_by_number d v touched files count each =
+    let f = changed_file d v touched in
+    let size = length-map-range_with_len f 0 (count_of v) in
+    ap (with_files v) (same_list None files (map f (range_with_len 0 (count_of v))) (size ∙ sym count) (λ m. elim (cases_lt m (count_of v)) [
+      | inl within ↦ get_or-map-range_with_len f 0 (count_of v) m m None within (omega arith) ∙ each m within
+      | inr past ↦ get_or_past (map f (range_with_len 0 (count_of v))) m None (omega (arith, size)) ∙ sym (get_or_past files m None (omega (arith, count)))
+    ]))
+
+pub one_changed : (d : Content) (v : Volume) (n : ℕ) → changed_volume d v (λ m. eqb m n) ≡ with_files v (set v.files n (new_file d v n))
+one_changed d v n = changed_by_number d v (λ m. eqb m n) (set v.files n (new_file d v n)) (length-set v.files n (new_file d v n)) (λ m within. elim (cases_Bool (eqb m n)) [
+  | inl is ↦
+      (let same : m ≡ n = eqb-true m n is in
+      ap (λ (t : Bool). cond t (new_file d v m) (table_in v.files m)) is
+      ∙ ap (new_file d v) same
+      ∙ sym (ap (λ (k : ℕ). get_or (set v.files n (new_file d v n)) k None) same ∙ get_or-set_same v.files n (new_file d v n) None (subst (λ (k : ℕ). k < length v.files) same within)))
+  | inr other ↦
+      ap (λ (t : Bool). cond t (new_file d v m) (table_in v.files m)) other
+      ∙ sym (get_or-set_other v.files n m (new_file d v n) None (eqb-false m n other))
+])
+
+-- the file at a number after edits, each of which puts in the new file of its number
+at_edited : (new : ℕ → Option Record) (files : List (Option Record)) (edits : List FileEdit) (count m : ℕ) → length files ≡ count → AreEdits count edits → AllByRecursion (λ e. e.file ≡ new e.number) edits → cond (is_edited edits m) (new m) (table_in files m) ≡ table_in (with_edits edits files) m
+at_edited new files [] count m size are puts = refl
+at_edited new files (e ∷ edits) count m size are puts =
+    let next = set files e.number e.file in
+    elim (cases_Bool (eqb e.number m)) [
+      | inl is ↦
+          (let same : e.number ≡ m = eqb-true e.number m is in
+          ap (λ (t : Bool). cond (t || is_edited edits m) (new m) (table_in files m)) is
+          ∙ sym (ap new same)
+          ∙ sym puts.0
+          ∙ sym (get_or-set_same files e.number e.file None (omega (arith, are.0)))
+          ∙ sym (other_file next edits e.number are.1)
+          ∙ ap (table_in (with_edits edits next)) same)
+      | inr other ↦
+          ap (λ (t : Bool). cond (t || is_edited edits m) (new m) (table_in files m)) other
+          ∙ ap (λ (o : Option Record). cond (is_edited edits m) (new m) o) (sym (get_or-set_other files e.number m e.file None (λ same. eqb-false e.number m other (sym same))))
+          ∙ at_edited new next edits count m (length-set files e.number e.file ∙ size) are.2 puts.1
+    ]
+
+pub edits_changed : (d : Content) (v : Volume) (edits : List FileEdit) → AreEdits (count_of v) edits → AllByRecursion (λ e. e.file ≡ new_file d v e.number) edits → changed_volume d v (is_edited edits) ≡ with_files v (with_edits edits v.files)
+edits_changed d v edits are puts = changed_by_number d v (is_edited edits) (with_edits edits v.files) (length-with_edits v.files edits) (λ m within. at_edited (new_file d v) v.files edits (count_of v) m refl are puts)

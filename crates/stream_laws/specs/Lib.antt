@@ -1,0 +1,11 @@
+pub mod Frames
+pub mod Changes
+pub mod Places
+pub mod Records
+pub mod Sharing
+pub mod Replacing
+pub mod Puts
+pub mod Volumes
+pub mod Rewrites
+pub mod Tables
+pub mod Leaving

@@ -1,0 +1,112 @@
+ghost use Rattle.stream_laws.specs.Changes.{BytesAfterWrites, StaysElsewhere};
+ghost use Rattle.stream_laws.specs.Frames.{FrameOfStreams, FrameOfRecords, FrameOfIndexes};
+ghost use Rattle.stream_laws.specs.Leaving.{OtherStreamsStay};
+ghost use Rattle.stream_laws.specs.Places.{NoBlockTwice, OnceByRule};
+ghost use Rattle.stream_laws.specs.Records.{OthersStay, OneRecordChanged};
+ghost use Rattle.stream_laws.specs.Puts.{PutsAreWritten};
+ghost use Rattle.stream_laws.specs.Replacing.{FileReplaced, FilesReplaced};
+ghost use Rattle.stream_laws.specs.Sharing.{AttributesApart, StreamsApart};
+ghost use Rattle.stream_laws.specs.Tables.{TableIsStream};
+ghost use Rattle.stream_laws.specs.Volumes.{FrameOfVolumes, FrameOfNodes};
+ghost use Rattle.stream_laws.specs.Rewrites.{VolumeRewritten};
+
+/// Law: a stream has the same bytes in two contents that agree on the blocks of its sectors below
+/// its sizes.
+pub fn frame_of_streams()
+    ensures { FrameOfStreams }
+{}
+
+/// Law: a file record is the same in two contents that agree on its block.
+pub fn frame_of_records()
+    ensures { FrameOfRecords }
+{}
+
+/// Law: the nodes and names of an index are the same in two contents that agree on its blocks.
+pub fn frame_of_indexes()
+    ensures { FrameOfIndexes }
+{}
+
+/// Law: a byte of a stream is that of the last write that covers it, else that from before.
+pub fn bytes_after_writes()
+    ensures { BytesAfterWrites }
+{}
+
+/// Law: a stream, a file record and an index stay where no write is to a block of theirs.
+pub fn stays_elsewhere()
+    ensures { StaysElsewhere }
+{}
+
+/// Law: no cluster lies twice in runs that keep the rule on owners.
+pub fn once_by_rule()
+    ensures { OnceByRule }
+{}
+
+/// Law: no two places of a stream have a block in common, where no cluster lies twice in its runs.
+pub fn no_block_twice()
+    ensures { NoBlockTwice }
+{}
+
+/// Law: a file record stays under writes to the blocks of others, where no cluster lies twice in
+/// the file table.
+pub fn others_stay()
+    ensures { OthersStay }
+{}
+
+/// Law: writes to the block of one file record change that record alone.
+pub fn one_record_changed()
+    ensures { OneRecordChanged }
+{}
+
+/// Law: blocks in the runs of two attributes of a volume share no sector, where no cluster lies
+/// twice in it.
+pub fn attributes_apart()
+    ensures { AttributesApart }
+{}
+
+/// Law: blocks of two streams of a volume share no sector, where no cluster lies twice in it.
+pub fn streams_apart()
+    ensures { StreamsApart }
+{}
+
+/// Law: where one file is replaced, how often a cluster is used and how many names stand in a
+/// directory change by what the new file adds and the old one took away.
+pub fn file_replaced()
+    ensures { FileReplaced }
+{}
+
+/// Law: writes that put bytes into the sectors of a stream put them into its bytes, where no
+/// cluster lies twice in it.
+pub fn puts_are_written()
+    ensures { PutsAreWritten }
+{}
+
+/// Law: the same where several files are replaced at once, no two of them with one number.
+pub fn files_replaced()
+    ensures { FilesReplaced }
+{}
+
+/// Law: a volume is the same in two contents that agree on the blocks that it is loaded from.
+pub fn frame_of_volumes()
+    ensures { FrameOfVolumes }
+{}
+
+/// Law: the bits of a bitmap and a node are the same in two contents that agree on their bytes.
+pub fn frame_of_nodes()
+    ensures { FrameOfNodes }
+{}
+
+/// Law: where some records are rewritten, a volume has the new files in the places of the old ones.
+pub fn volume_rewritten()
+    ensures { VolumeRewritten }
+{}
+
+/// Law: the file table of a volume that begins where the boot sector says is a stream of it.
+pub fn table_is_stream()
+    ensures { TableIsStream }
+{}
+
+/// Law: writes to the blocks of other streams leave a stream, where no cluster lies twice in the
+/// volume.
+pub fn other_streams_stay()
+    ensures { OtherStreamsStay }
+{}

@@ -1,0 +1,14 @@
+//! What a change of blocks changes in the streams, records and indexes of a volume, and what stays.
+//!
+//! The contract: the laws of these definitions, as functions with no body. The layouts are those of
+//! the Linux-NTFS documentation, "Attribute Header", "Data runs", "$MFT" and "$INDEX_ALLOCATION".
+#![tactic(auto)]
+
+mod laws;
+
+pub use laws::{
+    attributes_apart, bytes_after_writes, file_replaced, files_replaced, frame_of_indexes,
+    frame_of_nodes, frame_of_records, frame_of_streams, frame_of_volumes, no_block_twice,
+    once_by_rule, one_record_changed, other_streams_stay, others_stay, puts_are_written,
+    stays_elsewhere, streams_apart, table_is_stream, volume_rewritten,
+};
