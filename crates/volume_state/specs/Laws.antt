@@ -1,0 +1,45 @@
+-- The laws of a volume's tree.
+use Rattle.std.specs.Prelude.{◌≡◌, [], map, Some, Ok, Err}
+use Rattle.std.specs.Option.{option_map}
+use Rattle.disk_model.specs.Content.{Content}
+use Rattle.tree_model.specs.declared.node.Node.{Node}
+use Rattle.tree_model.specs.declared.tree.Tree.{Tree}
+use Rattle.state_model.specs.declared.broken.Broken.{Broken}
+use Rattle.volume_model.specs.Volumes.{Volume}
+use Rattle.volume_state.specs.Rules.{first_broken}
+use Rattle.volume_state.specs.Trees.{Holds, checked, without_records}
+
+abbrev pub without_bytes : Node → Node
+without_bytes n = record {
+  number = n.number;
+  seq = n.seq;
+  kind = n.kind;
+  why = n.why;
+  held = n.held;
+  size = n.size;
+  valid = n.valid;
+  clusters = n.clusters;
+  bytes = [];
+  flags = n.flags;
+  created = n.created;
+  modified = n.modified;
+  changed = n.changed;
+  read_at = n.read_at;
+}
+
+-- the tree without the bytes of its nodes and the records of its journal
+abbrev pub bare : Tree → Tree
+bare t = record {
+  nodes = map without_bytes t.nodes;
+  links = t.links;
+  spare = t.spare;
+  count = t.count;
+  journal = option_map without_records t.journal;
+  room = t.room;
+}
+
+-- a check reports the tree that the volume stands for, without bytes and records; or the rule that keeps it from standing for any
+pub record ReportOfTree : Type 0 where
+  pub holds : (c : Content) (v : Volume) (t : Tree) → Holds c v t → checked c v ≡ Ok (bare t)
+  pub reports : (c : Content) (v : Volume) (t : Tree) → checked c v ≡ Ok t → (u : Tree) × Holds c v u × (t ≡ bare u)
+  pub breaks : (c : Content) (v : Volume) (b : Broken) → checked c v ≡ Err b → first_broken c v ≡ Some b

@@ -1,0 +1,5 @@
+pub mod Versions
+pub mod Journals
+pub mod Rules
+pub mod Trees
+pub mod Laws
