@@ -1,3 +1,2 @@
 pub mod Disks
-pub mod Growing
 pub mod Steps

@@ -9,7 +9,11 @@ use Rattle.host_base.specs.Answers.{◌>>=◌, Explains, ExplainsOrFails, Gives,
 use Rattle.host_base.proofs.Known.{both, one, always}
 use Rattle.disk_model.specs.Bodies.{BodyOf}
 use Rattle.disk_model.specs.Content.{Content}
+use Rattle.record_model.specs.Records.{Record}
+use Rattle.tree_model.specs.declared.link.Link.{Link}
+use Rattle.state_model.specs.declared.geometry.Geometry.{Geometry}
 use Rattle.state_model.specs.declared.geometry.MapRefusal.{MapRefusal}
+use Rattle.state_model.specs.Loads.{loaded}
 use Rattle.state_model.specs.declared.stream.Stream.{Stream}
 use Rattle.state_model.specs.declared.stream.Stream.TheVariants.{Held, Placed}
 use Rattle.state_model.specs.Streams.{byte_at, extent_bytes, stream_bytes, real_size}
@@ -18,11 +22,12 @@ use Rattle.boot_sector.specs.BootSectors.{boot_of}
 use Rattle.volume_map.specs.declared.fault.MapFault.{MapFault}
 use Rattle.volume_map.specs.declared.fault.MapFault.TheVariants as faults
 use Rattle.volume_map.specs.Errors.{map_cause}
+use Rattle.volume_map.specs.Names.{long_links as long_names, loaded_links}
 use Rattle.image_scan.specs.declared.refusal.Refusal.{Refusal}
 use Rattle.image_scan.specs.declared.refusal.ScanError.{ScanError}
 use Rattle.image_scan.specs.declared.refusal.ScanError.TheVariants as errors
 use Rattle.image_scan.specs.Errors.{scan_cause, boot_refusal, map_refusal, refused_as, error_of_map}
-use Rattle.image_scan.specs.Scans.{boot_place, boot_in, log_front, begins_with_ff, is_emptied}
+use Rattle.image_scan.specs.Scans.{boot_place, boot_in, log_front, begins_with_ff, is_emptied, files_of, long_links, links_in}
 
 -- ---- causes
 
@@ -135,3 +140,19 @@ pub is_no_shorter : (known : Option Content) (per : ℕ) (s : Stream) (count : �
     → IfSome known (λ c. GivesOrFails (λ is. is) scan_cause result (okay (begins_with_ff c per s count))) → IfSome known (λ c. GivesOrFails (λ is. is) scan_cause result (okay (is_emptied c per s)))
 unfolding is_emptied
 is_no_shorter known per s count result le size h = one known _ _ (λ c p. rw (le-leb log_front (real_size s) le) (subst (front_judged c per s result) size p)) h
+
+-- ---- links
+
+links_by : (files : Result (List (Option Record)) MapRefusal) → refused_as map_refusal (files >>= λ fs. Ok (long_names fs)) ≡ (refused_as map_refusal files >>= λ fs. Ok (long_links fs))
+unfolding long_names long_links
+links_by (Ok fs) = refl
+links_by (Err r) = refl
+
+links_same : (c : Content) (g : Geometry) → refused_as map_refusal (loaded_links c g) ≡ links_in c g
+unfolding loaded_links links_in files_of
+links_same c g = links_by (loaded c g)
+
+-- the links that the file table gives, as the image's
+pub as_links : {X : Type 0} (known : Option Content) (view : X → List Link) (g : Geometry) (result : Result X ScanError) → IfSome known (λ c. GivesOrFails view scan_cause result (refused_as map_refusal (loaded_links c g)))
+    → IfSome known (λ c. GivesOrFails view scan_cause result (links_in c g))
+as_links known view g result h = one known _ _ (λ c p. rw (← links_same c g) p) h

@@ -7,7 +7,6 @@
 
 mod boot;
 mod log;
-mod names;
 mod refusal;
 mod scan;
 

@@ -8,38 +8,20 @@ ghost use Rattle.boot_sector.specs.BootSectors.{IsInProfile};
 ghost use Rattle.device_view.specs.Devices.{KeepsDevice};
 ghost use Rattle.volume_map.specs.Views.{KeepsView};
 ghost use Rattle.image_scan.specs.Errors.{scan_cause};
-ghost use Rattle.image_scan.specs.Scans.{geometry_of, files_of, links_in, volume_links, scan_in, scan_of};
+ghost use Rattle.image_scan.specs.Scans.{geometry_of, links_in, volume_links, scan_in, scan_of};
 
 use crate::boot::boot_on;
 use crate::log::check_log;
-use crate::names::long_links;
 use crate::refusal::{Refusal, ScanError};
 use block_view::View;
 use boot_sector::Boot;
 use device_view::{DeviceView, piece_room};
 use disk_model::Body;
-use file_record::FileRec;
 use sector_device::Device;
 use state_model::Geometry;
 use std::alloc::Global;
 use tree_model::Link;
-use volume_map::load;
-
-// The files of the volume.
-fn files_of<V: View>(
-    alloc: Global,
-    view: &mut V,
-    geometry: Geometry,
-) -> Result<Vec<Option<FileRec>>, ScanError>
-    requires some { 0 < geometry.per_cluster }
-    requires few { geometry.per_cluster ≤ 8 }
-    requires place { geometry.mft * geometry.per_cluster < 2 ^ 62 }
-    ensures answer { IfSome (V.content view.old) (λ c. GivesOrFails (λ files. files.items) scan_cause result (files_of c geometry)) }
-    ensures kept { KeepsView V.content V.kept V.faults view.old view.new }
-    ensures fault { IsErrOf result ScanError.Device → Rose (V.faults view.old) (V.faults view.new) }
-{
-    Ok(load(alloc, view, geometry)?)
-}
+use volume_map::load_links;
 
 // The links of the volume's files.
 fn links_in<V: View>(
@@ -54,8 +36,7 @@ fn links_in<V: View>(
     ensures kept { KeepsView V.content V.kept V.faults view.old view.new }
     ensures fault { IsErrOf result ScanError.Device → Rose (V.faults view.old) (V.faults view.new) }
 {
-    let files = files_of(alloc, view, geometry)?;
-    Ok(long_links(alloc, &files)?)
+    Ok(load_links(alloc, view, geometry)?)
 }
 
 // The links of a volume of this geometry.
@@ -120,8 +101,10 @@ fn scan_device<D: Device>(
 /// in the file records.
 ///
 /// It reads the boot sector, record 2 and the first two pages of the log, and then goes over the
-/// file table once, in reads of 64 KiB where its records lie one behind the other. Time is linear in
-/// the file table, and in its runs for each record; memory is linear in the file table.
+/// file table, in reads of 64 KiB where its records lie one behind the other: once, and keeping only
+/// the names, as long as no file has an attribute list. At the first file that has one it begins again
+/// and keeps all records. Time is linear in the file table, and in its runs for each record; memory is
+/// linear in the names, or in the file table where a file has an attribute list.
 ///
 /// - [`ScanError::Refused`]: the first refusal that applies. First [`Refusal::Short`] of 1 and 0
 ///   where the device has no sectors; then those of the boot sector; then `Short` with the sectors

@@ -4,3 +4,7 @@ pub mod Owners
 pub mod Joins
 pub mod ReadLists
 pub mod Loaded
+pub mod Growing
+pub mod Plainly
+pub mod Scanned
+pub mod Seeing

@@ -82,7 +82,7 @@ rule_is c per e n lt =
 
 -- ---- over all numbers
 
-first_same : {A : Type 0} (f g : ℕ → Option A) (count : ℕ) → ((n : ℕ) → n < count → f n ≡ g n) → first_of f count ≡ first_of g count
+pub first_same : {A : Type 0} (f g : ℕ → Option A) (count : ℕ) → ((n : ℕ) → n < count → f n ≡ g n) → first_of f count ≡ first_of g count
 unfolding first_of
 first_same f g zero each = refl
 first_same f g (suc count) each =
@@ -144,7 +144,7 @@ walk_fails c per e faults.Memory h = tt
 pub unwalked : (known : Option Content) (per : ℕ) (e : Extents) (fault : MapFault) → IfSome known (λ c. WalksAll (table_piece c per e) (record_count e) (Err fault)) → IfSome known (λ c. ExplainsOrFails (map_cause fault) (files_in c per e))
 unwalked known per e fault h = one known _ _ (λ c w. walk_fails c per e fault w) h
 
-never : {Y : Type 0} (X : Type 0) (e : MapFault) (meant : Result Y MapRefusal) → NeverRefused {X = X} (Err e) → ExplainsOrFails (map_cause e) meant
+pub never : {Y : Type 0} (X : Type 0) (e : MapFault) (meant : Result Y MapRefusal) → NeverRefused {X = X} (Err e) → ExplainsOrFails (map_cause e) meant
 never X (faults.Refused r) meant h = absurd h
 never X faults.View meant h = tt
 never X faults.Memory meant h = tt
@@ -154,7 +154,7 @@ pub unread : (Z : Type 0) (known : Option Content) (per : ℕ) (e : Extents) (fa
 unread Z known per e fault h = always known _ (λ c. never Z fault (files_in c per e) h)
 
 -- the table, and then the files
-bound_fails : {A B : Type 0} (e : MapFault) (f : Result A MapRefusal) (g : A → Result B MapRefusal) → ExplainsOrFails (map_cause e) f → ExplainsOrFails (map_cause e) (f >>= g)
+pub bound_fails : {A B : Type 0} (e : MapFault) (f : Result A MapRefusal) (g : A → Result B MapRefusal) → ExplainsOrFails (map_cause e) f → ExplainsOrFails (map_cause e) (f >>= g)
 bound_fails (faults.Refused r) f g h = ap (λ x. x >>= g) h
 bound_fails faults.View f g h = tt
 bound_fails faults.Memory f g h = tt

@@ -145,7 +145,7 @@ refused_is (Some q) r h = cc
 more_by : (k count : ℕ) → k ≤ count → (more : ℕ) × (count ≡ more + k)
 more_by k count le = (count - k, omega arith)
 
-refused_more : (e : MapFault) (at : ℕ → Option MapRefusal) (k count : ℕ) → k ≤ count → ExplainsOrFails (map_cause e) (unless (first_of at k)) → ExplainsOrFails (map_cause e) (unless (first_of at count))
+pub refused_more : (e : MapFault) (at : ℕ → Option MapRefusal) (k count : ℕ) → k ≤ count → ExplainsOrFails (map_cause e) (unless (first_of at k)) → ExplainsOrFails (map_cause e) (unless (first_of at count))
 refused_more (faults.Refused r) at k count le h =
     let m = more_by k count le in
     let found = refused_is (first_of at k) r h in

@@ -3,3 +3,7 @@ pub mod Pieces
 pub mod Views
 pub mod Stages
 pub mod Lists
+pub mod Maps
+pub mod Names
+pub mod Plain
+pub mod Scans

@@ -1,5 +1,5 @@
 //! The least rule that each record breaks.
-ghost use Rattle.std.specs.Prelude.{◌≡◌, ◌==◌, ◌<◌, ◌≤◌, ℕ, length, IfOk, slice_index_or, None, false};
+ghost use Rattle.std.specs.Prelude.{◌≡◌, ◌==◌, ◌<◌, ◌≤◌, ℕ, length, IfOk, slice_index_or, Some, None, false};
 ghost use Rattle.host_base.specs.Answers.{Gives};
 ghost use Rattle.state_model.specs.Indexes.{names_index};
 ghost use Rattle.state_model.specs.Streams.{has_cut_block, stream_of};
@@ -17,7 +17,8 @@ use state_model::{MapRefusal, Stream};
 use std::alloc::Global;
 use stream_map::{has_cut_block, stream_of};
 
-const INDEX_ALLOCATION: u32 = 0xA0;
+/// The type of indexes in clusters.
+pub const INDEX_ALLOCATION: u32 = 0xA0;
 
 // $I30
 const NAMES_INDEX: [u16; 4] = [0x24, 0x49, 0x33, 0x30];
@@ -44,16 +45,14 @@ fn is_directory(file: &FileRec) -> bool
     RecordFlags::has_directory(file.head().flags)
 }
 
-// Whether a block of the directory's index lies in two runs.
+/// Whether a block of the directory's index lies in two runs; linear in the record. The error is want of
+/// memory.
 #[tactic(auto, unfolding(state_model::specs::Indexes::names_index))]
-fn cuts_index(alloc: Global, per: u64, file: &Option<FileRec>) -> Result<bool, Memory>
+pub fn cuts_index(alloc: Global, per: u64, file: &FileRec) -> Result<bool, Memory>
     requires some { 0 < per }
     requires few { per ≤ 8 }
-    ensures { IfOk result (λ cuts. cuts ≡ cuts_index per file.now) }
+    ensures { IfOk result (λ cuts. cuts ≡ cuts_index per (Some file.now)) }
 {
-    let Some(file) = file else {
-        return Ok(false);
-    };
     if !is_directory(file) {
         return Ok(false);
     }
@@ -66,8 +65,20 @@ fn cuts_index(alloc: Global, per: u64, file: &Option<FileRec>) -> Result<bool, M
     Ok(has_cut_index_block(per, stream))
 }
 
-// The rule of a record by what was found: that of 1 to 8, or 9 or 10.
-fn or_rule(rule: Option<u32>, nine: bool, ten: bool) -> Option<u32>
+// The same of a file, if there is one.
+fn file_cuts_index(alloc: Global, per: u64, file: &Option<FileRec>) -> Result<bool, Memory>
+    requires some { 0 < per }
+    requires few { per ≤ 8 }
+    ensures { IfOk result (λ cuts. cuts ≡ cuts_index per file.now) }
+{
+    match file {
+        Some(file) => cuts_index(alloc, per, file),
+        None => Ok(false),
+    }
+}
+
+/// The rule of a record by what was found: that of 1 to 8, or 9 or 10.
+pub fn or_rule(rule: Option<u32>, nine: bool, ten: bool) -> Option<u32>
     ensures { result ≡ or_rule rule nine ten }
 {
     match rule {
@@ -96,7 +107,7 @@ fn rule_at(
     requires tens { number < length tens.now }
     ensures { IfOk result (λ rule. rule ≡ rule_by per cut number rules.now tens.now files.now) }
 {
-    let nine = number == 0 && cut || cuts_index(alloc, per, &files[number])?;
+    let nine = number == 0 && cut || file_cuts_index(alloc, per, &files[number])?;
     Ok(or_rule(rules[number], nine, tens[number]))
 }
 

@@ -25,7 +25,8 @@ use state_model::Stream;
 use std::alloc::{AllocError, Global};
 use stream_map::stream_of;
 
-const ATTRIBUTE_LIST: u32 = 0x20;
+/// The type of attribute lists.
+pub const ATTRIBUTE_LIST: u32 = 0x20;
 
 // The first attribute that is a list.
 fn list_attr(attrs: &[Attr]) -> Option<&Attr>

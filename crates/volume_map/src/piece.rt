@@ -33,7 +33,7 @@ fn is_signed(bytes: &[u8]) -> bool
 }
 
 #[tactic(auto, unfolding(record_model::specs::Records::is_in_use))]
-fn is_used(body: &[u8]) -> bool
+pub fn is_used(body: &[u8]) -> bool
     requires { length body.now ≡ 1024 }
     ensures { result ≡ is_used body.now }
 {

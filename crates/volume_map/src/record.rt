@@ -2,7 +2,8 @@
 ghost use Rattle.std.specs.Prelude.{◌≡◌, ◌==◌, ◌+◌, ◌%◌, ◌^◌, length, IfOk};
 ghost use Rattle.std.specs.List.{list_all};
 ghost use Rattle.host_base.specs.Answers.{Gives};
-ghost use Rattle.state_model.specs.Loads.{total_clusters, has_fitting_pairs, form_fits, has_all_pairs, whole_record};
+ghost use Rattle.record_model.specs.Pairs.{runs_of};
+ghost use Rattle.state_model.specs.Loads.{total_clusters, span, has_fitting_pairs, form_fits, has_all_pairs, whole_record};
 ghost use Rattle.file_record.specs.Faults.{rec_cause};
 
 use file_record::{FileRec, RecFault, Shaped};
@@ -21,16 +22,24 @@ fn do_span(sizes: Sizes, runs: &[Run]) -> bool
     end == sizes.last.wrapping_add(1)
 }
 
+/// Whether mapping pairs are read, and have the clusters from the first VCN to the last one; linear in
+/// the pairs.
+pub fn pairs_fit(alloc: Global, sizes: Sizes, pairs: &[u8]) -> Result<bool, Memory>
+    ensures { IfOk result (λ fits. fits ≡ span sizes (runs_of sizes.first pairs.now)) }
+{
+    match mapping_pairs::read(alloc, pairs, sizes.first) {
+        Ok(runs) => Ok(do_span(sizes, runs.as_slice())),
+        Err(PairsFault::Memory) => Err(Memory),
+        Err(_) => Ok(false),
+    }
+}
+
 fn form_fits(alloc: Global, form: &OwnForm) -> Result<bool, Memory>
     ensures { IfOk result (λ fits. fits ≡ form_fits form.now) }
 {
-    let OwnForm::Mapped { sizes, pairs } = form else {
-        return Ok(true);
-    };
-    match mapping_pairs::read(alloc, pairs.as_slice(), sizes.first) {
-        Ok(runs) => Ok(do_span(*sizes, runs.as_slice())),
-        Err(PairsFault::Memory) => Err(Memory),
-        Err(_) => Ok(false),
+    match form {
+        OwnForm::Resident { .. } => Ok(true),
+        OwnForm::Mapped { sizes, pairs } => pairs_fit(alloc, *sizes, pairs.as_slice()),
     }
 }
 
