@@ -1,0 +1,72 @@
+//! The runs of a volume's files.
+ghost use Rattle.std.specs.Prelude.{◌≡◌, ◌++◌, IfOk, OnOk};
+ghost use Rattle.record_model.specs.Pairs.{runs_of};
+ghost use Rattle.std.specs.List.{flat_map};
+ghost use Rattle.state_model.specs.Streams.{runs_or, form_runs, piece_runs};
+ghost use Rattle.stream_map.specs.Runs.{AreSmall};
+ghost use Rattle.volume_model.specs.Owners.{file_runs, volume_runs};
+
+use file_record::FileRec;
+use host_base::Memory;
+use record_model::{Attr, OwnForm, PairsFault, Run, Runs};
+use std::alloc::Global;
+
+/// The runs of mapping pairs, or none where these are at fault.
+fn runs_or(alloc: Global, first: u64, pairs: &[u8]) -> Result<Runs, Memory>
+    ensures { IfOk result (λ runs. runs ≡ runs_or (runs_of first pairs.now)) }
+{
+    match mapping_pairs::read(alloc, pairs, first) {
+        Ok(runs) => Ok(runs),
+        Err(PairsFault::Memory) => Err(Memory),
+        Err(PairsFault::Header { .. }) => Ok(Runs::new(alloc)),
+        Err(PairsFault::Cut { .. }) => Ok(Runs::new(alloc)),
+        Err(PairsFault::Range { .. }) => Ok(Runs::new(alloc)),
+    }
+}
+
+fn push_form(alloc: Global, out: &mut Vec<Run>, form: &OwnForm) -> Result<(), Memory>
+    ensures { OnOk result (out.new.items ≡ out.old.items ++ form_runs form.now) }
+{
+    match form {
+        OwnForm::Resident { .. } => Ok(()),
+        OwnForm::Mapped { sizes, pairs } => {
+            let runs = runs_or(alloc, sizes.first, pairs.as_slice())?;
+            out.extend_from_slice(runs.as_slice())?;
+            Ok(())
+        }
+    }
+}
+
+fn push_attrs(alloc: Global, out: &mut Vec<Run>, attrs: &[Attr]) -> Result<(), Memory>
+    ensures { OnOk result (out.new.items ≡ out.old.items ++ flat_map piece_runs attrs.now) }
+{
+    for attr in attrs {
+        push_form(alloc, out, &attr.form)?;
+    }
+    Ok(())
+}
+
+fn push_file(alloc: Global, out: &mut Vec<Run>, file: &Option<FileRec>) -> Result<(), Memory>
+    ensures { OnOk result (out.new.items ≡ out.old.items ++ file_runs file.now) }
+{
+    match file {
+        Some(file) => push_attrs(alloc, out, file.attrs().as_slice()),
+        None => Ok(()),
+    }
+}
+
+/// The runs of all attributes of a volume's files, file by file and in the order of each file's
+/// attributes (Linux-NTFS documentation, "Data runs"). An attribute whose mapping pairs are at fault
+/// has no runs. The error is want of memory. It takes time and memory linear in the bytes of the
+/// attributes.
+#[tactic(auto, unfolding(volume_model::specs::Owners::volume_runs))]
+pub fn volume_runs(alloc: Global, files: &[Option<FileRec>]) -> Result<Runs, Memory>
+    ensures value { IfOk result (λ runs. runs ≡ volume_runs files.now) }
+    ensures small { IfOk result AreSmall }
+{
+    let mut runs = Vec::new(alloc);
+    for file in files {
+        push_file(alloc, &mut runs, file)?;
+    }
+    Ok(Runs::from(runs))
+}
