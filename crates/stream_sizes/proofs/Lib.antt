@@ -1,0 +1,4 @@
+pub mod Following
+pub mod Numbers
+pub mod Passing
+pub mod Steps
