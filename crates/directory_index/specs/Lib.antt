@@ -1,0 +1,5 @@
+pub mod Errors
+pub mod Fills
+pub mod Placed
+pub mod Answered
+pub mod Loaded

@@ -1,0 +1,75 @@
+//! Where a directory's index lies.
+ghost use Rattle.std.specs.Prelude.{◌≡◌, ◌<◌, ◌≤◌, IfOk, IfSome};
+ghost use Rattle.stream_map.specs.Runs.{HasSmallRuns};
+ghost use Rattle.index_tree.specs.Places.{place_of};
+ghost use Rattle.volume_model.specs.Indexes.{stream_blocks, index_stream, index_place, root_value};
+ghost use Rattle.directory_index.specs.Placed.{root_in};
+
+use crate::filling::blocks_of;
+use crate::roots::{index_stream, root_value};
+use block_view::Block;
+use file_record::FileRec;
+use host_base::{Bytes, Memory};
+use index_tree::DirPlace;
+use state_model::Stream;
+use std::alloc::Global;
+
+// The blocks of a stream; a value in the record has none.
+fn stream_blocks(alloc: Global, per: u64, stream: &Option<Stream>) -> Result<Vec<Block>, Memory>
+    requires some { 0 < per }
+    requires few { per ≤ 8 }
+    requires small { IfSome stream.now HasSmallRuns }
+    ensures { IfOk result (λ blocks. blocks.items ≡ stream_blocks per stream.now) }
+{
+    match stream {
+        None => Ok(Vec::new(alloc)),
+        Some(Stream::Held(_)) => Ok(Vec::new(alloc)),
+        Some(Stream::Placed(extents)) => blocks_of(alloc, per, extents),
+    }
+}
+
+// The blocks of a directory's index.
+fn index_blocks(alloc: Global, per: u64, file: &FileRec) -> Result<Vec<Block>, Memory>
+    requires some { 0 < per }
+    requires few { per ≤ 8 }
+    ensures { IfOk result (λ blocks. blocks.items ≡ stream_blocks per (index_stream file.now)) }
+{
+    let stream = index_stream(alloc, file)?;
+    stream_blocks(alloc, per, &stream)
+}
+
+// Where an index with this root lies.
+#[tactic(auto, unfolding(volume_model::specs::Indexes::index_place))]
+fn place_below(alloc: Global, per: u64, file: &FileRec, root: &Bytes) -> Result<DirPlace, Memory>
+    requires some { 0 < per }
+    requires few { per ≤ 8 }
+    ensures place { IfOk result (λ found. place_of found ≡ index_place per file.now) }
+    ensures root { IfOk result (λ found. found.root ≡ root.now) }
+{
+    let blocks = index_blocks(alloc, per, file)?;
+    Ok(DirPlace {
+        root: root.clone()?,
+        blocks,
+        step: 8 / per,
+        used: 0,
+    })
+}
+
+/// Where the index of a directory's names lies (Linux-NTFS documentation, "$INDEX_ROOT" and
+/// "$INDEX_ALLOCATION"), in a volume of `per` sectors a cluster; nowhere if its root isn't there or
+/// isn't resident. `used` is 0, since a file doesn't say it. The error is want of memory.
+///
+/// It takes time and memory linear in the attributes and runs of the file, and in the blocks that
+/// the allocation has by its real size and that begin in its runs: also where its clusters are
+/// sparse. Where clusters lie in several runs, its time is linear in these.
+pub fn index_place(alloc: Global, per: u64, file: &FileRec) -> Result<Option<DirPlace>, Memory>
+    requires some { 0 < per }
+    requires few { per ≤ 8 }
+    ensures place { IfOk result (λ found. IfSome found (λ dir. place_of dir ≡ index_place per file.now)) }
+    ensures root { IfOk result (λ found. root_in found ≡ root_value file.now) }
+{
+    match root_value(file) {
+        Some(root) => Ok(Some(place_below(alloc, per, file, root)?)),
+        None => Ok(None),
+    }
+}
