@@ -1,0 +1,39 @@
+-- The heads of the records of a file table.
+use Rattle.std.specs.Prelude.{ℕ, Bool, true, false, List, map, Option, Some, None, if◌then◌else◌, slice_index_or}
+use Rattle.std.specs.List.{range_with_len}
+use Rattle.host_base.specs.declared.file_ref.FileRef.{FileRef}
+use Rattle.disk_model.specs.Content.{Content}
+use Rattle.bit_set.specs.Bits.{bit}
+use Rattle.state_model.specs.Rules.{implies}
+use Rattle.state_model.specs.Loads.{is_used}
+use Rattle.volume_model.specs.Volumes.{Volume, count_of, record_bytes}
+use Rattle.volume_model.specs.Nodes.{spare_sequence}
+use Rattle.volume_parts.specs.declared.head.Head.{Head}
+
+-- the head of a record with these bytes
+unfoldable pub head_of : List ℕ → Head
+head_of bytes = record { in_use = is_used bytes; sequence = spare_sequence bytes }
+
+unfoldable pub head_at : Content → Volume → ℕ → Head
+head_at c v n = head_of (record_bytes c v n)
+
+-- the heads of all records, by number
+unfoldable pub heads_of : Content → Volume → List Head
+heads_of c v = map (head_at c v) (range_with_len 0 (count_of v))
+
+-- ---- by heads and bits
+
+-- the head of a record that isn't there
+abbrev pub no_head : Head
+no_head = record { in_use = false; sequence = 1 }
+
+abbrev pub head_in : List Head → ℕ → Head
+head_in heads n = slice_index_or heads n no_head
+
+-- the record isn't in use, or its bit is set
+unfoldable pub keeps_head : List Head → List Bool → ℕ → Bool
+keeps_head heads bits n = implies (head_in heads n).in_use (bit bits n)
+
+-- the number with its sequence, where its bit is clear
+unfoldable pub spare_of : List Head → List Bool → ℕ → Option FileRef
+spare_of heads bits n = if bit bits n then None else Some (record { number = n; seq = (head_in heads n).sequence })
