@@ -1,0 +1,3 @@
+pub mod PagesLeft
+pub mod Shapes
+pub mod WithoutRecords

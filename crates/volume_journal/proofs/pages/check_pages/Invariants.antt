@@ -1,0 +1,11 @@
+use Rattle.std.proofs.Common.{◌/◌, ◌≤◌}
+use Rattle.volume_map.specs.Views.{KeepsView}
+use Rattle.volume_journal.proofs.PagesLeft.{IsLeft}
+use Rattle.volume_journal.proofs.pages.check_pages.Given as goal
+
+abbrev pub invariant-loop-number : goal.invariant-loop-number
+invariant-loop-number g l = record {
+  from : l.first / 4096 ≤ l.number;
+  left : IsLeft (g.V.View.content l.initial.view) l.per l.extents l.first l.number;
+  kept : KeepsView g.V.View.content g.V.View.kept g.V.View.faults l.initial.view l.view;
+}
