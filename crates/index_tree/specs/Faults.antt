@@ -1,11 +1,13 @@
 -- Where an error of a call over an index comes from.
-use Rattle.std.specs.Prelude.{ℕ, ◌≤◌, ⊤, Result, Ok, Err, IfErr, Bool, true, false}
+use Rattle.std.specs.Prelude.{◌≡◌, ℕ, ◌≤◌, ⊤, List, Option, Some, None, Result, Ok, Err, IfErr, Bool, true, false}
 use Rattle.host_base.specs.Answers.{Cause, refused, no_memory, failed, never}
 use Rattle.host_base.specs.Causes.{Rose}
 use Rattle.block_view.specs.declared.fault.ViewFault.{ViewFault}
 use Rattle.block_view.specs.declared.fault.ViewFault.TheVariants.{Fault, Memory}
 use Rattle.index_model.specs.declared.side.Side.{Side}
 use Rattle.index_model.specs.declared.side.Side.TheVariants.{Unnamed, Before, Same, Behind}
+use Rattle.record_model.specs.declared.entry.Entry.{Entry}
+use Rattle.record_model.specs.Nodes.{Node as NodeOf}
 use Rattle.index_model.specs.Walks.{Broken}
 use Rattle.index_tree.specs.declared.fault.TreeFault.{TreeFault}
 use Rattle.index_tree.specs.declared.fault.TreeFault.TheVariants.{Node, Present, Absent, Deep, View}
@@ -40,6 +42,11 @@ pub record FailsByView {T : Type 0} (before now : ℕ) (result : Result T TreeFa
   pub later : before ≤ now
   pub rose : IfErr result (FaultRose before now)
 
+-- the same of a call that fails as a view alone
+pub record FailsAsView {T : Type 0} (before now : ℕ) (result : Result T ViewFault) : Type 0 where
+  pub later : before ≤ now
+  pub rose : IfErr result (ViewRose before now)
+
 -- the node with this VCN, or it as the one at fault
 abbrev pub broken_at : {A : Type 0} → ℕ → Result A ℕ → Result A Broken
 broken_at v (Ok x) = Ok x
@@ -51,3 +58,39 @@ is_behind Unnamed = false
 is_behind Before = false
 is_behind Same = false
 is_behind Behind = true
+
+-- a node that is read, where no rule is broken
+abbrev pub IsRead : Result (List Entry) ℕ → Option NodeOf → Type 0
+IsRead read (Some n) = read ≡ Ok n.entries
+IsRead (Ok entries) None = ⊥
+IsRead (Err rule) None = ⊤
+
+-- what a call that reads a node answers, without the rules
+abbrev pub ViewOf : Result (Option NodeOf) ViewFault → Result NodeOf TreeFault → Type 0
+ViewOf result (Ok n) = result ≡ Ok (Some n)
+ViewOf result (Err (Node vcn rule)) = result ≡ Ok None
+ViewOf result (Err Present) = result ≡ Ok None
+ViewOf result (Err Absent) = result ≡ Ok None
+ViewOf result (Err (Deep height)) = result ≡ Ok None
+ViewOf result (Err (View cause)) = result ≡ Err cause
+
+-- the error is of a view, or want of memory
+abbrev pub IsOfView : TreeFault → Type 0
+IsOfView (Node vcn rule) = ⊥
+IsOfView Present = ⊥
+IsOfView Absent = ⊥
+IsOfView (Deep height) = ⊥
+IsOfView (View cause) = ⊤
+
+-- the error of a plan: a view, whose faults rose where it failed, or another one
+abbrev pub PlanRose : ℕ → ℕ → TreeFault → Type 0
+PlanRose before now (Node vcn rule) = ⊤
+PlanRose before now Present = ⊤
+PlanRose before now Absent = ⊤
+PlanRose before now (Deep height) = ⊤
+PlanRose before now (View cause) = ViewRose before now cause
+
+-- the view's faults did not fall, and rose where a plan failed by them
+pub record Planned {T : Type 0} (before now : ℕ) (result : Result T TreeFault) : Type 0 where
+  pub later : before ≤ now
+  pub rose : IfErr result (PlanRose before now)

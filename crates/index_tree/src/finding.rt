@@ -40,8 +40,8 @@ fn side_of_link(up: &Upcase, name: &[u16], link: &Link) -> Side
     }
 }
 
-// Where an entry with this link stands to a name.
-fn side_of(up: &Upcase, name: &[u16], link: &Option<Link>) -> Side
+/// Where an entry with this link stands to a name.
+pub fn side_of(up: &Upcase, name: &[u16], link: &Option<Link>) -> Side
     ensures { result ≡ side_of up.now name.now link.now }
 {
     match link {

@@ -1,10 +1,10 @@
-ghost use Rattle.std.specs.Prelude.{◌≡◌, IfSome, Ok, length};
+ghost use Rattle.std.specs.Prelude.{◌≡◌, IfOk, IfSome, Ok, length};
 ghost use Rattle.host_base.specs.Answers.{Gives, GivesOrFails};
 ghost use Rattle.record_model.specs.Nodes.{node_at, root_at};
 ghost use Rattle.index_model.specs.Walks.{root_vcn};
 ghost use Rattle.index_model.specs.Indexes.{entries_in, is_index_body, node_of_body, node_of_block};
 ghost use Rattle.index_tree.specs.Places.{place_of};
-ghost use Rattle.index_tree.specs.Faults.{tree_cause, FailsByView, broken_at};
+ghost use Rattle.index_tree.specs.Faults.{tree_cause, FailsByView, FailsAsView, ViewOf, IsRead, broken_at};
 
 use crate::fault::TreeFault;
 use crate::place::DirPlace;
@@ -104,4 +104,33 @@ pub fn read_node<V: View>(
     };
     let body = read_body(alloc, v, block)?;
     node_in(alloc, vcn, &body)
+}
+
+// The node with this VCN, where no rule is broken.
+fn some_node(read: Result<Node, TreeFault>) -> Result<Option<Node>, ViewFault>
+    ensures value { ViewOf result read }
+{
+    match read {
+        Ok(node) => Ok(Some(node)),
+        Err(TreeFault::Node { .. }) => Ok(None),
+        Err(TreeFault::Present) => Ok(None),
+        Err(TreeFault::Absent) => Ok(None),
+        Err(TreeFault::Deep { .. }) => Ok(None),
+        Err(TreeFault::View(fault)) => Err(fault),
+    }
+}
+
+/// The node with this VCN, where it breaks no rule.
+pub fn node_if_any<V: View>(
+    alloc: Global,
+    v: &mut V,
+    dir: &DirPlace,
+    vcn: u64,
+) -> Result<Option<Node>, ViewFault>
+    ensures value { IfSome (V.content v.old) (λ c. IfOk result (IsRead (node_of_block c (place_of dir.now) vcn))) }
+    ensures same { V.content v.new ≡ V.content v.old }
+    ensures kept { V.kept v.new ≡ V.kept v.old }
+    ensures cause { FailsAsView (V.faults v.old) (V.faults v.new) result }
+{
+    some_node(read_node(alloc, v, dir, vcn))
 }

@@ -2,10 +2,12 @@ ghost use Rattle.std.specs.Prelude.{◌≡◌, length, IfOk};
 ghost use Rattle.disk_model.specs.declared.block.BlockKind.TheVariants.{Index as index_block};
 
 use super::*;
-use block_view::{Held, MemoryView};
-use host_base::Bytes;
+use block_view::{Held, MemoryView, Overlay};
+use host_base::{Bytes, FileRef};
+use record_model::Entry;
 use std::alloc::{AllocError, Global};
 use std::test::Fail;
+use std_values::is_file_name;
 use tree_model::LinkList;
 use upcase_order::Upcase;
 use utf16_name::Name;
@@ -271,5 +273,206 @@ fn tells_that_the_view_failed(rt: HostRuntime) -> Result<(), Fail> {
     let mut view = view_of(alloc, &TREE, 2)?;
     let fault = walk(alloc, &mut view, &dir, &up).err();
     assert_eq!(rt; fault, Some(TreeFault::View(ViewFault::Fault)));
+    Ok(())
+}
+
+// An entry of the file with this number, with a name of one unit in directory 5/5.
+fn entry(alloc: Global, number: u64, unit: u8) -> Result<Entry, AllocError> {
+    let mut key = vec![in alloc; 0u8; 0x44]?;
+    put(&mut key, 0, &[5, 0, 0, 0, 0, 0, 5]);
+    put(&mut key, 0x40, &[1, 0, unit]);
+    Ok(Entry {
+        child: FileRef { number, seq: 1 },
+        key: Bytes::from(key),
+        down: None,
+    })
+}
+
+// The place of an index, with seventeen blocks behind those in use.
+fn place_with_fresh(alloc: Global, row: &Row) -> Result<DirPlace, AllocError> {
+    let mut dir = place_of(alloc, row)?;
+    for i in 0..17 {
+        dir.blocks.push(block(row.1.len() + i))?;
+    }
+    Ok(dir)
+}
+
+// The VCNs of the blocks behind those in use.
+fn fresh_of(alloc: Global, row: &Row) -> Result<Vec<u64>, AllocError> {
+    let mut fresh = Vec::new(alloc);
+    for i in 0..17u64 {
+        fresh.push((row.1.len() as u64).wrapping_add(i).wrapping_mul(2))?;
+    }
+    Ok(fresh)
+}
+
+#[test]
+fn puts_a_name_in(rt: HostRuntime) -> Result<(), Fail> {
+    let alloc = rt.alloc();
+    let up = Upcase::standard(alloc)?;
+    let dir = place_with_fresh(alloc, &TREE)?;
+    let fresh = fresh_of(alloc, &TREE)?;
+    let mut view = view_of(alloc, &TREE, 0)?;
+    let key = entry(alloc, 27, 0x64)?;
+    assert!(rt; is_file_name(key.key.as_slice()));
+    assert!(rt; 17 <= fresh.len());
+    let plan = plan_insert(alloc, &mut view, &dir, &up, &key, &fresh)?;
+    let DirPlan {
+        root,
+        changes,
+        taken,
+        freed,
+    } = plan;
+    assert_eq!(rt; (changes.len(), taken.len(), freed.len()), (1, 0, 0));
+    let DirPlace { blocks, .. } = dir;
+    let after = DirPlace {
+        root,
+        blocks,
+        step: 2,
+        used: 0,
+    };
+    let mut over = Overlay {
+        view: &mut view,
+        changes: &changes,
+    };
+    let links = walk(alloc, &mut over, &after, &up)?;
+    assert_eq!(rt;
+        files(alloc, &links)?.as_slice(),
+        [24, 25, 26, 27].as_slice()
+    );
+    Ok(())
+}
+
+// An index of blocks in memory, and the VCNs of its blocks that aren't in use.
+#[derive(Drop)]
+struct Index {
+    held: Vec<Held>,
+    root: Bytes,
+    fresh: Vec<u64>,
+}
+
+// The bodies after changes, of which the first one of a block counts.
+fn changed(alloc: Global, held: &[Held], changes: &[Change]) -> Result<Vec<Held>, AllocError> {
+    let mut after = Vec::new(alloc);
+    for change in changes {
+        if change.new.len() == 4096 {
+            after.push(Held {
+                block: Block {
+                    first: change.block.first,
+                    kind: BlockKind::Index,
+                },
+                bytes: change.new.clone()?,
+                torn: false,
+            })?;
+        }
+    }
+    for h in held {
+        after.push(Held {
+            block: h.block,
+            bytes: h.bytes.clone()?,
+            torn: h.torn,
+        })?;
+    }
+    Ok(after)
+}
+
+// The place of an index of twenty blocks, whose root lies in a record with 650 other used bytes.
+fn place_in_memory(alloc: Global, root: &Bytes) -> Result<DirPlace, AllocError> {
+    let mut blocks = Vec::new(alloc);
+    for i in 0..20 {
+        blocks.push(block(i))?;
+    }
+    Ok(DirPlace {
+        root: root.clone()?,
+        blocks,
+        step: 2,
+        used: (root.len() % 1000) as u32 + 650,
+    })
+}
+
+// The index with a name more.
+fn with_name(alloc: Global, up: &Upcase, index: Index, key: &Entry) -> Result<Index, Fail> {
+    let Index { held, root, fresh } = index;
+    if !is_file_name(key.key.as_slice()) || fresh.len() < 17 {
+        return Err(Fail::from(AllocError));
+    }
+    let dir = place_in_memory(alloc, &root)?;
+    let mut view = MemoryView::new(changed(alloc, &held, &[])?, Vec::new(alloc));
+    let plan = plan_insert(alloc, &mut view, &dir, up, key, &fresh)?;
+    let mut left = Vec::new(alloc);
+    for vcn in &fresh {
+        if !plan.taken.contains(vcn) {
+            left.push(*vcn)?;
+        }
+    }
+    let DirPlan { root, changes, .. } = plan;
+    Ok(Index {
+        held: changed(alloc, &held, &changes)?,
+        root,
+        fresh: left,
+    })
+}
+
+// Twenty names, in another order: the root takes some, then they go into a block.
+#[test]
+fn puts_twenty_names_in(rt: HostRuntime) -> Result<(), Fail> {
+    let alloc = rt.alloc();
+    let up = Upcase::standard(alloc)?;
+    let DirPlace { root, .. } = place_of(alloc, &Row(Spot(&[], NO), &[], 0, 0))?;
+    let mut fresh = Vec::new(alloc);
+    for i in 0..20u64 {
+        fresh.push(i * 2)?;
+    }
+    let mut index = Index {
+        held: Vec::new(alloc),
+        root,
+        fresh,
+    };
+    for n in 0..20u8 {
+        let place = n * 7 % 20;
+        let key = entry(alloc, u64::from(place) + 100, place + 0x41)?;
+        index = with_name(alloc, &up, index, &key)?;
+    }
+    let Index { held, root, fresh } = index;
+    assert_eq!(rt; (root.len(), held.len() > 0, fresh.len()), (0x38, true, 19));
+    let dir = place_in_memory(alloc, &root)?;
+    let mut view = MemoryView::new(held, Vec::new(alloc));
+    let links = walk(alloc, &mut view, &dir, &up)?;
+    let numbers = files(alloc, &links)?;
+    assert_eq!(rt; numbers.len(), 20);
+    for (i, number) in numbers.iter().enumerate() {
+        assert_eq!(rt; *number, (i as u64).wrapping_add(100));
+    }
+    Ok(())
+}
+
+#[test]
+fn tells_that_an_entry_is_there(rt: HostRuntime) -> Result<(), Fail> {
+    let alloc = rt.alloc();
+    let up = Upcase::standard(alloc)?;
+    let dir = place_with_fresh(alloc, &TREE)?;
+    let fresh = fresh_of(alloc, &TREE)?;
+    let mut view = view_of(alloc, &TREE, 0)?;
+    let key = entry(alloc, 26, 0x43)?;
+    assert!(rt; is_file_name(key.key.as_slice()));
+    assert!(rt; 17 <= fresh.len());
+    let fault = plan_insert(alloc, &mut view, &dir, &up, &key, &fresh).err();
+    assert_eq!(rt; fault, Some(TreeFault::Present));
+    Ok(())
+}
+
+// A block whose child is itself.
+#[test]
+fn plans_nothing_over_a_fault(rt: HostRuntime) -> Result<(), Fail> {
+    let alloc = rt.alloc();
+    let up = Upcase::standard(alloc)?;
+    let dir = place_with_fresh(alloc, &FAULTS[0])?;
+    let fresh = fresh_of(alloc, &FAULTS[0])?;
+    let mut view = view_of(alloc, &FAULTS[0], 0)?;
+    let key = entry(alloc, 27, 0x64)?;
+    assert!(rt; is_file_name(key.key.as_slice()));
+    assert!(rt; 17 <= fresh.len());
+    let fault = plan_insert(alloc, &mut view, &dir, &up, &key, &fresh).err();
+    assert_eq!(rt; fault, Some(TreeFault::Node { vcn: 2, rule: 7 }));
     Ok(())
 }

@@ -1,0 +1,45 @@
+-- Changes that put nodes into their blocks.
+use Rattle.std.specs.Prelude.{◌≡◌, ◌*◌, ◌+◌, ◌≤◌, ℕ, List, [], ◌∷◌, length, Some}
+use Rattle.disk_model.specs.declared.block.Block.{Block}
+use Rattle.disk_model.specs.declared.block.BlockKind.TheVariants.{Index}
+use Rattle.std.specs.List.{AllByRecursion}
+use Rattle.disk_model.specs.declared.block.Change.{Change}
+use Rattle.disk_model.specs.Content.{Content}
+use Rattle.disk_model.specs.Sectors.{same_block, sectors}
+use Rattle.record_model.specs.Nodes.{node_spelling, FitsNode}
+use Rattle.index_model.specs.Trees.{one_if}
+use Rattle.index_model.specs.Indexes.{Place, block_at}
+use Rattle.index_root.specs.Roots.{new_node}
+use Rattle.index_plan.specs.declared.write.Write.{Write}
+
+-- the blocks of a place are index blocks, and no two VCNs have the same one
+pub record IsLaidOut (p : Place) : Type 0 where
+  pub index : (v : ℕ) (b : Block) → block_at p v ≡ Some b → b.kind ≡ Index
+  pub apart : (v w : ℕ) (b : Block) → block_at p v ≡ Some b → block_at p w ≡ Some b → v ≡ w
+
+-- the change puts the node into its block as it is written, whole
+pub record PutsNode (p : Place) (w : Write) (c : Change) : Type 0 where
+  pub block : block_at p w.vcn ≡ Some c.block
+  pub whole : c.offset ≡ 0
+  pub fits : FitsNode (new_node w.vcn w.entries)
+  pub new : c.new ≡ node_spelling (new_node w.vcn w.entries)
+  pub old : length c.old ≡ 4096
+  pub inside : 4096 ≤ 512 * sectors c.block.kind
+
+abbrev pub PutNodes : Place → List Write → List Change → Type 0
+PutNodes p [] [] = Unit {0}
+PutNodes p [] (c ∷ changes) = ⊥
+PutNodes p (w ∷ writes) [] = ⊥
+PutNodes p (w ∷ writes) (c ∷ changes) = PutsNode p w c × PutNodes p writes changes
+
+-- the change has the body that the content has as its old bytes
+abbrev pub WasOld : Content → Change → Type 0
+WasOld c change = change.old ≡ (c change.block).bytes
+
+abbrev pub AllWereOld : Content → List Change → Type 0
+AllWereOld c changes = AllByRecursion (WasOld c) changes
+
+-- how many of the changes are of this block
+abbrev pub changes_in : Block → List Change → ℕ
+changes_in b [] = 0
+changes_in b (c ∷ changes) = one_if (same_block b c.block) + changes_in b changes
