@@ -125,6 +125,24 @@ impl FileRec {
         Ok(file)
     }
 
+    /// A record with these header fields and no attribute (Linux-NTFS documentation, "FILE Record");
+    /// this takes no memory.
+    pub fn empty(alloc: Global, head: RecHead) -> FileRec
+        ensures value { result ≡ record { head = head; attrs = [] } }
+    {
+        FileRec {
+            head,
+            attrs: AttrList::new(alloc),
+        }
+    }
+
+    /// Puts other fields into the header. The attributes stay.
+    pub fn set_head(&mut self, head: RecHead)
+        ensures value { self.new ≡ record { head = head; attrs = self.old.attrs } }
+    {
+        self.head = head;
+    }
+
     /// The fields of the header.
     pub fn head(&self) -> RecHead
         ensures value { result ≡ self.now.head }
