@@ -1,17 +1,26 @@
 //! The update sequence of file records, index blocks and log pages: each 512-byte sector of such
 //! a structure ends on the disk with the check word, and the true words stand in an array near
-//! its start, so that a write that was cut off shows.
+//! its start, so that a write that was cut off shows. It is undone where a structure is read, and
+//! made where one is written.
 //!
 //! The layout is that of the Linux-NTFS documentation, "Fixup".
 #![tactic(auto)]
+
+mod laws;
+mod protecting;
 
 ghost use Rattle.std.specs.Prelude.{◌≡◌, ◌+◌, ◌*◌, ◌/◌, ◌%◌, ◌<◌, ◌≤◌, ℕ, ◌&&◌, if◌then◌else◌, nat_le, nat_lt, IfOk, OnOk, OnErr, length, slice_index};
 ghost use Rattle.disk_model.specs.Fixups.{array_at, sector_count, check_word, is_in_shape, first_torn, restored, body_bytes, fixup_of, IsProtected};
 
 pub use disk_model::FixupFault;
 use disk_model::u16_at;
+pub use laws::protected_is_undone;
+pub use protecting::{next_check, protect};
 
-fn has_shape(bytes: &[u8]) -> bool
+/// Whether the update sequence's array is in shape (Linux-NTFS documentation, "Fixup"): its count,
+/// the word at 6, is the sectors and one more, its offset, the word at 4, is even, and it ends by
+/// byte 510 of the first sector.
+pub fn has_shape(bytes: &[u8]) -> bool
     requires { 512 ≤ length bytes.now }
     ensures { result ≡ is_in_shape bytes.now }
 {

@@ -30,6 +30,30 @@ fn the_true_words_are_put_back(rt: HostRuntime) {
 }
 
 #[test]
+fn a_protected_record_is_undone(rt: HostRuntime) {
+    let mut record = [0; 1024];
+    record[4] = 0x30;
+    record[6] = 3;
+    record[0x1fe] = 0x34;
+    record[0x1ff] = 0x12;
+    record[0x3fe] = 0x78;
+    record[0x3ff] = 0x56;
+    assert!(rt; has_shape(&record));
+    protect(&mut record, 7);
+    assert_eq!(rt; record, file_record());
+    protected_is_undone();
+    assert_eq!(rt; to_body(&mut record), Ok(7));
+    assert_eq!(rt; u16_at(&record, 0x1fe), 0x1234);
+}
+
+#[test]
+fn check_words_pass_over_0_and_ffff(rt: HostRuntime) {
+    for (old, new) in [(0, 1), (1, 2), (0xfffd, 0xfffe), (0xfffe, 1), (0xffff, 1)] {
+        assert_eq!(rt; next_check(old), new, "after {old}");
+    }
+}
+
+#[test]
 fn a_torn_record_stays(rt: HostRuntime) {
     let mut record = file_record();
     record[0x3fe] = 0x08;
