@@ -1,0 +1,5 @@
+pub mod Measures
+pub mod Pieces
+pub mod Whole
+pub mod Again
+pub mod Rising

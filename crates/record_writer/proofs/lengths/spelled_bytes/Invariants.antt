@@ -1,0 +1,6 @@
+use Rattle.std.proofs.Common.{◌≡◌, take}
+use Rattle.record_model.specs.Records.{spelled_bytes}
+use Rattle.record_writer.proofs.lengths.spelled_bytes.Given as goal
+
+abbrev pub invariant-loop-attr : goal.invariant-loop-attr
+invariant-loop-attr l = l.sum ≡ spelled_bytes (take l.attr-index l.attrs)

@@ -1,0 +1,4 @@
+pub mod Faults
+pub mod Edits
+pub mod Fitting
+pub mod WriteLaws

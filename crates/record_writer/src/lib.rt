@@ -1,0 +1,27 @@
+//! File records of an NTFS volume as they are written: a record has one spelling in 1,024 bytes, and
+//! takes attributes at a place, or gives them up, as long as it has room.
+//!
+//! The contract: what is written is the canonical spelling of the record, which is read again as
+//! that record; an attribute more is refused exactly where there is no room for it. The layouts are
+//! those of the Linux-NTFS documentation, "FILE Record" and "Attribute Header".
+#![tactic(auto)]
+
+mod attrs;
+mod copying;
+mod fault;
+mod laws;
+mod lengths;
+mod putting;
+mod spelled;
+mod written;
+
+pub use attrs::write_attr;
+pub use fault::RoomFault;
+pub use file_record::FileRec;
+pub use laws::written_is_read;
+pub use record_model::{Attr, OwnForm, RecHead};
+pub use spelled::attr_has_spelling;
+pub use written::WrittenRecord;
+
+#[cfg(test)]
+mod tests;
