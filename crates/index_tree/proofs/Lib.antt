@@ -4,16 +4,3 @@ pub mod Searching
 pub mod Between
 pub mod FindLaw
 pub mod Calls
-pub mod KeyUnits
-pub mod Held
-pub mod Lawful
-pub mod Putting
-pub mod Laid
-pub mod Tall
-pub mod Counting
-pub mod NewIndexes
-pub mod Knowing
-pub mod Puts
-pub mod Counted
-pub mod Insertions
-pub mod Onces

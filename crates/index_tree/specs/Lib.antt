@@ -1,9 +1,3 @@
 pub mod Places
 pub mod Faults
 pub mod Calls
-pub mod Orders
-pub mod Holding
-pub mod Changing
-pub mod Vcns
-pub mod Plans
-pub mod Heights

@@ -5,27 +5,19 @@
 //! those of the Linux-NTFS documentation, "$INDEX_ROOT", "Index Record" and "Index Entry".
 #![tactic(auto)]
 
-mod changing;
 mod fault;
 mod finding;
-mod finishing;
-mod gathering;
-mod height;
-mod holding;
-mod inserting;
 mod met;
-mod naming;
 mod nodes;
 mod place;
-mod plan;
 mod walking;
 
 pub use block_view::{Block, BlockKind, Change, View, ViewFault};
 pub use fault::TreeFault;
-pub use finding::find;
-pub use inserting::plan_insert;
+pub use finding::{find, side_of};
+pub use met::entry_link;
+pub use nodes::{LEVELS_BELOW, node_if_any, read_root};
 pub use place::DirPlace;
-pub use plan::DirPlan;
 pub use walking::walk;
 
 #[cfg(test)]

@@ -1,0 +1,67 @@
+-- Where a key is put, and where a link is looked for.
+use Rattle.std.specs.Prelude.{◌≡◌, ℕ, Bool, true, false, ◌&&◌, ◌==◌, if◌then◌else◌, List, [], ◌∷◌, ◌++◌}
+use Rattle.std.specs.List.{filter, list_any}
+use Rattle.std.specs.declared.cmp.Ordering.{Ordering}
+use Rattle.std.specs.declared.cmp.Ordering.TheVariants.{Less, Equal, Greater}
+use Rattle.host_base.specs.declared.file_ref.FileRef.{FileRef}
+use Rattle.record_model.specs.Values.{is_file_name, parent_of, space_of, units_of}
+use Rattle.tree_model.specs.declared.link.Link.{Link}
+use Rattle.tree_model.specs.Names.{comes_before, name_order, same_units}
+use Rattle.index_model.specs.declared.key.Key.{Key}
+use Rattle.index_plan.specs.declared.side.Side.{Side}
+use Rattle.index_plan.specs.declared.side.Side.TheVariants as sides
+use Rattle.index_tree.specs.Calls.{is_sought}
+
+-- the link that a key stands for, where its value is that of a file name
+unfoldable pub link_of : Key → Link
+link_of k = record { parent = parent_of k.value; name = units_of k.value; space = space_of k.value; child = k.child }
+
+-- a key with this name stands before that key
+abbrev pub goes : List ℕ → List ℕ → Key → Bool
+goes upper name k = is_file_name k.value && comes_before upper name (units_of k.value)
+
+-- a link put into links, before the first one that it stands before by the order of names
+abbrev pub put_link : List ℕ → Link → List Link → List Link
+put_link upper l [] = l ∷ []
+put_link upper l (k ∷ links) = if comes_before upper l.name k.name then l ∷ k ∷ links else k ∷ put_link upper l links
+
+abbrev pub is_of : FileRef → Link → Bool
+is_of file l = (l.child.number == file.number) && (l.child.seq == file.seq)
+
+-- some link has this name, by the table of upper-case units, and names this file
+abbrev pub has_entry : List ℕ → Link → List Link → Bool
+has_entry upper l links = list_any (is_of l.child) (filter (is_sought upper l.name) links)
+
+-- ---- links that are looked for
+
+abbrev pub is_same_file : FileRef → FileRef → Bool
+is_same_file a b = (a.number == b.number) && (a.seq == b.seq)
+
+-- the key has the file, the directory and the namespace of the link
+abbrev pub is_entry_of : Link → Key → Bool
+is_entry_of l k = is_same_file k.child l.child && is_same_file (parent_of k.value) l.parent && (space_of k.value == l.space)
+
+abbrev pub stands_by : Ordering → Bool → Side
+stands_by Less here = sides.Before
+stands_by Equal true = sides.Here
+stands_by Equal false = sides.Beside
+stands_by Greater here = sides.Behind
+
+-- where a link stands against a key: by the order of names, and beside those of equal units
+abbrev pub stands : List ℕ → Link → Key → Side
+stands upper l k = if is_file_name k.value then stands_by (name_order upper l.name (units_of k.value)) (is_entry_of l k) else sides.Beside
+
+-- two links are the same
+abbrev pub is_same_link : Link → Link → Bool
+is_same_link l m = is_same_file m.child l.child && is_same_file m.parent l.parent && (m.space == l.space) && same_units m.name l.name
+
+-- some link is this one
+abbrev pub has_link : Link → List Link → Bool
+has_link l links = list_any (is_same_link l) links
+
+-- these are the links without one that is this one
+pub record LacksOne (l : Link) (links left : List Link) : Type 0 where
+  pub before : List Link
+  pub behind : List Link
+  pub had : links ≡ before ++ l ∷ behind
+  pub left_is : left ≡ before ++ behind

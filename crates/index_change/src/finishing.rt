@@ -1,0 +1,106 @@
+ghost use Rattle.std.specs.Prelude.{All, ◌≡◌, ◌≤◌, ◌++◌, IfOk, IfSome, length, reverse};
+ghost use Rattle.block_view.specs.Changes.{Fits};
+ghost use Rattle.index_root.specs.Roots.{root_spelling, HaveSpelling};
+ghost use Rattle.index_change.specs.Changing.{AllWereOld};
+ghost use Rattle.index_tree.specs.Faults.{FailsAsView};
+ghost use Rattle.index_tree.specs.Places.{place_of};
+ghost use Rattle.index_change.specs.Plans.{clusters_of, seventeen, IsMade};
+
+use crate::changing::changes_of;
+use crate::plan::DirPlan;
+use block_view::{View, ViewFault};
+use host_base::Bytes;
+use index_plan::Rooted;
+use index_root::{have_spelling, write_root};
+use index_tree::DirPlace;
+use record_model::EntryList;
+use std::alloc::{AllocError, Global};
+
+// A plan of nodes as a plan of a directory.
+
+// The fresh VCNs that a plan may take.
+const MOST_FRESH: usize = 17;
+
+/// The value of the root with these entries. The error is want of memory; this comes too where they
+/// have no spelling.
+pub fn root_value(alloc: Global, dir: &DirPlace, root: EntryList) -> Result<Bytes, AllocError>
+    ensures spelled { IfOk result (λ _. HaveSpelling root) }
+    ensures value { IfOk result (λ value. value ≡ root_spelling (clusters_of dir.now.root) root) }
+{
+    if !have_spelling(&root) {
+        return Err(AllocError);
+    }
+    let clusters = clusters_of(dir.root.as_slice());
+    write_root(alloc, clusters, root)
+}
+
+// The clusters of an index block, as the value of a root says.
+#[tactic(auto, unfolding(crate::specs::Plans::clusters_of))]
+fn clusters_of(root: &[u8]) -> u8
+    ensures { result ≡ clusters_of root.now }
+{
+    match root.get(0x0c) {
+        Some(clusters) => *clusters,
+        None => 0,
+    }
+}
+
+// The fresh VCNs that are taken, where these are left. The error is want of memory; this comes too
+// where those that are left don't stand at the end, as they do in each plan.
+fn taken_of(alloc: Global, fresh: &[u64], left: &[u64]) -> Result<Vec<u64>, AllocError>
+    requires { 17 ≤ length fresh.now }
+    ensures { IfOk result (λ v. v.items ++ left.now ≡ seventeen fresh.now) }
+{
+    let fresh = fresh.split_at(MOST_FRESH).0;
+    if MOST_FRESH < left.len() {
+        return Err(AllocError);
+    }
+    let (taken, rest) = fresh.split_at(MOST_FRESH - left.len());
+    if rest != left {
+        return Err(AllocError);
+    }
+    Vec::from_slice(alloc, taken)
+}
+
+// The numbers from the end on.
+fn reversed(mut numbers: Vec<u64>) -> Vec<u64>
+    ensures { result.items ≡ reverse numbers.items }
+{
+    numbers.as_mut_slice().reverse();
+    numbers
+}
+
+/// What a plan of nodes comes to, with the VCNs of blocks that are gone: the new root, the changes of
+/// blocks, and the VCNs that are taken and freed.
+///
+/// - `Fault`: the view failed.
+/// - `Memory`: there is no memory left.
+pub fn finish<V: View>(
+    alloc: Global,
+    v: &mut V,
+    dir: &DirPlace,
+    fresh: &[u64],
+    rooted: Rooted,
+    gone: Vec<u64>,
+) -> Result<DirPlan, ViewFault>
+    requires enough { 17 ≤ length fresh.now }
+    ensures made { IfOk result (IsMade (place_of dir.now) (clusters_of dir.now.root) (seventeen fresh.now) gone.items rooted) }
+    ensures old { IfSome (V.content v.old) (λ c. IfOk result (λ plan. AllWereOld c plan.changes.items)) }
+    ensures fits { IfOk result (λ plan. All Fits plan.changes.items) }
+    ensures same { V.content v.new ≡ V.content v.old }
+    ensures kept { V.kept v.new ≡ V.kept v.old }
+    ensures cause { FailsAsView (V.faults v.old) (V.faults v.new) result }
+{
+    let Rooted { root, plan } = rooted;
+    let (writes, left) = plan.into_parts();
+    let left = reversed(left);
+    let changes = changes_of(alloc, v, dir, writes)?;
+    let root = root_value(alloc, dir, root)?;
+    let taken = taken_of(alloc, fresh, left.as_slice())?;
+    Ok(DirPlan {
+        root,
+        changes,
+        taken,
+        freed: gone,
+    })
+}

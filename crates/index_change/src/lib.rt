@@ -1,0 +1,29 @@
+//! Plans that put an entry into a directory's index over a view, or take one out of it.
+//!
+//! The contract: the changes of a plan, laid over the view's content, hold an index whose walk gives
+//! the links with that one more or less; each block is used, freed or left, once. The layouts are those
+//! of the Linux-NTFS documentation, "$INDEX_ROOT", "Index Record" and "Index Entry".
+#![tactic(auto)]
+
+mod changing;
+mod drafting;
+mod few;
+mod finishing;
+mod gathering;
+mod height;
+mod holding;
+mod inserting;
+mod naming;
+mod plan;
+mod removing;
+
+pub use block_view::{Block, BlockKind, Change, View, ViewFault};
+pub use index_tree::{DirPlace, TreeFault};
+pub use inserting::plan_insert;
+pub use plan::DirPlan;
+pub use removing::plan_remove;
+
+#[cfg(test)]
+mod many;
+#[cfg(test)]
+mod tests;
