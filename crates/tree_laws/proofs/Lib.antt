@@ -1,0 +1,16 @@
+pub mod Splitting
+pub mod Naming
+pub mod Ascending
+pub mod Climbing
+pub mod Parting
+pub mod Ruling
+pub mod Agreeing
+pub mod Keeping
+pub mod Standing
+pub mod Changing
+pub mod Numbering
+pub mod Holding
+pub mod Owning
+pub mod Planning
+pub mod Listing
+pub mod Shortening

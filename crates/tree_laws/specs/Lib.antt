@@ -1,0 +1,13 @@
+pub mod Keeping
+pub mod Links
+pub mod Nodes
+pub mod Rules
+pub mod Parts
+pub mod Contents
+pub mod Trees
+pub mod Ways
+pub mod Leaves
+pub mod Changed
+pub mod Owners
+pub mod Planned
+pub mod Listed

@@ -1,0 +1,73 @@
+-- What writes leave that go to the blocks of a few streams and of a few file records.
+use Rattle.std.specs.Prelude.{◌≡◌, ◌≢◌, ◌⊎◌, ℕ, ◌<◌, ◌==◌, Bool, true, false, List, [], Some}
+use Rattle.std.specs.List.{AllByRecursion}
+use Rattle.disk_model.specs.declared.block.BlockKind.{BlockKind}
+use Rattle.disk_model.specs.declared.block.BlockKind.TheVariants.{FileRec}
+use Rattle.disk_model.specs.Content.{Content, HasSizes}
+use Rattle.disk_model.specs.Writes.{Write, overlay}
+use Rattle.record_model.specs.Values.{data_type}
+use Rattle.record_model.specs.Records.{Record}
+use Rattle.bit_set.specs.Bits.{bit}
+use Rattle.state_model.specs.declared.geometry.Geometry.{Geometry}
+use Rattle.state_model.specs.Files.{is_directory_record}
+use Rattle.state_model.specs.Indexes.{names_index}
+use Rattle.state_model.specs.Loads.{index_allocation}
+use Rattle.state_model.specs.Streams.{block_at}
+use Rattle.volume_model.specs.Volumes.{Volume, count_of, file_in, table_file, upcase_file, bitmap_type, record_bits, upper_of}
+use Rattle.volume_model.specs.Indexes.{void_block}
+use Rattle.volume_model.specs.Nodes.{kind_in, shows_data}
+use Rattle.volume_model.specs.Owners.{volume_runs}
+use Rattle.volume_state.specs.Journals.{entries_name}
+use Rattle.stream_laws.specs.Changes.{AreElsewhere, LeavesBytes, LeavesRecord, LeavesIndex}
+use Rattle.stream_laws.specs.Places.{AreOnce}
+use Rattle.stream_laws.specs.Sharing.{StreamKey, stream_at, runs_in}
+use Rattle.stream_laws.specs.Tables.{table_key, BeginsAtBoot}
+use Rattle.tree_laws.specs.Contents.{AgreeBut}
+use Rattle.tree_laws.specs.Changed.{AgreesElsewhere}
+use Rattle.tree_laws.specs.Parts.{journal_number}
+
+-- the write is to a block, of whatever kind, of one of these streams
+pub record IsInStream (streams : StreamKey → Bool) (v : Volume) (w : Write) : Type 0 where
+  pub stream : StreamKey
+  pub chosen : streams stream ≡ true
+  pub kind : BlockKind
+  pub number : ℕ
+  pub lies : block_at v.per (runs_in (stream_at v stream)) kind number ≡ Some w.block
+
+-- the write is to the block of one of these file records
+pub record IsInRecord (records : ℕ → Bool) (v : Volume) (w : Write) : Type 0 where
+  pub number : ℕ
+  pub chosen : records number ≡ true
+  pub lies : block_at v.per v.table.runs FileRec number ≡ Some w.block
+
+-- Each write is to a block of one of these streams, none of which is the file table, or to one of these records. No cluster lies
+-- twice in the volume, which begins where the boot sector says.
+pub record WritesWithin (streams : StreamKey → Bool) (records : ℕ → Bool) (c : Content) (g : Geometry) (clusters : ℕ) (v : Volume) (writes : List Write) : Type 0 where
+  pub begins : BeginsAtBoot c g clusters v
+  pub some : 0 < v.per
+  pub once : AreOnce (volume_runs v.files)
+  pub no_table : streams table_key ≡ false
+  pub each : AllByRecursion (λ w. IsInStream streams v w ⊎ IsInRecord records v w) writes
+
+-- The streams have none of these: the data of $UpCase and the records of the change journal; and of each file that isn't touched
+-- the index, and the data that its node shows. No record is written to that isn't in use, but for those that are touched; no
+-- write is past the end of every disk.
+pub record SparesOthers (touched : ℕ → Bool) (streams : StreamKey → Bool) (records : ℕ → Bool) (c : Content) (v : Volume) (writes : List Write) : Type 0 where
+  pub sized : HasSizes c
+  pub void : AreElsewhere writes void_block
+  pub upcase : streams (record { file = upcase_file; kind = data_type; name = [] }) ≡ false
+  pub free : (m : ℕ) → m < count_of v → touched m ≡ false → bit (record_bits c v) m ≡ false → records m ≡ false
+  pub indexes : (m : ℕ) (r : Record) → touched m ≡ false → file_in v m ≡ Some r → is_directory_record r ≡ true → streams (record { file = m; kind = index_allocation; name = names_index }) ≡ false
+  pub shown : (m : ℕ) (r : Record) → touched m ≡ false → file_in v m ≡ Some r → shows_data (kind_in v m r) ≡ true → streams (record { file = m; kind = data_type; name = [] }) ≡ false
+
+-- Then the other streams, indexes and records are left, and the content after the writes agrees with the one before.
+pub record PlannedWrites : Type 0 where
+  pub bytes : (streams : StreamKey → Bool) (records : ℕ → Bool) (c : Content) (g : Geometry) (clusters : ℕ) (v : Volume) (writes : List Write) (s : StreamKey) → WritesWithin streams records c g clusters v writes → streams s ≡ false → table_key ≢ s → LeavesBytes writes v.per (stream_at v s)
+  pub index : (streams : StreamKey → Bool) (records : ℕ → Bool) (c : Content) (g : Geometry) (clusters : ℕ) (v : Volume) (writes : List Write) (s : StreamKey) → WritesWithin streams records c g clusters v writes → streams s ≡ false → table_key ≢ s
+      → AreElsewhere writes void_block → LeavesIndex writes v.per (stream_at v s)
+  pub record_of : (streams : StreamKey → Bool) (records : ℕ → Bool) (c : Content) (g : Geometry) (clusters : ℕ) (v : Volume) (writes : List Write) (n : ℕ) → WritesWithin streams records c g clusters v writes → records n ≡ false → LeavesRecord writes v.per v.table n
+  pub agree : (n : ℕ) (streams : StreamKey → Bool) (records : ℕ → Bool) (c : Content) (g : Geometry) (clusters : ℕ) (v : Volume) (writes : List Write) → WritesWithin streams records c g clusters v writes → SparesOthers (λ m. m == n) streams records c v writes
+      → bit (record_bits c v) n ≡ true → streams (record { file = table_file; kind = bitmap_type; name = [] }) ≡ false
+      → ((m : ℕ) → journal_number (upper_of c v) v ≡ Some m → streams (record { file = m; kind = data_type; name = entries_name }) ≡ false) → AgreeBut n c (overlay c writes) v
+  pub agrees : (touched : ℕ → Bool) (streams : StreamKey → Bool) (records : ℕ → Bool) (c : Content) (g : Geometry) (clusters : ℕ) (v w : Volume) (writes : List Write) → WritesWithin streams records c g clusters v writes → SparesOthers touched streams records c v writes
+      → ((m : ℕ) → m < count_of v → touched m ≡ false → bit (record_bits (overlay c writes) w) m ≡ bit (record_bits c v) m) → AgreesElsewhere touched c (overlay c writes) v w

@@ -1,0 +1,14 @@
+//! What a file that is replaced changes in the names, rules, parts and tree of a volume, and what
+//! stays.
+//!
+//! The contract: the laws of these definitions, as functions with no body. The layouts are those of
+//! the Linux-NTFS documentation, "$MFT", "$FILE_NAME" and "$Bitmap".
+#![tactic(auto)]
+
+mod laws;
+
+pub use laws::{
+    file_gone, file_made, files_changed, frame_of_state, index_listed, leaf_replaced,
+    leaves_of_volume, links_replaced, node_replaced, nodes_by_number, owners_kept, parts_elsewhere,
+    planned_writes, rules_elsewhere, tree_replaced, ways_are_short, ways_kept,
+};
