@@ -1,0 +1,16 @@
+//! The records of a volume's change journal from a position on, read from the pages that hold them.
+//!
+//! The contract: at most so many of the records that begin at the position or behind it are given,
+//! with the place behind the last of them; a position outside the journal is refused. The layouts
+//! are those of the Linux-NTFS documentation, "$UsnJrnl", and of Microsoft's reference,
+//! "USN_RECORD_V2".
+#![tactic(auto)]
+
+mod fault;
+mod pages;
+mod pulling;
+#[cfg(test)]
+mod tests;
+
+pub use fault::PullFault;
+pub use pulling::{Pulled, read_from};

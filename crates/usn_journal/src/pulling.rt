@@ -1,0 +1,155 @@
+ghost use Rattle.std.specs.Prelude.{◌≡◌, ◌+◌, ◌*◌, ◌^◌, ◌<◌, ◌≤◌, not, find, length, All, IfOk, IfSome, IsOk, Err, IsErrOf};
+ghost use Rattle.host_base.specs.Answers.{GivesOrFails};
+ghost use Rattle.host_base.specs.Causes.{Rose};
+ghost use Rattle.tree_model.specs.declared.journal.Usn.{Usn as UsnOf};
+ghost use Rattle.stream_map.specs.Runs.{AreSmall};
+ghost use Rattle.volume_map.specs.Views.{KeepsView};
+ghost use Rattle.std.specs.Option.{option_copied};
+ghost use Rattle.volume_model.specs.Sizes.{is_hole};
+ghost use Rattle.volume_state.specs.Journals.{run_place, journal_first, journal_entries};
+ghost use Rattle.usn_journal.specs.Errors.{pull_cause};
+ghost use Rattle.usn_journal.specs.Pulls.{usn_end, end_of, pulled_of};
+
+use crate::fault::PullFault;
+use crate::pages::read_pages;
+use block_view::View;
+use disk_model::Body;
+use record_model::Run;
+use state_model::Extents;
+use std::alloc::{AllocError, Global};
+use tree_model::{Usn, UsnList};
+
+// The bytes of a page of the journal.
+const PAGE: usize = 4096;
+
+// The bytes of a sector.
+const SECTOR: u128 = 512;
+
+// The most bytes of a journal whose pages are read.
+const MOST_READ: u64 = u64::MAX - 8192;
+
+/// Records of a change journal, and where the last of them ends.
+#[derive(Debug, Drop)]
+pub struct Pulled {
+    pub entries: UsnList,
+    pub end: u64,
+}
+
+fn is_hole(run: &Run) -> bool
+    ensures { result ≡ is_hole run.now }
+{
+    run.lcn.is_none()
+}
+
+// The first run that isn't sparse.
+fn first_whole(runs: &[Run]) -> Option<&Run>
+    ensures { option_copied result ≡ find (λ r. not (is_hole r)) runs.now }
+{
+    runs.iter().find(|run| !is_hole(run))
+}
+
+fn run_place(per: u64, size: u64, run: Option<&Run>) -> u128
+    requires { per ≤ 8 }
+    ensures { result ≡ run_place per size (option_copied run.entry) }
+{
+    match run {
+        Some(run) => u128::from(run.vcn) * (SECTOR * u128::from(per)),
+        None => u128::from(size),
+    }
+}
+
+// Where the journal begins: at its first cluster that isn't sparse, or at its end.
+#[tactic(auto, unfolding(volume_state::specs::Journals::journal_first))]
+fn first_place(per: u64, extents: &Extents) -> u128
+    requires { per ≤ 8 }
+    ensures { result ≡ journal_first per extents.now }
+{
+    let run = first_whole(extents.runs.as_slice());
+    run_place(per, extents.real, run)
+}
+
+fn page_room(alloc: Global) -> Result<Vec<u8>, AllocError>
+    ensures { IfOk result (λ room. length room.items ≡ PAGE) }
+{
+    vec![in alloc; 0u8; PAGE]
+}
+
+// Where a record ends.
+fn usn_end(entry: &Usn) -> u64
+    requires { usn_end entry.now < 2 ^ 64 }
+    ensures { result ≡ usn_end entry.now }
+{
+    let bytes = 0x3c + 2 * entry.name.units().len() as u64;
+    entry.usn + 8 * ((bytes + 7) / 8)
+}
+
+// Where the last of these records ends; this place where there is none.
+fn end_of(next: u64, entries: &[Usn]) -> u64
+    requires { All (λ (entry : UsnOf). usn_end entry < 2 ^ 64) entries.now }
+    ensures { result ≡ end_of next entries.now }
+{
+    let mut end = next;
+    for entry in entries {
+        end = usn_end(entry);
+    }
+    end
+}
+
+/// At most `most` of the records of a change journal that begin at its byte `from` or behind it, in
+/// order, and the place behind the last of them; where there is none, the journal's next place
+/// (Linux-NTFS documentation, "$UsnJrnl"; Microsoft's reference, "USN_RECORD_V2"). The journal is
+/// `$J` in these clusters, and begins at its first cluster that isn't sparse, within its real size;
+/// its records are whole. A volume has `per` sectors a cluster; `body` is room for a body.
+///
+/// - `Trimmed`: `from` lies before the journal, which begins there.
+/// - `Ahead`: `from` lies behind the journal's next place, which is there.
+/// - `Broken`: never, where the journal's records are whole.
+/// - `View`: the view failed.
+/// - `Memory`: want of memory. It comes too where the real size of `$J` is within 8,192 bytes of 2^64,
+///   which no lawful sizes allow.
+///
+/// It reads the pages from that of `from` on until it has `most` records, each once, and keeps one of
+/// them: linear in their bytes, each of whose sectors takes one pass over the runs, and one pass more.
+#[tactic(auto, unfolding(crate::specs::Pulls::pulled_of))]
+pub fn read_from<V: View>(
+    alloc: Global,
+    view: &mut V,
+    per: u64,
+    extents: &Extents,
+    from: u64,
+    most: u32,
+    body: &mut Body,
+) -> Result<Pulled, PullFault>
+    requires some { 0 < per }
+    requires few { per ≤ 8 }
+    requires small { AreSmall extents.now.runs }
+    requires left { journal_first per extents.now ≤ extents.now.real }
+    requires whole { IfSome (V.content view.old) (λ c. IsOk (journal_entries c per extents.now)) }
+    ensures value { IfSome (V.content view.old) (λ c. GivesOrFails (λ pulled. pulled) pull_cause result (pulled_of c per extents.now from most)) }
+    ensures trimmed { from < journal_first per extents.now
+        → result ≡ Err (PullFault.Trimmed (journal_first per extents.now)) }
+    ensures ahead { extents.now.real < from → result ≡ Err (PullFault.Ahead extents.now.real) }
+    ensures kept { KeepsView V.content V.kept V.faults view.old view.new }
+    ensures fault { IsErrOf result PullFault.View → Rose (V.faults view.old) (V.faults view.new) }
+{
+    let next = extents.real;
+    let first = first_place(per, extents) as u64;
+    if from < first {
+        return Err(PullFault::Trimmed { first });
+    }
+    if next < from {
+        return Err(PullFault::Ahead { next });
+    }
+    if next >= MOST_READ {
+        return Err(PullFault::Memory);
+    }
+    let mut room = page_room(alloc)?;
+    let found = read_pages(
+        alloc, view, per, extents, first, from, most, body, &mut room,
+    )?;
+    let end = end_of(next, &found);
+    Ok(Pulled {
+        entries: UsnList::from(found),
+        end,
+    })
+}
