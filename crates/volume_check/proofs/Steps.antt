@@ -1,0 +1,62 @@
+-- Steps of a check, by what the parts found.
+use Rattle.std.proofs.Common.{◌≡◌, ℕ, List, Option, Some, None, Result, Ok, sym, ap, ◌∙◌, length}
+use Rattle.std.specs.Prelude.{IfSome}
+use Rattle.bit_set.proofs.Views.{length-bits_of_bytes}
+use Rattle.host_base.proofs.Known.{one}
+use Rattle.disk_model.specs.Content.{Content}
+use Rattle.record_model.specs.declared.runs.Run.{Run}
+use Rattle.state_model.specs.declared.broken.Broken.{Broken}
+use Rattle.state_model.specs.Rules.{broken_or, first_failing}
+use Rattle.volume_model.specs.Volumes.{Volume, cluster_bits, cluster_bitmap, bytes_or}
+use Rattle.volume_model.specs.Owners.{volume_runs, keeps_cluster_bit}
+use Rattle.volume_model.specs.Sizes.{keeps_sizes}
+use Rattle.volume_state.specs.Rules.{broken_4, broken_6, file_count}
+use Rattle.volume_check.specs.declared.marks.Marks.{Marks}
+use Rattle.volume_check.specs.Parts.{AreMarks}
+use Rattle.volume_check.specs.Steps.{from_4, from_5}
+
+-- a number was found: the rule is broken there
+pub stops : (rule n : ℕ) (found meant : Option ℕ) (rest : Option Broken) → found ≡ Some n → found ≡ meant → Some (record { rule = rule; number = n }) ≡ broken_or rule meant rest
+stops rule n found meant rest is same = ap (λ (o : Option ℕ). broken_or rule o rest) (sym is ∙ same)
+
+-- none was found: the rest decides
+pub goes_on : (rule : ℕ) (found meant : Option ℕ) (rest broken : Option Broken) → found ≡ None → found ≡ meant → broken ≡ rest → broken ≡ broken_or rule meant rest
+goes_on rule found meant rest broken is same e = e ∙ ap (λ (o : Option ℕ). broken_or rule o rest) (sym is ∙ same)
+
+has_all_bits : (c : Content) (v : Volume) → length (cluster_bits c v) ≡ v.clusters
+unfolding cluster_bits
+has_all_bits c v = length-bits_of_bytes (bytes_or c v.per (cluster_bitmap v)) v.clusters
+
+-- a cluster that is owned and not marked, by the bits that were read
+pub six_is : (c : Content) (v : Volume) (marks : Marks) (runs : List Run) (found : Option ℕ) → AreMarks c v marks → runs ≡ volume_runs v.files
+    → found ≡ first_failing (keeps_cluster_bit marks.clusters runs) (length marks.clusters) → found ≡ broken_6 c v
+unfolding broken_6
+six_is c v marks runs found are own is =
+    is ∙ ap (λ bits. first_failing (keeps_cluster_bit bits runs) (length bits)) are.clusters
+    ∙ ap (λ (xs : List Run). first_failing (keeps_cluster_bit (cluster_bits c v) xs) (length (cluster_bits c v))) own
+    ∙ ap (first_failing (keeps_cluster_bit (cluster_bits c v) (volume_runs v.files))) (has_all_bits c v)
+
+abbrev okay : Option ℕ → Result (Option ℕ) ⊥
+okay o = Ok o
+
+okay_is : (x y : Option ℕ) → okay x ≡ okay y → x ≡ y
+okay_is x y e = cc
+
+four_is : (c : Content) (v : Volume) (found : Option ℕ) → okay (first_failing (keeps_sizes c v) (file_count v)) ≡ okay found → found ≡ broken_4 c v
+unfolding broken_4
+four_is c v found e = sym (okay_is (first_failing (keeps_sizes c v) (file_count v)) found e)
+
+abbrev four_found : Volume → Option ℕ → Content → Type 0
+four_found v found c = okay (first_failing (keeps_sizes c v) (file_count v)) ≡ okay found
+
+-- rule 4 is broken, over a content that may be known
+pub four_stops : (known : Option Content) (v : Volume) (marks : Marks) (found : Option ℕ) (n : ℕ) → found ≡ Some n → IfSome known (four_found v found)
+    → IfSome known (λ c. AreMarks c v marks → Some (record { rule = 4; number = n }) ≡ from_4 c v)
+unfolding from_4
+four_stops known v marks found n is h = one known (four_found v found) _ (λ c e are. stops 4 n found (broken_4 c v) (from_5 c v) is (four_is c v found e)) h
+
+-- and kept
+pub four_goes_on : (known : Option Content) (v : Volume) (marks : Marks) (found : Option ℕ) (broken : Option Broken) → found ≡ None → ((c : Content) → AreMarks c v marks → broken ≡ from_5 c v) → IfSome known (four_found v found)
+    → IfSome known (λ c. AreMarks c v marks → broken ≡ from_4 c v)
+unfolding from_4
+four_goes_on known v marks found broken is rest h = one known (four_found v found) _ (λ c e are. goes_on 4 found (broken_4 c v) (from_5 c v) broken is (four_is c v found e) (rest c are)) h

@@ -1,0 +1,105 @@
+use directory_index::IndexFault;
+use host_base::Memory;
+use state_model::Broken;
+use std::alloc::AllocError;
+use stream_sizes::SizesFault;
+use thiserror::Error;
+use volume_journal::JournalFault;
+use volume_map::MapFault;
+
+/// Why a check found no tree.
+#[derive(Clone, Copy, Debug, PartialEq, Eq, Error)]
+pub enum CheckFault {
+    /// The volume breaks this rule, and none before it; its number is the least at which it does.
+    #[error("the volume is broken")]
+    Broken(Broken),
+    /// The view failed.
+    #[error("the view failed")]
+    View,
+    #[error("no memory")]
+    Memory,
+}
+
+impl From<AllocError> for CheckFault {
+    ghost use Rattle.std.specs.Prelude.{◌≡◌};
+    ghost use Rattle.volume_check.specs.declared.fault.CheckFault.TheVariants.{Memory as no_memory};
+
+    ghost from_gives = { λ _ fault. fault ≡ no_memory };
+
+    fn from(_error: AllocError) -> Self {
+        CheckFault::Memory
+    }
+}
+
+impl From<Memory> for CheckFault {
+    ghost use Rattle.std.specs.Prelude.{◌≡◌};
+    ghost use Rattle.volume_check.specs.declared.fault.CheckFault.TheVariants.{Memory as no_memory};
+
+    ghost from_gives = { λ _ fault. fault ≡ no_memory };
+
+    fn from(_error: Memory) -> Self {
+        CheckFault::Memory
+    }
+}
+
+impl From<MapFault> for CheckFault {
+    ghost use Rattle.std.specs.Prelude.{◌≡◌};
+    ghost use Rattle.volume_check.specs.Errors.{of_map};
+
+    ghost from_gives = { λ fault error. error ≡ of_map fault };
+
+    fn from(fault: MapFault) -> Self {
+        match fault {
+            // The files of a loaded volume are refused no more.
+            MapFault::Refused(_) => CheckFault::Memory,
+            MapFault::View => CheckFault::View,
+            MapFault::Memory => CheckFault::Memory,
+        }
+    }
+}
+
+impl From<IndexFault> for CheckFault {
+    ghost use Rattle.std.specs.Prelude.{◌≡◌};
+    ghost use Rattle.volume_check.specs.Errors.{of_index};
+
+    ghost from_gives = { λ fault error. error ≡ of_index fault };
+
+    fn from(fault: IndexFault) -> Self {
+        match fault {
+            IndexFault::View => CheckFault::View,
+            IndexFault::Memory => CheckFault::Memory,
+        }
+    }
+}
+
+impl From<SizesFault> for CheckFault {
+    ghost use Rattle.std.specs.Prelude.{◌≡◌};
+    ghost use Rattle.volume_check.specs.Errors.{of_sizes};
+
+    ghost from_gives = { λ fault error. error ≡ of_sizes fault };
+
+    fn from(fault: SizesFault) -> Self {
+        match fault {
+            SizesFault::View => CheckFault::View,
+            SizesFault::Memory => CheckFault::Memory,
+        }
+    }
+}
+
+impl From<JournalFault> for CheckFault {
+    ghost use Rattle.std.specs.Prelude.{◌≡◌};
+    ghost use Rattle.volume_check.specs.Errors.{of_journal};
+
+    ghost from_gives = { λ fault error. error ≡ of_journal fault };
+
+    fn from(fault: JournalFault) -> Self {
+        match fault {
+            JournalFault::Broken { at } => CheckFault::Broken(Broken {
+                rule: 9,
+                number: at,
+            }),
+            JournalFault::View => CheckFault::View,
+            JournalFault::Memory => CheckFault::Memory,
+        }
+    }
+}

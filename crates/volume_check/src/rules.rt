@@ -1,0 +1,201 @@
+//! The rules before the ninth, each tried where those before it are kept.
+ghost use Rattle.std.specs.Prelude.{◌≡◌, IfOk, IfSome, IsErrOf};
+ghost use Rattle.host_base.specs.Causes.{Rose};
+ghost use Rattle.disk_model.specs.Content.{Content as the_content};
+ghost use Rattle.volume_model.specs.Owners.{volume_runs};
+ghost use Rattle.volume_map.specs.Maps.{volume_in, IsMap};
+ghost use Rattle.volume_map.specs.Views.{KeepsView};
+ghost use Rattle.volume_check.specs.Errors.{NeverBroken};
+ghost use Rattle.volume_check.specs.Parts.{AreMarks, AreNames};
+ghost use Rattle.volume_check.specs.Steps.{from_1, from_2, from_3, from_4, from_5, from_6, from_7, from_8};
+
+use crate::fault::CheckFault;
+use crate::marks::Marks;
+use crate::names::Names;
+use block_view::View;
+use cluster_owners::{Run, volume_runs};
+use disk_model::Body;
+use host_base::Memory;
+use record_rules::{Climber, first_misnamed, first_misplaced, first_unrooted};
+use state_model::Broken;
+use std::alloc::Global;
+use volume_map::VolumeMap;
+
+// Rule 8: the way up of each directory.
+#[tactic(auto, unfolding(crate::specs::Steps::from_8, volume_state::specs::Rules::broken_8))]
+fn from_8(map: &VolumeMap, climber: &Climber) -> Option<Broken>
+    requires { climber.now.records.now ≡ map.now.files.items }
+    ensures { result ≡ from_8 (volume_in map.now) }
+{
+    match first_unrooted(climber) {
+        Some(number) => Some(Broken { rule: 8, number }),
+        None => None,
+    }
+}
+
+// From rule 7 on: records that are in use and not marked.
+#[tactic(auto, unfolding(crate::specs::Steps::from_7, volume_state::specs::Rules::broken_7))]
+fn from_7(map: &VolumeMap, climber: &Climber, marks: &Marks) -> Option<Broken>
+    requires { climber.now.records.now ≡ map.now.files.items }
+    ensures { (c : the_content) → AreMarks c (volume_in map.now) marks.now → result ≡ from_7 c (volume_in map.now) }
+{
+    match volume_parts::first_unmarked(&marks.heads, &marks.records) {
+        Some(number) => Some(Broken { rule: 7, number }),
+        None => from_8(map, climber),
+    }
+}
+
+// From rule 6 on: clusters that are owned and not marked.
+#[tactic(auto, unfolding(crate::specs::Steps::from_6, volume_state::specs::Rules::broken_6))]
+fn from_6(
+    alloc: Global,
+    map: &VolumeMap,
+    climber: &Climber,
+    marks: &Marks,
+    runs: &[Run],
+) -> Result<Option<Broken>, Memory>
+    requires records { climber.now.records.now ≡ map.now.files.items }
+    requires runs { runs.now ≡ volume_runs map.now.files.items }
+    ensures { (c : the_content) → AreMarks c (volume_in map.now) marks.now → IfOk result (λ broken. broken ≡ from_6 c (volume_in map.now)) }
+{
+    match cluster_owners::first_unmarked(alloc, runs, &marks.clusters)? {
+        Some(number) => Ok(Some(Broken { rule: 6, number })),
+        None => Ok(from_7(map, climber, marks)),
+    }
+}
+
+// From rule 5 on: clusters that are owned twice.
+#[tactic(auto, unfolding(crate::specs::Steps::from_5, volume_state::specs::Rules::broken_5))]
+fn from_5(
+    alloc: Global,
+    map: &VolumeMap,
+    climber: &Climber,
+    marks: &Marks,
+) -> Result<Option<Broken>, Memory>
+    requires { climber.now.records.now ≡ map.now.files.items }
+    ensures { (c : the_content) → AreMarks c (volume_in map.now) marks.now → IfOk result (λ broken. broken ≡ from_5 c (volume_in map.now)) }
+{
+    let runs = volume_runs(alloc, &map.files)?;
+    match cluster_owners::first_shared(alloc, runs.as_slice(), map.clusters)? {
+        Some(number) => Ok(Some(Broken { rule: 5, number })),
+        None => from_6(alloc, map, climber, marks, runs.as_slice()),
+    }
+}
+
+// From rule 4 on: pieces, places and sizes of streams.
+#[tactic(auto, unfolding(crate::specs::Steps::from_4, volume_state::specs::Rules::broken_4))]
+fn from_4<V: View>(
+    alloc: Global,
+    view: &mut V,
+    map: &VolumeMap,
+    climber: &Climber,
+    marks: &Marks,
+    body: &mut Body,
+) -> Result<Option<Broken>, CheckFault>
+    requires map { IsMap map.now }
+    requires records { climber.now.records.now ≡ map.now.files.items }
+    ensures value { IfSome (V.content view.old) (λ c. AreMarks c (volume_in map.now) marks.now → IfOk result (λ broken. broken ≡ from_4 c (volume_in map.now))) }
+    ensures never { NeverBroken result }
+    ensures kept { KeepsView V.content V.kept V.faults view.old view.new }
+    ensures fault { IsErrOf result CheckFault.View → Rose (V.faults view.old) (V.faults view.new) }
+{
+    match stream_sizes::first_broken(
+        alloc,
+        view,
+        map.per_cluster,
+        map.clusters,
+        &map.files,
+        body,
+    )? {
+        Some(number) => Ok(Some(Broken { rule: 4, number })),
+        None => Ok(from_5(alloc, map, climber, marks)?),
+    }
+}
+
+// From rule 3 on: the index of each directory.
+#[tactic(auto, unfolding(crate::specs::Steps::from_3, volume_state::specs::Rules::broken_3))]
+fn from_3<V: View>(
+    alloc: Global,
+    view: &mut V,
+    map: &VolumeMap,
+    names: &Names,
+    climber: &Climber,
+    marks: &Marks,
+    body: &mut Body,
+) -> Result<Option<Broken>, CheckFault>
+    requires map { IsMap map.now }
+    requires names { AreNames map.now.files.items names.now }
+    requires records { climber.now.records.now ≡ map.now.files.items }
+    ensures value { IfSome (V.content view.old) (λ c. AreMarks c (volume_in map.now) marks.now → IfOk result (λ broken. broken ≡ from_3 c (volume_in map.now))) }
+    ensures never { NeverBroken result }
+    ensures kept { KeepsView V.content V.kept V.faults view.old view.new }
+    ensures fault { IsErrOf result CheckFault.View → Rose (V.faults view.old) (V.faults view.new) }
+{
+    match directory_index::first_broken(
+        alloc,
+        view,
+        map.per_cluster,
+        &marks.upper,
+        &map.files,
+        &names.links,
+        &names.counts,
+    )? {
+        Some(number) => Ok(Some(Broken { rule: 3, number })),
+        None => from_4(alloc, view, map, climber, marks, body),
+    }
+}
+
+// From rule 2 on: the directory of each name.
+#[tactic(auto, unfolding(crate::specs::Steps::from_2, volume_state::specs::Rules::broken_2))]
+fn from_2<V: View>(
+    alloc: Global,
+    view: &mut V,
+    map: &VolumeMap,
+    names: &Names,
+    climber: &Climber,
+    marks: &Marks,
+    body: &mut Body,
+) -> Result<Option<Broken>, CheckFault>
+    requires map { IsMap map.now }
+    requires names { AreNames map.now.files.items names.now }
+    requires records { climber.now.records.now ≡ map.now.files.items }
+    ensures value { IfSome (V.content view.old) (λ c. AreMarks c (volume_in map.now) marks.now → IfOk result (λ broken. broken ≡ from_2 c (volume_in map.now))) }
+    ensures never { NeverBroken result }
+    ensures kept { KeepsView V.content V.kept V.faults view.old view.new }
+    ensures fault { IsErrOf result CheckFault.View → Rose (V.faults view.old) (V.faults view.new) }
+{
+    match first_misplaced(&map.files, &names.links) {
+        Some(number) => Ok(Some(Broken { rule: 2, number })),
+        None => from_3(alloc, view, map, names, climber, marks, body),
+    }
+}
+
+/// The first rule before the ninth that a loaded volume breaks, with the least number at which it
+/// does, if it breaks one. `names` are the names of its files, `climber` climbs over these, `marks`
+/// are its marks, and `body` is room for a body.
+///
+/// It goes over the records, the indexes and the streams once each, and sorts the runs; a rule is
+/// tried only where those before it are kept.
+#[tactic(auto, unfolding(crate::specs::Steps::from_1, volume_state::specs::Rules::broken_1))]
+pub fn from_1<V: View>(
+    alloc: Global,
+    view: &mut V,
+    map: &VolumeMap,
+    names: &Names,
+    climber: &Climber,
+    marks: &Marks,
+    body: &mut Body,
+) -> Result<Option<Broken>, CheckFault>
+    requires map { IsMap map.now }
+    requires names { AreNames map.now.files.items names.now }
+    requires records { climber.now.records.now ≡ map.now.files.items }
+    ensures value { IfSome (V.content view.old) (λ c. AreMarks c (volume_in map.now) marks.now → IfOk result (λ broken. broken ≡ from_1 c (volume_in map.now))) }
+    ensures never { NeverBroken result }
+    ensures kept { KeepsView V.content V.kept V.faults view.old view.new }
+    ensures fault { IsErrOf result CheckFault.View → Rose (V.faults view.old) (V.faults view.new) }
+{
+    match first_misnamed(&map.files, &names.links) {
+        Some(number) => Ok(Some(Broken { rule: 1, number })),
+        None => from_2(alloc, view, map, names, climber, marks, body),
+    }
+}
