@@ -51,8 +51,14 @@ fn sized_on(sectors: u64, boot: Boot) -> Result<Boot, ScanError>
     Ok(boot)
 }
 
-/// The fields of the boot sector of a volume on so many sectors, or what refuses it; `body` is room
-/// for a body.
+/// The fields of the boot sector (Linux-NTFS documentation, "$Boot") of the volume that a view shows,
+/// on a device of so many sectors of 512 bytes. It reads the first sector into `body`, which is room
+/// for a body, and nothing else.
+///
+/// - [`ScanError::Refused`]: the refusal of the boot sector, or [`Refusal::Short`] with the sectors
+///   of the volume and of the device, where the device has fewer.
+/// - [`ScanError::Device`]: the view failed.
+/// - [`ScanError::Memory`]: want of memory.
 pub fn boot_on<V: View>(view: &mut V, sectors: u64, body: &mut Body) -> Result<Boot, ScanError>
     ensures answer { IfSome (V.content view.old) (λ c. GivesOrFails (λ b. b) scan_cause result (boot_on c sectors)) }
     ensures profile { IfOk result IsInProfile }

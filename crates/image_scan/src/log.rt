@@ -173,8 +173,14 @@ fn check_record<V: View>(
     judge_log(is_empty)
 }
 
-/// Refuses record 2, or a log that isn't emptied; `body` is room for a body. It reads the record and
-/// the first two pages of the log.
+/// Whether the volume's log (Linux-NTFS documentation, "$LogFile") is emptied: its first two pages of
+/// 4,096 bytes are all FF. It reads record 2 where the boot sector says that the file table begins,
+/// and the first two pages of the log; `body` is room for a body.
+///
+/// - [`ScanError::Refused`]: [`Refusal::BadFixup`] or [`Refusal::BadRecord`] of record 2, by its rules
+///   1 to 8, or [`Refusal::Unbuilt`] of rule 7, where the log isn't emptied.
+/// - [`ScanError::Device`]: the view failed.
+/// - [`ScanError::Memory`]: want of memory.
 pub fn check_log<V: View>(
     alloc: Global,
     view: &mut V,

@@ -34,6 +34,9 @@ pub enum Refusal {
     /// The file table has more than 1,048,576 records.
     #[error("{records} file records are too many")]
     MftLarge { records: u64 },
+    /// The volume information isn't 3.1.
+    #[error("version {major}.{minor} isn't 3.1")]
+    Version { major: u8, minor: u8 },
     /// The records stand for no tree: this rule is broken, first at this record.
     #[error("the volume breaks rule {rule} at {number}")]
     BadVolume { rule: u32, number: u64 },
@@ -45,7 +48,7 @@ pub enum Refusal {
     Unbuilt { rule: u32 },
 }
 
-/// Why a scan found no links.
+/// Why a scan or a check has no answer.
 #[derive(Clone, Copy, Debug, PartialEq, Eq, Error)]
 pub enum ScanError {
     #[error("no memory")]

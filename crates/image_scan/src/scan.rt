@@ -57,9 +57,11 @@ fn volume_links<V: View>(
     links_in(alloc, view, geometry)
 }
 
+/// The sectors of a cluster, and the cluster at which the file table begins, by the fields of a boot
+/// sector (Linux-NTFS documentation, "$Boot"). It takes no memory and doesn't fail.
 #[tactic(auto, unfolding(crate::specs::Scans::geometry_of))]
-fn geometry_of(boot: &Boot) -> Geometry
-    requires { IsInProfile boot.now }
+pub fn geometry_of(boot: &Boot) -> Geometry
+    requires profile { IsInProfile boot.now }
     ensures value { result ≡ geometry_of boot.now }
     ensures some { 0 < result.per_cluster }
     ensures few { result.per_cluster ≤ 8 }

@@ -1,0 +1,204 @@
+//! The tree of the volume on a device.
+ghost use Rattle.std.specs.Prelude.{◌≡◌, ◌*◌, ◌^◌, ◌<◌, ◌≤◌, IfOk, IfSome, IsErrOf};
+ghost use Rattle.host_base.specs.Answers.{Gives, GivesOrFails};
+ghost use Rattle.host_base.specs.Causes.{HasFailed, Rose};
+ghost use Rattle.disk_model.specs.Sectors.{sector_of};
+ghost use Rattle.disk_model.specs.Content.{content_of};
+ghost use Rattle.boot_sector.specs.BootSectors.{IsInProfile, clusters};
+ghost use Rattle.device_view.specs.Devices.{KeepsDevice};
+ghost use Rattle.volume_map.specs.Maps.{IsMap, volume_in};
+ghost use Rattle.volume_map.specs.Views.{KeepsView};
+ghost use Rattle.image_scan.specs.Errors.{scan_cause};
+ghost use Rattle.image_scan.specs.Scans.{geometry_of};
+ghost use Rattle.image_check.specs.Errors.{error_of_check};
+ghost use Rattle.image_check.specs.Checks.{judged_version, has_version, tree_on, volume_on, volume_tree, loaded_tree, geometry_tree, check_in, check_of};
+
+use block_view::View;
+use boot_sector::Boot;
+use device_view::{DeviceView, piece_room};
+use disk_model::Body;
+use image_scan::{Refusal, ScanError, boot_on, check_log, geometry_of};
+use record_model::VolumeInfo;
+use sector_device::Device;
+use state_model::Geometry;
+use std::alloc::Global;
+use tree_model::Tree;
+use volume_check::{CheckFault, check};
+use volume_map::{VolumeMap, load_volume};
+use volume_parts::volume_info;
+
+fn error_of(fault: CheckFault) -> ScanError
+    ensures value { result ≡ error_of_check fault }
+{
+    match fault {
+        CheckFault::Broken(broken) => ScanError::Refused(Refusal::BadVolume {
+            rule: broken.rule,
+            number: broken.number,
+        }),
+        CheckFault::View => ScanError::Device,
+        CheckFault::Memory => ScanError::Memory,
+    }
+}
+
+// The tree of a volume that breaks no rule.
+fn tree_on<V: View>(alloc: Global, view: &mut V, map: &VolumeMap) -> Result<Tree, ScanError>
+    requires map { IsMap map.now }
+    ensures answer { IfSome (V.content view.old) (λ c. GivesOrFails (λ tree. tree) scan_cause result (tree_on c (volume_in map.now))) }
+    ensures kept { KeepsView V.content V.kept V.faults view.old view.new }
+    ensures fault { IsErrOf result ScanError.Device → Rose (V.faults view.old) (V.faults view.new) }
+{
+    match check(alloc, view, map) {
+        Ok(tree) => Ok(tree),
+        Err(fault) => Err(error_of(fault)),
+    }
+}
+
+fn judge_version(info: VolumeInfo) -> Result<(), ScanError>
+    ensures answer { Gives (λ x. x) scan_cause result (judged_version info) }
+{
+    if info.major == 3 && info.minor == 1 {
+        return Ok(());
+    }
+    Err(ScanError::Refused(Refusal::Version {
+        major: info.major,
+        minor: info.minor,
+    }))
+}
+
+// Refuses a version other than 3.1.
+#[tactic(auto, unfolding(crate::specs::Checks::has_version))]
+fn check_version(map: &VolumeMap) -> Result<(), ScanError>
+    ensures answer { Gives (λ x. x) scan_cause result (has_version (volume_in map.now)) }
+{
+    judge_version(volume_info(map))
+}
+
+// The tree of a loaded volume.
+fn volume_tree<V: View>(alloc: Global, view: &mut V, map: &VolumeMap) -> Result<Tree, ScanError>
+    requires map { IsMap map.now }
+    ensures answer { IfSome (V.content view.old) (λ c. GivesOrFails (λ tree. tree) scan_cause result (volume_tree c (volume_in map.now))) }
+    ensures kept { KeepsView V.content V.kept V.faults view.old view.new }
+    ensures fault { IsErrOf result ScanError.Device → Rose (V.faults view.old) (V.faults view.new) }
+{
+    check_version(map)?;
+    tree_on(alloc, view, map)
+}
+
+// The volume that a view's content is.
+fn volume_on<V: View>(
+    alloc: Global,
+    view: &mut V,
+    geometry: Geometry,
+    total: u64,
+) -> Result<VolumeMap, ScanError>
+    requires some { 0 < geometry.per_cluster }
+    requires few { geometry.per_cluster ≤ 8 }
+    requires place { geometry.mft * geometry.per_cluster < 2 ^ 62 }
+    ensures answer { IfSome (V.content view.old) (λ c. GivesOrFails volume_in scan_cause result (volume_on c geometry total)) }
+    ensures map { IfOk result IsMap }
+    ensures kept { KeepsView V.content V.kept V.faults view.old view.new }
+    ensures fault { IsErrOf result ScanError.Device → Rose (V.faults view.old) (V.faults view.new) }
+{
+    Ok(load_volume(alloc, view, geometry, total)?)
+}
+
+// The tree of a volume whose log is emptied.
+fn loaded_tree<V: View>(
+    alloc: Global,
+    view: &mut V,
+    geometry: Geometry,
+    total: u64,
+) -> Result<Tree, ScanError>
+    requires some { 0 < geometry.per_cluster }
+    requires few { geometry.per_cluster ≤ 8 }
+    requires place { geometry.mft * geometry.per_cluster < 2 ^ 62 }
+    ensures answer { IfSome (V.content view.old) (λ c. GivesOrFails (λ tree. tree) scan_cause result (loaded_tree c geometry total)) }
+    ensures kept { KeepsView V.content V.kept V.faults view.old view.new }
+    ensures fault { IsErrOf result ScanError.Device → Rose (V.faults view.old) (V.faults view.new) }
+{
+    let map = volume_on(alloc, view, geometry, total)?;
+    volume_tree(alloc, view, &map)
+}
+
+// The tree of a volume of this geometry and so many clusters.
+fn geometry_tree<V: View>(
+    alloc: Global,
+    view: &mut V,
+    geometry: Geometry,
+    total: u64,
+    body: &mut Body,
+) -> Result<Tree, ScanError>
+    requires some { 0 < geometry.per_cluster }
+    requires few { geometry.per_cluster ≤ 8 }
+    requires place { geometry.mft * geometry.per_cluster < 2 ^ 62 }
+    ensures answer { IfSome (V.content view.old) (λ c. GivesOrFails (λ tree. tree) scan_cause result (geometry_tree c geometry total)) }
+    ensures kept { KeepsView V.content V.kept V.faults view.old view.new }
+    ensures fault { IsErrOf result ScanError.Device → Rose (V.faults view.old) (V.faults view.new) }
+{
+    check_log(alloc, view, geometry, body)?;
+    loaded_tree(alloc, view, geometry, total)
+}
+
+// A boot sector of the profile has clusters of some sectors.
+fn clusters_of(boot: &Boot) -> u64
+    requires profile { IsInProfile boot.now }
+    ensures value { result ≡ clusters boot.now }
+{
+    boot.clusters()
+}
+
+// The tree of a view of so many sectors.
+fn check_view<V: View>(alloc: Global, view: &mut V, sectors: u64) -> Result<Tree, ScanError>
+    ensures answer { IfSome (V.content view.old) (λ c. GivesOrFails (λ tree. tree) scan_cause result (check_in c sectors)) }
+    ensures kept { KeepsView V.content V.kept V.faults view.old view.new }
+    ensures fault { IsErrOf result ScanError.Device → Rose (V.faults view.old) (V.faults view.new) }
+{
+    let mut body = Body::empty(alloc)?;
+    let boot = boot_on(view, sectors, &mut body)?;
+    let total = clusters_of(&boot);
+    geometry_tree(alloc, view, geometry_of(&boot), total, &mut body)
+}
+
+// The tree of a device of so many sectors.
+fn check_device<D: Device>(alloc: Global, device: &mut D, sectors: u64) -> Result<Tree, ScanError>
+    ensures answer { IfSome (D.gives device.old) (λ disk. GivesOrFails (λ tree. tree) scan_cause result (check_in (content_of (sector_of disk)) sectors)) }
+    ensures kept { KeepsDevice D.gives D.sector_count D.fault_count device.old device.new }
+    ensures fault { IsErrOf result ScanError.Device → HasFailed (D.fault_count device.old) (D.fault_count device.new) (D.moment_of device.new) }
+{
+    let mut room = piece_room(alloc)?;
+    let mut view = DeviceView::new(&mut room, device);
+    check_view(alloc, &mut view, sectors)
+}
+
+/// The tree that the volume on the device stands for, without the bytes of its files and the records
+/// of its journal.
+///
+/// It reads what a scan reads, but keeps all file records; then the bitmaps of the records and of
+/// the clusters, the table of upper-case units, each index, and the journal, each once. Its time is
+/// linear in these and in the file table, and near linear in the runs of all streams, which it sorts;
+/// its memory is linear in the file table and in the bitmaps.
+///
+/// - [`ScanError::Refused`]: the first refusal that applies. First [`Refusal::Short`] of 1 and 0
+///   where the device has no sectors; then those of the boot sector; then `Short` with the sectors
+///   of the volume and of the device, where the device has fewer; then record 2, by the rules 1 to
+///   8, and a log whose first two pages aren't all FF; then record 0, and all records; then
+///   [`Refusal::Version`], where the volume information (Linux-NTFS documentation,
+///   "$VOLUME_INFORMATION") isn't 3.1, with version 0.0 where there is none; then
+///   [`Refusal::BadVolume`] with the first of the nine rules that is broken, and the least number at
+///   which it is: of a record, of a cluster (rules 5 and 6), or of a byte of the journal (rule 9).
+/// - [`ScanError::Device`]: the device failed.
+/// - [`ScanError::Memory`]: want of memory.
+pub fn check_image<D: Device>(alloc: Global, device: &mut D) -> Result<Tree, ScanError>
+    ensures answer { IfSome (D.gives device.old) (λ disk. GivesOrFails (λ tree. tree) scan_cause result (check_of disk)) }
+    ensures kept { KeepsDevice D.gives D.sector_count D.fault_count device.old device.new }
+    ensures fault { IsErrOf result ScanError.Device → HasFailed (D.fault_count device.old) (D.fault_count device.new) (D.moment_of device.new) }
+{
+    let sectors = device.sectors();
+    if sectors == 0 {
+        return Err(ScanError::Refused(Refusal::Short {
+            sectors: 1,
+            device: 0,
+        }));
+    }
+    check_device(alloc, device, sectors)
+}

@@ -1,0 +1,16 @@
+//! The check of an image: the tree that its volume stands for, or the first refusal of the image.
+//!
+//! The contract: `check_image` answers the tree of the definition for the device's sectors, without
+//! the bytes of its files and the records of its journal, or the refusal of the definition, and the
+//! device is only read. An image is first taken as a scan takes it; then its version is judged, and
+//! then the nine rules under which a volume stands for a tree. The layouts are those of the
+//! Linux-NTFS documentation, "$Boot", "$LogFile", "$MFT", "$VOLUME_INFORMATION", "$FILE_NAME",
+//! "$INDEX_ROOT", "Data runs", "$Bitmap" and "$UsnJrnl".
+#![tactic(auto)]
+
+mod checking;
+
+pub use checking::check_image;
+
+#[cfg(test)]
+mod tests;
