@@ -3,8 +3,8 @@ ghost use Rattle.std.specs.Prelude.{◌≡◌, length, IfOk};
 
 use std::alloc::{AllocError, Global};
 
-// Where record 0 stands.
-const TABLE: usize = 4096;
+/// Where record 0 stands.
+pub const TABLE: usize = 4096;
 
 const RECORD_BYTES: usize = 1024;
 
@@ -38,7 +38,8 @@ pub fn put(image: &mut [u8], at: usize, bytes: &[u8])
     }
 }
 
-fn put_word(image: &mut [u8], at: usize, word: u16)
+/// Writes a word of two bytes, the low one first. What is past the end is left out.
+pub fn put_word(image: &mut [u8], at: usize, word: u16)
     ensures { length image.new ≡ length image.old }
 {
     put(image, at, &word.to_le_bytes());

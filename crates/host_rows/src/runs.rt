@@ -37,6 +37,20 @@ pub fn run<R: Threads + Wait + Sync + Abort + AllocGlobal>(
     Ok((outcome.status, sink.bytes().to_vec(alloc)?))
 }
 
+// A command on these bytes with no fault.
+pub fn answers<R: Threads + Wait + Sync + Abort + AllocGlobal>(
+    rt: &R,
+    command: &str,
+    image: &[u8],
+    status: u8,
+    text: &[u8],
+) -> Result<(), Fail> {
+    let (ended, written) = run(rt, &["ntfshost", "tiny.img", command], image, &[], &[])?;
+    assert_eq!(rt; written.as_slice(), text);
+    assert_eq!(rt; ended, status);
+    Ok(())
+}
+
 // A scan of these bytes with no fault.
 pub fn scan<R: Threads + Wait + Sync + Abort + AllocGlobal>(
     rt: &R,
@@ -44,10 +58,7 @@ pub fn scan<R: Threads + Wait + Sync + Abort + AllocGlobal>(
     status: u8,
     text: &[u8],
 ) -> Result<(), Fail> {
-    let (ended, written) = run(rt, &["ntfshost", "tiny.img", "scan"], image, &[], &[])?;
-    assert_eq!(rt; written.as_slice(), text);
-    assert_eq!(rt; ended, status);
-    Ok(())
+    answers(rt, "scan", image, status, text)
 }
 
 // The tiny image with other bytes from `at` on.

@@ -1,5 +1,5 @@
 pub mod Chunks
-pub mod Lines
+pub mod Answering
 pub mod Noting
 pub mod Standing
 pub mod Steps

@@ -5,8 +5,8 @@ pub mod Tables
 pub mod Scan
 pub mod Walks
 pub mod Reading
-pub mod Order
 pub mod Text
+pub mod Answers
 pub mod Words
 pub mod Statuses
 pub mod Mounts

@@ -1,28 +1,29 @@
 //! The top call.
-ghost use Rattle.std.specs.Prelude.{◌≡◌, ◌≢◌, ◌⊎◌, ◌↔◌, IsTrue, IfSome, IsSomeAnd, IsOk, IsErr, IsErrAnd, Ok, ◌≤◌};
+ghost use Rattle.std.specs.Prelude.{◌≡◌, ◌≢◌, ◌⊎◌, ◌↔◌, IsTrue, None, IfSome, IsSomeAnd, IsOk, IsErr, IsErrAnd, Ok, ◌≤◌};
 ghost use Rattle.std.specs.Io.KnownBytes.{Appends};
 ghost use Rattle.host_base.specs.Causes.{Rose, HasFailed, AppendsPart};
-ghost use Rattle.image_scan.specs.Scans.{scan_of};
 ghost use Rattle.script_text.specs.Scripts.{script_of};
 ghost use Rattle.upcase_order.specs.Tables.{standard_table};
+ghost use Rattle.ntfs_host.specs.Answers.{answer_of};
 ghost use Rattle.ntfs_host.specs.Mounts.{mounted_of};
 ghost use Rattle.ntfs_host.specs.Runs.{PrintsScript, PrintsScriptPart, IsRunStatus};
 ghost use Rattle.ntfs_host.specs.Scripts.{script_line};
-ghost use Rattle.ntfs_host.specs.Text.{Prints, PrintsPart};
+ghost use Rattle.ntfs_host.specs.Text.{printed};
 ghost use Rattle.ntfs_host.specs.Statuses.{IsQuietStatus};
-ghost use Rattle.ntfs_host.specs.Words.{IsScan, IsRun, usage};
+ghost use Rattle.ntfs_host.specs.Words.{quiet_named, quiet_in, IsRun, usage};
 
-use crate::order::sort;
-use crate::output::{write_links, write_refusal};
+use crate::answers::answer;
+use crate::command::Quiet;
+use crate::output::write_refusal;
+use crate::printing::write_lines;
 use crate::script_run::run_command;
 use crate::status::{DEVICE_FAULT, DONE, MEMORY, REFUSED, SINK_FAULT, USAGE, status_of};
 use host_base::{Gate, Sink, Source, write_all};
-use image_scan::{ScanError, scan_image};
+use image_scan::ScanError;
 use sector_device::Device;
 use std::alloc::Global;
 use std::sync::Wait;
 use std::thread::Threads;
-use tree_model::Link;
 
 const USAGE_LINE: &str = "usage: ntfshost IMAGE COMMAND [--time N] [--seed N] [--journal N]\n";
 
@@ -38,59 +39,73 @@ pub struct Outcome<D> {
     pub device: D,
 }
 
-/// A command that runs no script.
-#[derive(Clone, Copy, Debug, PartialEq, Eq)]
-pub enum Quiet {
-    /// Prints the long names of the volume.
-    Scan,
-}
-
-// Prints the links in order.
-fn print_links<K: Sink>(alloc: Global, sink: &mut K, links: Vec<Link>) -> u8
-    ensures status { (result ≡ 0) ⊎ (result ≡ 6) ⊎ (result ≡ 7) }
-    ensures done { result ≡ 0 → Prints (K.taken sink.old) (K.taken sink.new) (Ok links.items) }
-    ensures memory { result ≡ 6 → (K.taken sink.new ≡ K.taken sink.old) ⊎ PrintsPart (K.taken sink.old) (K.taken sink.new) (Ok links.items) }
-    ensures part { result ≡ 7 → PrintsPart (K.taken sink.old) (K.taken sink.new) (Ok links.items) }
+// Writes the text, each of its lines by itself.
+fn print_text<K: Sink>(sink: &mut K, text: &str) -> u8
+    ensures status { (result ≡ 0) ⊎ (result ≡ 7) }
+    ensures done { result ≡ 0 → Appends (K.taken sink.old) (K.taken sink.new) text.now }
+    ensures part { result ≡ 7 → AppendsPart (K.taken sink.old) (K.taken sink.new) text.now }
     ensures failed { result ≡ 7 → Rose (K.faults sink.old) (K.faults sink.new) }
     ensures later { K.faults sink.old ≤ K.faults sink.new }
 {
-    let mut links = links;
-    if sort(&mut links).is_err() {
-        return MEMORY;
+    match write_lines(sink, text.as_bytes()) {
+        Ok(()) => DONE,
+        Err(_) => SINK_FAULT,
     }
-    status_of(write_links(alloc, sink, &links), DONE)
 }
 
-// Scans the device and prints the answer.
-fn scan_into<K: Sink, D: Device>(alloc: Global, sink: &mut K, device: &mut D) -> u8
+// Reads the device and prints the answer.
+fn answer_into<K: Sink, D: Device>(
+    alloc: Global,
+    command: &Quiet,
+    sink: &mut K,
+    device: &mut D,
+) -> u8
     ensures status { IsQuietStatus result }
-    ensures done { result ≡ 0 → IfSome (D.gives device.old) (λ disk. IsOk (scan_of disk) × Prints (K.taken sink.old) (K.taken sink.new) (scan_of disk)) }
-    ensures refused { result ≡ 3 → IfSome (D.gives device.old) (λ disk. IsErr (scan_of disk) × Prints (K.taken sink.old) (K.taken sink.new) (scan_of disk)) }
-    ensures memory { result ≡ 6 → IfSome (D.gives device.old) (λ disk. (K.taken sink.new ≡ K.taken sink.old) ⊎ PrintsPart (K.taken sink.old) (K.taken sink.new) (scan_of disk)) }
-    ensures part { result ≡ 7 → IfSome (D.gives device.old) (λ disk. PrintsPart (K.taken sink.old) (K.taken sink.new) (scan_of disk)) }
+    ensures done { result ≡ 0 → IfSome (D.gives device.old) (λ disk. IsOk (answer_of command.now disk) × Appends (K.taken sink.old) (K.taken sink.new) (printed (answer_of command.now disk))) }
+    ensures refused { result ≡ 3 → IfSome (D.gives device.old) (λ disk. IsErr (answer_of command.now disk) × Appends (K.taken sink.old) (K.taken sink.new) (printed (answer_of command.now disk))) }
+    ensures memory { result ≡ 6 → IfSome (D.gives device.old) (λ disk. (K.taken sink.new ≡ K.taken sink.old) ⊎ AppendsPart (K.taken sink.old) (K.taken sink.new) (printed (answer_of command.now disk))) }
+    ensures part { result ≡ 7 → IfSome (D.gives device.old) (λ disk. AppendsPart (K.taken sink.old) (K.taken sink.new) (printed (answer_of command.now disk))) }
     ensures sink_failed { result ≡ 7 → Rose (K.faults sink.old) (K.faults sink.new) }
     ensures device_failed { result ≡ 8 → HasFailed (D.fault_count device.old) (D.fault_count device.new) (D.moment_of device.new) }
     ensures silent { result ≡ 8 → K.taken sink.new ≡ K.taken sink.old }
     ensures gives { D.gives device.new ≡ D.gives device.old }
 {
-    match scan_image(alloc, device) {
-        Ok(links) => print_links(alloc, sink, links),
+    match answer(alloc, command, device) {
+        Ok(text) => print_text(sink, text.as_str()),
         Err(ScanError::Refused(refusal)) => status_of(write_refusal(alloc, sink, refusal), REFUSED),
         Err(ScanError::Memory) => MEMORY,
         Err(ScanError::Device) => DEVICE_FAULT,
     }
 }
 
-/// Does a command that runs no script, on the device; its text goes to the sink.
+/// Does a command that runs no script, on the device; its text, or the line of the first refusal that
+/// applies, goes to the sink. The device is only read.
 ///
 /// `Scan` prints a line for each long name of a file record in use, `N S P Q NAME` with the number
 /// and sequence of the file and of its directory, by file number, directory number and raw units,
-/// and then `links K`; or the line of the first refusal that applies. It takes each volume whose
-/// boot sector is in the profile, wherever its file table lies, and attribute lists. It reads the
-/// boot sector, record 2 and the first pages of the log, and then goes over the file table once, in
-/// reads of 64 KiB where its records lie one behind the other. Its time is linear in the file table,
+/// and then `links K`. It takes each volume whose boot sector is in the profile, wherever its file
+/// table lies, and attribute lists. It reads the boot sector, record 2 and the first pages of the
+/// log, and then goes over the file table, in reads of 64 KiB where its records lie one behind the
+/// other: once, or twice where a file has an attribute list. Its time is linear in the file table,
 /// and in its runs for each record, and near linear in the links, which it sorts; its memory grows
-/// with both.
+/// with the links, or with the file table where a file has an attribute list, and has room for the
+/// text twice.
+///
+/// `Dump` prints the tree that the volume stands for: by number a line for each node, `node N S KIND
+/// SIZE VALID CLUSTERS CREATED MODIFIED CHANGED READ`, with sizes in bytes and times in units of 100
+/// ns since 1601-01-01; the links in the order of a scan, first the long ones as `link N P long NAME`
+/// and then the short ones as `link N P short NAME`; `journal FIRST NEXT REACH`, or `journal -` where
+/// there is none; and `room R`, the free clusters. `Check` prints of that tree `ok nodes N links L
+/// room R journal FIRST NEXT`, or `journal -` at the end; its links are the long and the short ones.
+/// Both refuse what a scan refuses; then a version other than 3.1; and then a volume that breaks one
+/// of the nine rules under which it stands for a tree, by the first that is broken and the least
+/// number at which it is. They read what a scan reads; then the bitmaps, the table of upper-case
+/// units, each index and the change journal, each once. Their time is linear in what they read and
+/// near linear in the runs of all streams, which they sort; their memory grows with the file table
+/// and the bitmaps, and has room for the text twice.
+///
+/// The layouts are those of the Linux-NTFS documentation, "$Boot", "$MFT", "FILE Record",
+/// "$FILE_NAME", "$INDEX_ROOT", "$Bitmap" and "$UsnJrnl". The status is that of [`Outcome`].
 pub fn quiet_command<K: Sink, D: Device>(
     alloc: Global,
     command: &Quiet,
@@ -98,12 +113,12 @@ pub fn quiet_command<K: Sink, D: Device>(
     device: D,
 ) -> Outcome<D>
     ensures status { IsQuietStatus result.status }
-    ensures done { result.status ≡ 0 → IfSome (D.gives device) (λ disk. IsOk (scan_of disk) × Prints (K.taken sink.old) (K.taken sink.new) (scan_of disk)) }
-    ensures refused { result.status ≡ 3 → IfSome (D.gives device) (λ disk. IsErr (scan_of disk) × Prints (K.taken sink.old) (K.taken sink.new) (scan_of disk)) }
+    ensures done { result.status ≡ 0 → IfSome (D.gives device) (λ disk. IsOk (answer_of command.now disk) × Appends (K.taken sink.old) (K.taken sink.new) (printed (answer_of command.now disk))) }
+    ensures refused { result.status ≡ 3 → IfSome (D.gives device) (λ disk. IsErr (answer_of command.now disk) × Appends (K.taken sink.old) (K.taken sink.new) (printed (answer_of command.now disk))) }
 
     // A front of the text was written; for want of memory it may come before there is one.
-    ensures memory { result.status ≡ 6 → IfSome (D.gives device) (λ disk. (K.taken sink.new ≡ K.taken sink.old) ⊎ PrintsPart (K.taken sink.old) (K.taken sink.new) (scan_of disk)) }
-    ensures part { result.status ≡ 7 → IfSome (D.gives device) (λ disk. PrintsPart (K.taken sink.old) (K.taken sink.new) (scan_of disk)) }
+    ensures memory { result.status ≡ 6 → IfSome (D.gives device) (λ disk. (K.taken sink.new ≡ K.taken sink.old) ⊎ AppendsPart (K.taken sink.old) (K.taken sink.new) (printed (answer_of command.now disk))) }
+    ensures part { result.status ≡ 7 → IfSome (D.gives device) (λ disk. AppendsPart (K.taken sink.old) (K.taken sink.new) (printed (answer_of command.now disk))) }
 
     // Faults have their cause, and where the device failed nothing is written.
     ensures sink_failed { result.status ≡ 7 → Rose (K.faults sink.old) (K.faults sink.new) }
@@ -114,22 +129,37 @@ pub fn quiet_command<K: Sink, D: Device>(
     ensures gives { D.gives result.device ≡ D.gives device }
 
     // With no refusal and no fault the command is done, or memory is wanting.
-    ensures complete { IsSomeAnd (D.gives device) (λ disk. IsOk (scan_of disk)) → ¬ Rose (K.faults sink.old) (K.faults sink.new) → ¬ HasFailed (D.fault_count device) (D.fault_count result.device) (D.moment_of result.device) → (result.status ≡ 0) ⊎ (result.status ≡ 6) }
+    ensures complete { IsSomeAnd (D.gives device) (λ disk. IsOk (answer_of command.now disk)) → ¬ Rose (K.faults sink.old) (K.faults sink.new) → ¬ HasFailed (D.fault_count device) (D.fault_count result.device) (D.moment_of result.device) → (result.status ≡ 0) ⊎ (result.status ≡ 6) }
 {
     let mut device = device;
-    let status = match command {
-        Quiet::Scan => scan_into(alloc, sink, &mut device),
-    };
+    let status = answer_into(alloc, command, sink, &mut device);
     Outcome { status, device }
 }
 
-// Whether the words are the program's name, an image and `scan`.
-fn is_scan(words: &[String]) -> bool
-    ensures { IsTrue result ↔ IsScan words.now }
+// The command that reads a volume and has this name.
+#[tactic(auto, unfolding(crate::specs::Words::quiet_named))]
+fn quiet_named(word: &str) -> Option<Quiet>
+    ensures named { result ≡ quiet_named word.now }
+{
+    if word == "scan" {
+        return Some(Quiet::Scan);
+    }
+    if word == "dump" {
+        return Some(Quiet::Dump);
+    }
+    if word == "check" {
+        return Some(Quiet::Check);
+    }
+    None
+}
+
+// The command that reads a volume and that the words name.
+fn quiet_in(words: &[String]) -> Option<Quiet>
+    ensures named { result ≡ quiet_in words.now }
 {
     match words {
-        [_, _, command] => command.as_str() == "scan",
-        _ => false,
+        [_, _, word] => quiet_named(word.as_str()),
+        _ => None,
     }
 }
 
@@ -158,10 +188,10 @@ fn write_usage<K: Sink>(sink: &mut K) -> u8
 /// Does the command that the words name, on the volume image of the device; its text, or the line
 /// of a refusal, goes to the sink.
 ///
-/// `words` has the program's name, the image and the command: `scan`, or `run`, which runs the
-/// script that the source has left. `gate.pass` is called before each command of a script. The
-/// status is that of `Outcome`.
-#[tactic(auto, using(crate::proofs::Worded::scan_is_not_run))]
+/// `words` has the program's name, the image and the command: `scan`, `dump` or `check`, which
+/// [`quiet_command`] does, or `run`, which runs the script that the source has left. `gate.pass` is
+/// called before each command of a script. The status is that of `Outcome`.
+#[tactic(auto, using(crate::proofs::Worded::quiet_is_not_run))]
 pub fn ntfs_host<R: Threads + Wait + Sync, S: Source, K: Sink, D: Device + Send, G: Gate + Sync>(
     rt: &R,
     alloc: Global,
@@ -174,18 +204,18 @@ pub fn ntfs_host<R: Threads + Wait + Sync, S: Source, K: Sink, D: Device + Send,
     ensures status { (result.status ≡ 2) ⊎ IsRunStatus result.status }
 
     // The usage line comes exactly where the words are no line of a command.
-    ensures words { result.status ≡ 2 → (¬ IsScan words.now) × (¬ IsRun words.now) }
-    ensures command { ¬ IsScan words.now → ¬ IsRun words.now → (result.status ≡ 2) ⊎ (result.status ≡ 7) }
+    ensures words { result.status ≡ 2 → (quiet_in words.now ≡ None) × (¬ IsRun words.now) }
+    ensures command { quiet_in words.now ≡ None → ¬ IsRun words.now → (result.status ≡ 2) ⊎ (result.status ≡ 7) }
     ensures usage { result.status ≡ 2 → Appends (K.taken sink.old) (K.taken sink.new) usage }
-    ensures usage_part { ¬ IsScan words.now → ¬ IsRun words.now → result.status ≡ 7 → AppendsPart (K.taken sink.old) (K.taken sink.new) usage }
+    ensures usage_part { quiet_in words.now ≡ None → ¬ IsRun words.now → result.status ≡ 7 → AppendsPart (K.taken sink.old) (K.taken sink.new) usage }
 
-    // A scan prints the scan text of the device, or the first refusal.
-    ensures scan_status { IsScan words.now → IsQuietStatus result.status }
-    ensures scan_done { IsScan words.now → result.status ≡ 0 → IfSome (D.gives device) (λ disk. IsOk (scan_of disk) × Prints (K.taken sink.old) (K.taken sink.new) (scan_of disk)) }
-    ensures scan_refused { IsScan words.now → result.status ≡ 3 → IfSome (D.gives device) (λ disk. IsErr (scan_of disk) × Prints (K.taken sink.old) (K.taken sink.new) (scan_of disk)) }
-    ensures scan_memory { IsScan words.now → result.status ≡ 6 → IfSome (D.gives device) (λ disk. (K.taken sink.new ≡ K.taken sink.old) ⊎ PrintsPart (K.taken sink.old) (K.taken sink.new) (scan_of disk)) }
-    ensures scan_part { IsScan words.now → result.status ≡ 7 → IfSome (D.gives device) (λ disk. PrintsPart (K.taken sink.old) (K.taken sink.new) (scan_of disk)) }
-    ensures scan_complete { IsScan words.now → IsSomeAnd (D.gives device) (λ disk. IsOk (scan_of disk)) → ¬ Rose (K.faults sink.old) (K.faults sink.new) → ¬ HasFailed (D.fault_count device) (D.fault_count result.device) (D.moment_of result.device) → (result.status ≡ 0) ⊎ (result.status ≡ 6) }
+    // A command that reads the volume prints the text that answers it, or the first refusal.
+    ensures quiet_status { IfSome (quiet_in words.now) (λ command. IsQuietStatus result.status) }
+    ensures quiet_done { IfSome (quiet_in words.now) (λ command. result.status ≡ 0 → IfSome (D.gives device) (λ disk. IsOk (answer_of command disk) × Appends (K.taken sink.old) (K.taken sink.new) (printed (answer_of command disk)))) }
+    ensures quiet_refused { IfSome (quiet_in words.now) (λ command. result.status ≡ 3 → IfSome (D.gives device) (λ disk. IsErr (answer_of command disk) × Appends (K.taken sink.old) (K.taken sink.new) (printed (answer_of command disk)))) }
+    ensures quiet_memory { IfSome (quiet_in words.now) (λ command. result.status ≡ 6 → IfSome (D.gives device) (λ disk. (K.taken sink.new ≡ K.taken sink.old) ⊎ AppendsPart (K.taken sink.old) (K.taken sink.new) (printed (answer_of command disk)))) }
+    ensures quiet_part { IfSome (quiet_in words.now) (λ command. result.status ≡ 7 → IfSome (D.gives device) (λ disk. AppendsPart (K.taken sink.old) (K.taken sink.new) (printed (answer_of command disk)))) }
+    ensures quiet_complete { IfSome (quiet_in words.now) (λ command. IsSomeAnd (D.gives device) (λ disk. IsOk (answer_of command disk)) → ¬ Rose (K.faults sink.old) (K.faults sink.new) → ¬ HasFailed (D.fault_count device) (D.fault_count result.device) (D.moment_of result.device) → (result.status ≡ 0) ⊎ (result.status ≡ 6)) }
 
     // A run prints the text of a serial run of the script, or the first refusal, or what refuses the script.
     ensures run_done { IsRun words.now → result.status ≡ 0 → IfSome (S.left source.old) (λ bytes. IsOk (script_of bytes) × IfSome (D.gives device) (λ disk. IsOk (mounted_of standard_table disk) × PrintsScript (K.taken sink.old) (K.taken sink.new) disk (D.fault_count result.device) (script_of bytes))) }
@@ -204,8 +234,8 @@ pub fn ntfs_host<R: Threads + Wait + Sync, S: Source, K: Sink, D: Device + Send,
     // What a read of the device gives stays.
     ensures gives { D.gives result.device ≡ D.gives device }
 {
-    if is_scan(words) {
-        return quiet_command(alloc, &Quiet::Scan, sink, device);
+    if let Some(command) = quiet_in(words) {
+        return quiet_command(alloc, &command, sink, device);
     }
     let mut device = device;
     let status = if is_run(words) {

@@ -1,21 +1,24 @@
 //! Commands over the image of an NTFS volume: the words of a command line, the refusals of an image
 //! and the text that is printed.
 //!
-//! The contract of the top call: at status 0 the sink took the text of the scan, or of a run of the
-//! script, on what a read of the device gives; at 3 the line of the first refusal that applies; and
-//! each other status has its cause. A scan takes each volume whose boot sector is in the profile,
-//! wherever its file table lies (`image_scan`). A run takes volumes with clusters of one sector, a
-//! file table of one run and no attribute lists. The layouts are those of the Linux-NTFS
-//! documentation, "$Boot", "$MFT" and "FILE Record".
+//! The contract of the top call: at status 0 the sink took the text of a scan, a dump or a check, or
+//! of a run of the script, on what a read of the device gives; at 3 the line of the first refusal
+//! that applies; and each other status has its cause. The text of a scan is a function of the long
+//! names of the volume (`image_scan`), and those of a dump and a check are functions of the tree that
+//! it stands for (`image_check`); they take each volume whose boot sector is in the profile, wherever
+//! its file table lies. A run takes volumes with clusters of one sector, a file table of one run and
+//! no attribute lists. The layouts are those of the Linux-NTFS documentation, "$Boot", "$MFT" and
+//! "FILE Record".
 #![tactic(auto)]
 
+mod answers;
 mod boot;
+mod command;
 mod finding;
 mod host;
 mod loading;
 mod mounting;
 mod names;
-mod order;
 mod output;
 mod piece;
 mod printing;
@@ -29,4 +32,5 @@ mod text;
 mod walk;
 mod write_error;
 
-pub use host::{Outcome, Quiet, ntfs_host, quiet_command};
+pub use command::Quiet;
+pub use host::{Outcome, ntfs_host, quiet_command};

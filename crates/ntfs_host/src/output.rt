@@ -3,32 +3,14 @@ ghost use Rattle.std.specs.Prelude.{◌≡◌, ◌≤◌, OnOk, OnErr, IsErrOf};
 ghost use Rattle.std.specs.Io.KnownBytes.{Appends};
 ghost use Rattle.host_base.specs.Causes.{Rose, AppendsPart};
 ghost use Rattle.ntfs_host.specs.Scripts.{script_line};
-ghost use Rattle.ntfs_host.specs.Text.{links_text, refusal_line};
+ghost use Rattle.ntfs_host.specs.Text.{refusal_line};
 
-use crate::text::{link_line, refusal_line, script_line, total_line};
+use crate::text::{refusal_line, script_line};
 use crate::write_error::WriteError;
 use host_base::{Sink, write_all};
 use image_scan::Refusal;
 use script_text::ScriptFault;
 use std::alloc::Global;
-use tree_model::Link;
-
-/// Writes a line for each link, and how many there are.
-#[tactic(auto, using(host_base::proofs::Appending::nothing))]
-pub fn write_links<K: Sink>(alloc: Global, sink: &mut K, links: &[Link]) -> Result<(), WriteError>
-    ensures ok { OnOk result (Appends (K.taken sink.old) (K.taken sink.new) (links_text links.now)) }
-    ensures err { OnErr result (AppendsPart (K.taken sink.old) (K.taken sink.new) (links_text links.now)) }
-    ensures later { K.faults sink.old ≤ K.faults sink.new }
-    ensures fault { IsErrOf result WriteError.Sink → Rose (K.faults sink.old) (K.faults sink.new) }
-{
-    for link in links {
-        let line = link_line(alloc, link)?;
-        write_all(sink, line.as_bytes())?;
-    }
-    let line = total_line(alloc, links.len())?;
-    write_all(sink, line.as_bytes())?;
-    Ok(())
-}
 
 /// Writes the refusal's line.
 #[tactic(auto, using(host_base::proofs::Appending::nothing))]

@@ -1,42 +1,11 @@
 //! The lines that are printed.
 ghost use Rattle.std.specs.Prelude.{◌≡◌, IfOk, string_bytes};
 ghost use Rattle.ntfs_host.specs.Scripts.{script_line};
-ghost use Rattle.ntfs_host.specs.Text.{link_start, link_line, total_line, refusal_line};
+ghost use Rattle.ntfs_host.specs.Text.{refusal_line};
 
-use host_base::Memory;
 use image_scan::Refusal;
 use script_text::ScriptFault;
 use std::alloc::{AllocError, Global};
-use tree_model::Link;
-
-#[tactic(auto, unfolding(crate::specs::Text::link_start))]
-fn link_start(alloc: Global, link: &Link) -> Result<String, AllocError>
-    ensures { IfOk result (λ line. string_bytes line ≡ link_start link.now) }
-{
-    let child = link.child;
-    let parent = link.parent;
-    let (n, s, p, q) = (child.number, child.seq, parent.number, parent.seq);
-    format!(in alloc; "{n} {s} {p} {q} ")
-}
-
-/// The link's line: child number and sequence, parent number and sequence, and the name.
-#[tactic(auto, unfolding(crate::specs::Text::link_line))]
-pub fn link_line(alloc: Global, link: &Link) -> Result<String, Memory>
-    ensures { IfOk result (λ line. string_bytes line ≡ link_line link.now) }
-{
-    let mut line = link_start(alloc, link)?;
-    link.name.append_text(&mut line)?;
-    line.push('\n')?;
-    Ok(line)
-}
-
-/// The line that says how many links there are.
-#[tactic(auto, unfolding(crate::specs::Text::total_line))]
-pub fn total_line(alloc: Global, count: usize) -> Result<String, AllocError>
-    ensures { IfOk result (λ line. string_bytes line ≡ total_line count) }
-{
-    format!(in alloc; "links {count}\n")
-}
 
 /// The refusal's line: its number, its name and its values.
 #[tactic(auto, unfolding(crate::specs::Text::refusal_line))]
@@ -60,6 +29,9 @@ pub fn refusal_line(alloc: Global, refusal: Refusal) -> Result<String, AllocErro
         }
         Refusal::MftList => String::from_str(alloc, "refused 7 MftList\n"),
         Refusal::MftLarge { records } => format!(in alloc; "refused 8 MftLarge {records}\n"),
+        Refusal::Version { major, minor } => {
+            format!(in alloc; "refused 9 Version {major} {minor}\n")
+        }
         Refusal::BadVolume { rule, number } => {
             format!(in alloc; "refused 15 BadVolume {rule} {number}\n")
         }

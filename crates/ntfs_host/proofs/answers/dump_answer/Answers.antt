@@ -1,0 +1,17 @@
+use Rattle.std.proofs.Common.{Global, Ok}
+use Rattle.std.specs.Prelude.{String, string_bytes}
+use Rattle.std.proofs.lemmas.Result.{err_from_is_err_and}
+use Rattle.tree_model.specs.declared.tree.Tree.{Tree}
+use Rattle.image_check.specs.Checks.{check_of}
+use Rattle.image_dump.specs.Texts.{dump_text}
+use Rattle.ntfs_host.proofs.Answering.{text_is}
+use Rattle.ntfs_host.proofs.Steps.{fails_first}
+use Rattle.ntfs_host.proofs.answers.dump_answer.Goals as goal
+
+pub returns-in_err-tree-clause-answer : goal.returns-in_err-tree-clause-answer
+returns-in_err-tree-clause-answer g c =
+    let p = err_from_is_err_and c.from_residual.result c.from_residual.ensures.1 in
+    rw (p.1, p.2) (fails_first _ (λ (t : Tree). t) (λ (s : String Global). string_bytes s) _ check_of (λ disk x. Ok (dump_text x)) c.in_err-tree.ensures.answer)
+
+pub returns-clause-answer : goal.returns-clause-answer
+returns-clause-answer g c = text_is _ c.in_ok-tree.tree c.in_ok-dump_of_tree.field-0 check_of dump_text c.in_ok-tree.ensures.answer c.in_ok-dump_of_tree.ensures.text

@@ -1,0 +1,17 @@
+use Rattle.std.proofs.Common.{Vec, Global, Ok, ◌∙◌, ap}
+use Rattle.std.specs.Prelude.{String, string_bytes}
+use Rattle.std.proofs.lemmas.Result.{err_from_is_err_and}
+use Rattle.tree_model.specs.declared.link.Link.{Link}
+use Rattle.image_scan.specs.Scans.{scan_of}
+use Rattle.image_dump.specs.Texts.{scan_text}
+use Rattle.ntfs_host.proofs.Answering.{text_is}
+use Rattle.ntfs_host.proofs.Steps.{fails_first}
+use Rattle.ntfs_host.proofs.answers.scan_answer.Goals as goal
+
+pub returns-in_err-links-clause-answer : goal.returns-in_err-links-clause-answer
+returns-in_err-links-clause-answer g c =
+    let p = err_from_is_err_and c.from_residual.result c.from_residual.ensures.1 in
+    rw (p.1, p.2) (fails_first _ (λ (links : Vec Link Global). links.items) (λ (s : String Global). string_bytes s) _ scan_of (λ disk x. Ok (scan_text x)) c.in_err-links.ensures.answer)
+
+pub returns-clause-answer : goal.returns-clause-answer
+returns-clause-answer g c = text_is _ c.in_ok-links.links.items c.in_ok-text_of_links.field-0 scan_of scan_text c.in_ok-links.ensures.answer (c.in_ok-text_of_links.ensures.text ∙ ap scan_text c.deref.ensures.value)
