@@ -63,6 +63,12 @@ def library():
             ("ntfs_attr_open", pointer, [pointer, number, pointer, number]),
             ("ntfs_attr_pwrite", ctypes.c_int64, [pointer, ctypes.c_int64, ctypes.c_int64, text]),
             ("ntfs_attr_close", None, [pointer]),
+            ("ntfs_attr_pclose", ctypes.c_int, [pointer]),
+            ("ntfs_attr_add", ctypes.c_int, [pointer, number, text, ctypes.c_uint8, text, ctypes.c_int64]),
+            ("ntfs_create_symlink", pointer, [pointer, number, text, ctypes.c_uint8, text, ctypes.c_int]),
+            ("ntfs_set_ntfs_attrib", ctypes.c_int, [pointer, text, ctypes.c_size_t, ctypes.c_int]),
+            ("ntfs_set_ntfs_dos_name", ctypes.c_int, [pointer, pointer, text, ctypes.c_size_t, ctypes.c_int]),
+            ("ntfs_set_ntfs_reparse_data", ctypes.c_int, [pointer, text, ctypes.c_size_t, ctypes.c_int]),
         ]:
             getattr(found, call).restype = result
             getattr(found, call).argtypes = arguments
@@ -116,3 +122,47 @@ class Volume:
         node, folder, units = self.folder(full), self.folder(path), name.encode("utf-16-le")
         # The folder is opened last, so that the library has one copy of it; the call closes both.
         return self.calls.ntfs_delete(self.handle, full.encode(), node, folder, units, len(units) // 2) == 0
+
+    def write(self, path, data, at):
+        """Writes the data of a file from there on; what lies before it, past the file's end, becomes sparse."""
+        node = self.folder(path)
+        stream = self.calls.ntfs_attr_open(node, 0x80, None, 0)
+        done = self.calls.ntfs_attr_pwrite(stream, at, len(data), data) == len(data)
+        done = self.calls.ntfs_attr_pclose(stream) == 0 and done
+        self.calls.ntfs_attr_close(stream)
+        return self.calls.ntfs_inode_close(node) == 0 and done
+
+    def stream(self, path, name, data):
+        node, units = self.folder(path), name.encode("utf-16-le")
+        done = self.calls.ntfs_attr_add(node, 0x80, units, len(units) // 2, data, len(data)) == 0
+        return self.calls.ntfs_inode_close(node) == 0 and done
+
+    def short(self, path, name, short):
+        """Gives a name its short one."""
+        # The file is opened first, so that the library has one copy of the folder; the call closes both.
+        node, folder = self.folder(f"{path.rstrip('/')}/{name}"), self.folder(path)
+        return self.calls.ntfs_set_ntfs_dos_name(node, folder, short.encode(), len(short), 0) == 0
+
+    def compress(self, path):
+        """What is made in the folder from now on is compressed. That is a flag of the open volume too, which stands behind
+        two pointers."""
+        ctypes.cast(self.handle + 2 * ctypes.sizeof(ctypes.c_void_p), ctypes.POINTER(ctypes.c_ulong))[0] |= 1 << 6
+        node = self.folder(path)
+        done = self.calls.ntfs_set_ntfs_attrib(node, (0x800).to_bytes(4, "little"), 4, 0) == 0
+        return self.calls.ntfs_inode_close(node) == 0 and done
+
+    def symlink(self, path, name, target):
+        """A symlink as this library makes it: a file of the system that names its target."""
+        folder, units, behind = self.folder(path), name.encode("utf-16-le"), target.encode("utf-16-le")
+        node = self.calls.ntfs_create_symlink(folder, 0, units, len(units) // 2, behind, len(behind) // 2)
+        self.calls.ntfs_inode_close(folder)
+        return bool(node) and self.calls.ntfs_inode_close(node) == 0
+
+    def reparse(self, path, target):
+        """Makes a file a symlink by a reparse point."""
+        node, units = self.folder(path), target.encode("utf-16-le")
+        size = len(units).to_bytes(2, "little")
+        body = b"\0\0" + size + size + size + (1).to_bytes(4, "little") + units + units
+        value = (0xA000000C).to_bytes(4, "little") + len(body).to_bytes(2, "little") + b"\0\0" + body
+        done = self.calls.ntfs_set_ntfs_reparse_data(node, value, len(value), 0) == 0
+        return self.calls.ntfs_inode_close(node) == 0 and done
