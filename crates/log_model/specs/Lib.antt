@@ -1,0 +1,6 @@
+pub mod Entries
+pub mod EntryLaws
+pub mod Logs
+pub mod LogLaws
+pub mod StoreLaws
+pub mod LogVector
