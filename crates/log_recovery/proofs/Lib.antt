@@ -1,0 +1,5 @@
+pub mod Walking
+pub mod Saying
+pub mod Steps
+pub mod Ending
+pub mod Placing

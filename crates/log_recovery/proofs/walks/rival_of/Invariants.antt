@@ -1,0 +1,7 @@
+use Rattle.std.proofs.Common.{◌≡◌, drop}
+use Rattle.log_model.specs.Logs.{first_rival}
+use Rattle.log_recovery.proofs.walks.rival_of.Given as goal
+
+-- the answer of the entries that are left is that of all
+abbrev pub invariant-loop-entry : goal.invariant-loop-entry
+invariant-loop-entry l = first_rival (drop l.entry-index l.entries) l.block ≡ first_rival l.entries l.block

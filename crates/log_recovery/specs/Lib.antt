@@ -1,0 +1,6 @@
+pub mod Views
+pub mod Blocks
+pub mod Recovering
+pub mod Finding
+pub mod Sizes
+pub mod Places

@@ -1,0 +1,84 @@
+//! What recovery makes of one block.
+ghost use Rattle.std.specs.Prelude.{◌≡◌, ◌*◌, ◌≤◌, false, length, All, IfOk, IfSome, IfErr, IsErrOf};
+ghost use Rattle.std.specs.Ordering.{nat_cmp};
+ghost use Rattle.std.specs.BTreeSet.{contains};
+ghost use Rattle.host_base.specs.Causes.{Rose};
+ghost use Rattle.disk_model.specs.Sectors.{sectors};
+ghost use Rattle.log_recovery.specs.Views.{KeepsView, NeverForeign};
+ghost use Rattle.log_recovery.specs.Blocks.{Lies, Judges, shadowed_by};
+ghost use Rattle.log_recovery.specs.Finding.{IsSizedFor};
+
+use crate::ended::Ended;
+use crate::fault::RecoveryFault;
+use crate::found::Judged;
+use crate::making::remake;
+use crate::walks::{is_covered_whole, is_shadowed, rival_of};
+use block_view::View;
+use disk_model::{Block, BlockKind, Body};
+use log_model::Entry;
+use std::alloc::{AllocError, Global};
+
+// A copy of a body.
+fn copy_of(alloc: Global, body: &Body) -> Result<Body, AllocError>
+    requires { length body.now.bytes ≤ 4096 }
+    ensures { IfOk result (λ copy. copy ≡ body.now) }
+{
+    let mut copy = Body::empty(alloc)?;
+    copy.set(body.bytes(), body.torn());
+    Ok(copy)
+}
+
+// What is found of a block that isn't shadowed, and has this body on the disk.
+#[tactic(auto, unfolding(crate::specs::Blocks::other_by))]
+fn judge_seen(
+    alloc: Global,
+    ended: &Ended,
+    entries: &[Entry],
+    block: Block,
+    before: &Body,
+) -> Result<Judged, AllocError>
+    requires lies { All Lies entries.now }
+    requires size { length before.now.bytes ≡ 512 * sectors block.kind }
+    requires seen { shadowed_by (contains nat_cmp ended.now) entries.now block ≡ false }
+    ensures judged { IfOk result (Judges (contains nat_cmp ended.now) entries.now block before.now) }
+    ensures sized { IfOk result (IsSizedFor block) }
+{
+    let mut body = copy_of(alloc, before)?;
+    remake(ended, entries, block, &mut body);
+    let other = body.bytes() != before.bytes();
+    let whole = is_covered_whole(entries, block);
+    body.set_torn(before.torn() && !whole);
+    if block.kind != BlockKind::Plain && !whole && other {
+        return Ok(Judged::Partial);
+    }
+    if other || (before.torn() && whole) {
+        return Ok(Judged::Made { body });
+    }
+    Ok(Judged::Kept)
+}
+
+/// What is found of a block by these entries. `body` is room for its body.
+///
+/// - [`RecoveryFault::Fault`]: the view failed. The other error is want of memory.
+pub fn judge<V: View>(
+    alloc: Global,
+    view: &mut V,
+    ended: &Ended,
+    entries: &[Entry],
+    block: Block,
+    body: &mut Body,
+) -> Result<Judged, RecoveryFault>
+    requires { All Lies entries.now }
+    ensures judged { IfSome (V.content view.old) (λ c. IfOk result (Judges (contains nat_cmp ended.now) entries.now block (c block))) }
+    ensures sized { IfOk result (IsSizedFor block) }
+    ensures never { IfErr result NeverForeign }
+    ensures kept { KeepsView V.content V.kept V.faults view.old view.new }
+    ensures fault { IsErrOf result RecoveryFault.Fault → Rose (V.faults view.old) (V.faults view.new) }
+{
+    if is_shadowed(ended, entries, block) {
+        let lsn = rival_of(entries, block).unwrap_or(0);
+        return Ok(Judged::Shadowed { lsn });
+    }
+    view.body(block, body)?;
+    Ok(judge_seen(alloc, ended, entries, block, body)?)
+}

@@ -1,0 +1,80 @@
+//! Where blocks stand in a list of recovered blocks.
+ghost use Rattle.std.specs.Prelude.{◌≡◌, if◌then◌else◌, Some, IfOk, OnOk};
+ghost use Rattle.std.specs.Option.{option_copied};
+ghost use Rattle.std.specs.BTreeMap.{get};
+ghost use Rattle.disk_model.specs.declared.block.Block.{Block as BlockOf};
+ghost use Rattle.disk_model.specs.Sectors.{same_block};
+ghost use Rattle.log_recovery.specs.Recovering.{held_body};
+ghost use Rattle.log_recovery.specs.Places.{kind_number, key_of, key_order, HasPlaces, body_at};
+
+use crate::found::RecoveredBlock;
+use disk_model::{Block, BlockKind, Body};
+use std::alloc::{AllocError, Global};
+use std::collections::BTreeMap;
+
+/// The places of blocks in a list, by their first sectors and the numbers of their kinds.
+pub type Places = BTreeMap<(u64, u8), usize>;
+
+fn kind_number(kind: BlockKind) -> u8
+    ensures { result ≡ kind_number kind }
+{
+    match kind {
+        BlockKind::Plain => 0,
+        BlockKind::FileRec => 1,
+        BlockKind::Index => 2,
+    }
+}
+
+fn key_of(block: Block) -> (u64, u8)
+    ensures { result ≡ key_of block }
+{
+    (block.first, kind_number(block.kind))
+}
+
+// One block more, in place of an equal one.
+fn put(places: &mut Places, block: Block, place: usize) -> Result<(), AllocError>
+    ensures { OnOk result ((b : BlockOf) → get key_order places.new (key_of b) ≡ (if same_block b block then Some place else get key_order places.old (key_of b))) }
+{
+    places.insert(key_of(block), place)?;
+    Ok(())
+}
+
+/// The places of the blocks in this list, of equal ones the first. It takes near-linear time; the
+/// error is want of memory.
+pub fn places_of(alloc: Global, bodies: &[RecoveredBlock]) -> Result<Places, AllocError>
+    ensures { IfOk result (HasPlaces bodies.now) }
+{
+    let mut places = BTreeMap::new(alloc);
+    let count = bodies.len();
+    for done in 0..count {
+        let last = count - 1 - done;
+        put(&mut places, bodies[last].block, last)?;
+    }
+    Ok(places)
+}
+
+fn place_at(places: &Places, block: Block) -> Option<usize>
+    ensures { result ≡ get key_order places.now (key_of block) }
+{
+    places.get(&key_of(block)).copied()
+}
+
+fn body_at(bodies: &[RecoveredBlock], place: Option<usize>) -> Option<&Body>
+    ensures { option_copied result ≡ body_at bodies.now place }
+{
+    match place {
+        Some(i) => match bodies.get(i) {
+            Some(recovered) => Some(&recovered.body),
+            None => None,
+        },
+        None => None,
+    }
+}
+
+/// The body that is held of a block, in time logarithmic in the number of blocks.
+pub fn body_in<'a>(bodies: &'a [RecoveredBlock], places: &Places, block: Block) -> Option<&'a Body>
+    requires { HasPlaces bodies.now places.now }
+    ensures { option_copied result ≡ held_body bodies.now block }
+{
+    body_at(bodies, place_at(places, block))
+}

@@ -1,0 +1,62 @@
+ghost use Rattle.std.specs.Prelude.{◌≡◌, ◌*◌, All, IfSome, length};
+ghost use Rattle.disk_model.specs.Sectors.{sectors};
+ghost use Rattle.std.specs.Option.{option_map, option_copied};
+ghost use Rattle.block_view.specs.Borrowed.{BorrowedView};
+ghost use Rattle.log_recovery.specs.Recovering.{held_body, content_with, IsSized};
+ghost use Rattle.log_recovery.specs.Places.{HasPlaces};
+ghost use Rattle.log_recovery.specs.Sizes.{sized_with};
+
+use crate::found::RecoveredBlock;
+use crate::places::{Places, body_in};
+use block_view::{View, ViewFault};
+use disk_model::{Block, Body};
+
+/// A view with these bodies in place of its own: with those that recovery found, the recovered
+/// content of the view.
+#[derive(Drop)]
+pub struct RecoveredView<'a, V: View> {
+    pub view: &'a mut V,
+    /// Each has its block's size.
+    pub bodies: &'a [RecoveredBlock],
+    /// Where they stand, by `places_of`.
+    pub places: &'a Places,
+    pub ghost sized: { All IsSized bodies.now },
+    pub ghost right: { HasPlaces bodies.now places.now },
+}
+
+// The body that is held of a block, with its size.
+fn sized_body_in<'a>(
+    bodies: &'a [RecoveredBlock],
+    places: &Places,
+    block: Block,
+) -> Option<&'a Body>
+    requires sized { All IsSized bodies.now }
+    requires places { HasPlaces bodies.now places.now }
+    ensures value { option_copied result ≡ held_body bodies.now block }
+    ensures size { IfSome result (λ body. length body.now.bytes ≡ 512 * sectors block.kind) }
+{
+    body_in(bodies, places, block)
+}
+
+impl<'a, V: View> View for RecoveredView<'a, V> {
+    ghost content = { λ o. option_map (content_with o.bodies.now) (V.content o.view.now) };
+
+    ghost faults = { λ o. V.faults o.view.now };
+
+    ghost Kept = { BorrowedView V.Kept };
+
+    ghost kept = { λ o. record { reference = o.view.ghost_name; content = V.content o.view.now; kept = V.kept o.view.now } };
+
+    /// One search among the bodies, or the view's body.
+    fn body(&mut self, block: Block, out: &mut Body) -> Result<(), ViewFault> {
+        match sized_body_in(self.bodies, self.places, block) {
+            Some(body) => {
+                out.set(body.bytes(), body.torn());
+                Ok(())
+            }
+            None => self.view.body(block, out),
+        }
+    }
+
+    ghost sized = { λ o. sized_with o.bodies.now o.sized (V.content o.view.now) (V.sized o.view.now) };
+}
