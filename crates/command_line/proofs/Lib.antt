@@ -1,0 +1,6 @@
+mod Decimals
+mod Lexing
+mod Rows
+mod Turns
+mod Steps
+mod Ends
