@@ -1,0 +1,16 @@
+use Rattle.std.proofs.Common.{◌+◌, ◌*◌, length, refl, ◌∙◌, arith}
+use Rattle.volume_format.proofs.Pieces.{piece_more, no_piece}
+use Rattle.volume_format.proofs.writing.put_pieces.Goals as goal
+
+pub loop-piece-init : goal.loop-piece-init
+loop-piece-init g c = record { image = no_piece c.args.filling c.args.cluster (g.D.Device.gives c.args.device.now); sectors = refl; moment = omega arith; later = omega arith }
+
+pub loop-piece-preserved : goal.loop-piece-preserved
+loop-piece-preserved g c = record {
+  image =
+      piece_more c.args.filling c.args.cluster (65536 * c.loop-piece.piece) (length c.loop-piece.room) (65536 * (c.loop-piece.piece + 1)) _ _ _
+      (omega arith) (omega (arith, c.loop-piece.auto.room, c.requires.room)) c.loop-piece.invariant.image c.in_ok-put_piece.ensures.image;
+  sectors = c.put_piece.ensures.sectors ∙ c.loop-piece.invariant.sectors;
+  moment = omega (arith, c.loop-piece.invariant.moment, c.in_ok-put_piece.ensures.moment);
+  later = omega (arith, c.loop-piece.invariant.later, c.put_piece.ensures.cause.later);
+}

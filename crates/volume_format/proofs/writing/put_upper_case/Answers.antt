@@ -1,0 +1,17 @@
+use Rattle.std.proofs.Common.{ℕ, List, sym, subst, [], ◌∷◌, arith}
+use Rattle.std.proofs.lemmas.Result.{on_ok_weaker}
+use Rattle.upcase_order.specs.Tables.{standard_table}
+use Rattle.volume_format.specs.Layouts.{upper_case_first}
+use Rattle.volume_format.specs.Images.{Puts, upper_case_bytes}
+use Rattle.volume_format.proofs.Pieces.{upper_filled}
+use Rattle.volume_format.proofs.writing.put_upper_case.Goals as goal
+
+pub returns-clause-image : goal.returns-clause-image
+unfolding upper_case_bytes standard_table
+returns-clause-image g c =
+    on_ok_weaker c.put_filled.result
+    (λ put. subst (λ (bytes : List ℕ). Puts (record { cluster = upper_case_first; bytes = bytes } ∷ []) (g.D.Device.gives c.args.device.now) (g.D.Device.gives c.put_filled.new.device)) (sym (upper_filled 65536 131072 (omega arith) (omega arith))) put)
+    c.put_filled.ensures.image
+
+pub returns-clause-moment : goal.returns-clause-moment
+returns-clause-moment g c = on_ok_weaker c.put_filled.result (λ e. omega (arith, e)) c.put_filled.ensures.moment

@@ -1,0 +1,7 @@
+pub mod Layouts
+pub mod Answers
+pub mod Files
+pub mod Indexes
+pub mod Images
+pub mod Fillings
+pub mod Parts

@@ -1,0 +1,105 @@
+ghost use Rattle.std.specs.Prelude.{◌≡◌, ◌+◌, ◌*◌, ◌≤◌, ◌⊎◌, IfOk, OnOk, IsErr, IsErrOf};
+ghost use Rattle.std.specs.Option.{option_map};
+ghost use Rattle.host_base.specs.Answers.{GivesOrFails};
+ghost use Rattle.host_base.specs.Causes.{HasFailed};
+ghost use Rattle.volume_format.specs.declared.fault.FormatFault.TheVariants.{Device as device_failed, Memory as no_memory};
+ghost use Rattle.volume_format.specs.Layouts.{IsLayout, layout_of, device_calls};
+ghost use Rattle.volume_format.specs.Answers.{format_answer, format_cause, IsUntouched};
+ghost use Rattle.volume_format.specs.Images.{formatted, Puts, regions};
+
+use crate::fault::{FormatFault, Formatted};
+use crate::layout::{Layout, clusters_of, layout_of};
+use crate::parts::make_parts;
+use crate::writing::{PIECE_BYTES, put_image};
+use sector_device::Device;
+use std::alloc::Global;
+
+const MOST_CLUSTERS: u64 = 16_777_216;
+
+// The sectors of the least device.
+const LEAST_SECTORS: u64 = 4537;
+
+// The answer for a device of so many sectors, before anything is written.
+#[tactic(auto, unfolding(crate::specs::Answers::format_answer))]
+fn check(device: u64) -> Result<Formatted, FormatFault>
+    ensures answer { result ≡ format_answer device }
+    ensures layout { OnOk result (IsLayout (layout_of device)) }
+    ensures never { ¬ IsErrOf result device_failed }
+{
+    if device == 0 {
+        return Err(FormatFault::Short {
+            sectors: 1,
+            device: 0,
+        });
+    }
+    let clusters = clusters_of(device);
+    if clusters > MOST_CLUSTERS {
+        return Err(FormatFault::VolumeLarge { clusters });
+    }
+    if device < LEAST_SECTORS {
+        return Err(FormatFault::Short {
+            sectors: LEAST_SECTORS,
+            device,
+        });
+    }
+    Ok(Formatted {
+        clusters,
+        room: layout_of(device).room(),
+    })
+}
+
+// Makes the volume's regions and writes them.
+fn write_volume<D: Device>(
+    alloc: Global,
+    device: &mut D,
+    v: Layout,
+    seed: u64,
+    time: u64,
+) -> Result<(), FormatFault>
+    requires layout { IsLayout v }
+    requires within { 8 * v.clusters ≤ D.sector_count device.old }
+    ensures causes { IsErr result → IsErrOf result device_failed ⊎ IsErrOf result no_memory }
+    ensures image { OnOk result (Puts (regions v seed time) (D.gives device.old) (D.gives device.new)) }
+    ensures moment { OnOk result (D.moment_of device.new ≡ D.moment_of device.old + 2 * device_calls v) }
+    ensures sectors { D.sector_count device.new ≡ D.sector_count device.old }
+    ensures later { D.fault_count device.old ≤ D.fault_count device.new }
+    ensures fault { IsErrOf result device_failed → HasFailed (D.fault_count device.old) (D.fault_count device.new) (D.moment_of device.new) }
+{
+    let parts = make_parts(alloc, v, seed, time)?;
+    let mut room = vec![in alloc; 0u8; PIECE_BYTES as usize]?;
+    put_image(device, v, &parts, &mut room)?;
+    Ok(())
+}
+
+/// Makes a new volume of all sectors of a device but the last one, with this serial number; all its
+/// times are `time`, in units of 100 ns since 1601-01-01. The volume has clusters of eight sectors
+/// of 512 bytes and the twelve system files, and no other (Linux-NTFS documentation, "$Boot", "FILE
+/// Record" and the files' own pages). Free clusters stay as they were, and the last sector too.
+///
+/// It takes time linear in the clusters, constant memory, and writes at most 64 KiB in a call; the
+/// last call is a sync.
+///
+/// - [`FormatFault::Short`]: the device has no sector, or fewer than 4,537.
+/// - [`FormatFault::VolumeLarge`]: there would be more than 16,777,216 clusters. It comes before
+///   the second case of `Short`. After these two the device wasn't called.
+/// - [`FormatFault::Device`]: the device failed; what was written until then stands there.
+/// - [`FormatFault::Memory`]: want of memory.
+pub fn format<D: Device>(
+    alloc: Global,
+    device: &mut D,
+    seed: u64,
+    time: u64,
+) -> Result<Formatted, FormatFault>
+    ensures answer { GivesOrFails (λ formatted. formatted) format_cause result (format_answer (D.sector_count device.old)) }
+    ensures image { IfOk result (λ _. D.gives device.new ≡ option_map (λ old. formatted old seed time) (D.gives device.old)) }
+    ensures calls { IfOk result (λ _. D.moment_of device.new ≡ D.moment_of device.old + 2 * device_calls (layout_of (D.sector_count device.old))) }
+    ensures refused { IsErr (format_answer (D.sector_count device.old)) → IsUntouched (D.gives device.old) (D.gives device.new) (D.moment_of device.old) (D.moment_of device.new) (D.fault_count device.old) (D.fault_count device.new) }
+    ensures sectors { D.sector_count device.new ≡ D.sector_count device.old }
+    ensures later { D.fault_count device.old ≤ D.fault_count device.new }
+    ensures fault { IsErrOf result device_failed → HasFailed (D.fault_count device.old) (D.fault_count device.new) (D.moment_of device.new) }
+{
+    let sectors = device.sectors();
+    let answer = check(sectors)?;
+    write_volume(alloc, device, layout_of(sectors), seed, time)?;
+    Ok(answer)
+}
