@@ -67,7 +67,7 @@ fn first_place(per: u64, extents: &Extents) -> u128
 }
 
 #[tactic(auto, unfolding(volume_state::specs::Journals::has_journal_shape))]
-fn has_shape(per: u64, flags: u16, extents: &Extents) -> bool
+pub fn has_shape(per: u64, flags: u16, extents: &Extents) -> bool
     requires { per ≤ 8 }
     ensures { result ≡ has_journal_shape per flags extents.now }
 {

@@ -28,13 +28,13 @@ use upcase_order::Upcase;
 use volume_map::VolumeMap;
 use volume_nodes::stream_flags;
 
-const DATA: u32 = 0x80;
+pub const DATA: u32 = 0x80;
 
 // `$Max`
-const LIMITS_NAME: [u16; 4] = [0x24, 0x4d, 0x61, 0x78];
+pub const LIMITS_NAME: [u16; 4] = [0x24, 0x4d, 0x61, 0x78];
 
 // `$J`
-const ENTRIES_NAME: [u16; 2] = [0x24, 0x4a];
+pub const ENTRIES_NAME: [u16; 2] = [0x24, 0x4a];
 
 // The journal with these limits in these clusters, without records.
 fn journal_with(alloc: Global, limits: JournalMax, extents: &Extents, first: u64) -> Journal
