@@ -6,14 +6,13 @@ use Rattle.disk_model.specs.Content.{Content, content_of}
 use Rattle.record_model.specs.declared.values.VolumeInfo.{VolumeInfo}
 use Rattle.tree_model.specs.declared.tree.Tree.{Tree}
 use Rattle.state_model.specs.declared.geometry.Geometry.{Geometry}
-use Rattle.boot_sector.specs.BootSectors.{clusters}
 use Rattle.volume_model.specs.Volumes.{Volume, volume_of}
 use Rattle.volume_state.specs.Versions.{volume_info, is_known}
 use Rattle.volume_state.specs.Trees.{checked}
 use Rattle.image_scan.specs.declared.refusal.Refusal.{Refusal}
 use Rattle.image_scan.specs.declared.refusal.Refusal.TheVariants.{Short, Version}
 use Rattle.image_scan.specs.Errors.{map_refusal, refused_as}
-use Rattle.image_scan.specs.Scans.{boot_on, geometry_of, log_in}
+use Rattle.image_scan.specs.Scans.{opened_in}
 use Rattle.image_check.specs.Errors.{broken_refusal}
 
 -- ---- the volume
@@ -43,13 +42,9 @@ loaded_tree c g total = volume_on c g total >>= λ v. volume_tree c v
 
 -- ---- the image
 
--- the tree of a volume of this geometry and so many clusters, whose log is emptied
-unfoldable pub geometry_tree : Content → Geometry → ℕ → Result Tree Refusal
-geometry_tree c g total = log_in c g >>= λ _. loaded_tree c g total
-
 -- the tree of a content on a device of so many sectors
 unfoldable pub check_in : Content → ℕ → Result Tree Refusal
-check_in c sectors = boot_on c sectors >>= λ b. geometry_tree c (geometry_of b) (clusters b)
+check_in c sectors = opened_in c sectors >>= λ o. loaded_tree c o.geometry o.total
 
 -- The tree that the volume on these sectors stands for, without the bytes of its nodes and the records of its journal; or
 -- the first refusal that applies: by the boot sector, by record 2 and the log, by the records of the file table, by the

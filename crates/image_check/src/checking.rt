@@ -4,20 +4,16 @@ ghost use Rattle.host_base.specs.Answers.{Gives, GivesOrFails};
 ghost use Rattle.host_base.specs.Causes.{HasFailed, Rose};
 ghost use Rattle.disk_model.specs.Sectors.{sector_of};
 ghost use Rattle.disk_model.specs.Content.{content_of};
-ghost use Rattle.boot_sector.specs.BootSectors.{IsInProfile, clusters};
 ghost use Rattle.device_view.specs.Devices.{KeepsDevice};
 ghost use Rattle.volume_map.specs.Maps.{IsMap, volume_in};
 ghost use Rattle.volume_map.specs.Views.{KeepsView};
 ghost use Rattle.image_scan.specs.Errors.{scan_cause};
-ghost use Rattle.image_scan.specs.Scans.{geometry_of};
 ghost use Rattle.image_check.specs.Errors.{error_of_check};
-ghost use Rattle.image_check.specs.Checks.{judged_version, has_version, tree_on, volume_on, volume_tree, loaded_tree, geometry_tree, check_in, check_of};
+ghost use Rattle.image_check.specs.Checks.{judged_version, has_version, tree_on, volume_on, volume_tree, loaded_tree, check_in, check_of};
 
 use block_view::View;
-use boot_sector::Boot;
 use device_view::{DeviceView, piece_room};
-use disk_model::Body;
-use image_scan::{Refusal, ScanError, boot_on, check_log, geometry_of};
+use image_scan::{Refusal, ScanError, open_volume};
 use record_model::VolumeInfo;
 use sector_device::Device;
 use state_model::Geometry;
@@ -40,8 +36,14 @@ fn error_of(fault: CheckFault) -> ScanError
     }
 }
 
-// The tree of a volume that breaks no rule.
-fn tree_on<V: View>(alloc: Global, view: &mut V, map: &VolumeMap) -> Result<Tree, ScanError>
+/// The tree of a loaded volume that breaks none of the nine rules, without the bytes of its files and
+/// the records of its journal; it costs what [`check`] does.
+///
+/// - [`ScanError::Refused`]: [`Refusal::BadVolume`] with the first rule that is broken, and the least
+///   number at which it is.
+/// - [`ScanError::Device`]: the view failed.
+/// - [`ScanError::Memory`]: want of memory.
+pub fn tree_on<V: View>(alloc: Global, view: &mut V, map: &VolumeMap) -> Result<Tree, ScanError>
     requires map { IsMap map.now }
     ensures answer { IfSome (V.content view.old) (λ c. GivesOrFails (λ tree. tree) scan_cause result (tree_on c (volume_in map.now))) }
     ensures kept { KeepsView V.content V.kept V.faults view.old view.new }
@@ -65,9 +67,11 @@ fn judge_version(info: VolumeInfo) -> Result<(), ScanError>
     }))
 }
 
-// Refuses a version other than 3.1.
+/// Refuses a volume whose volume information (Linux-NTFS documentation, "$VOLUME_INFORMATION") isn't
+/// 3.1, by [`Refusal::Version`] with its version, or with version 0.0 where there is none. Linear in the
+/// attributes of record 3.
 #[tactic(auto, unfolding(crate::specs::Checks::has_version))]
-fn check_version(map: &VolumeMap) -> Result<(), ScanError>
+pub fn check_version(map: &VolumeMap) -> Result<(), ScanError>
     ensures answer { Gives (λ x. x) scan_cause result (has_version (volume_in map.now)) }
 {
     judge_version(volume_info(map))
@@ -84,8 +88,13 @@ fn volume_tree<V: View>(alloc: Global, view: &mut V, map: &VolumeMap) -> Result<
     tree_on(alloc, view, map)
 }
 
-// The volume that a view's content is.
-fn volume_on<V: View>(
+/// The volume that a view's content is, of this geometry and so many clusters; it costs what
+/// [`load_volume`] does.
+///
+/// - [`ScanError::Refused`]: the first refusal of the file table's records.
+/// - [`ScanError::Device`]: the view failed.
+/// - [`ScanError::Memory`]: want of memory.
+pub fn volume_on<V: View>(
     alloc: Global,
     view: &mut V,
     geometry: Geometry,
@@ -120,43 +129,14 @@ fn loaded_tree<V: View>(
     volume_tree(alloc, view, &map)
 }
 
-// The tree of a volume of this geometry and so many clusters.
-fn geometry_tree<V: View>(
-    alloc: Global,
-    view: &mut V,
-    geometry: Geometry,
-    total: u64,
-    body: &mut Body,
-) -> Result<Tree, ScanError>
-    requires some { 0 < geometry.per_cluster }
-    requires few { geometry.per_cluster ≤ 8 }
-    requires place { geometry.mft * geometry.per_cluster < 2 ^ 62 }
-    ensures answer { IfSome (V.content view.old) (λ c. GivesOrFails (λ tree. tree) scan_cause result (geometry_tree c geometry total)) }
-    ensures kept { KeepsView V.content V.kept V.faults view.old view.new }
-    ensures fault { IsErrOf result ScanError.Device → Rose (V.faults view.old) (V.faults view.new) }
-{
-    check_log(alloc, view, geometry, body)?;
-    loaded_tree(alloc, view, geometry, total)
-}
-
-// A boot sector of the profile has clusters of some sectors.
-fn clusters_of(boot: &Boot) -> u64
-    requires profile { IsInProfile boot.now }
-    ensures value { result ≡ clusters boot.now }
-{
-    boot.clusters()
-}
-
 // The tree of a view of so many sectors.
 fn check_view<V: View>(alloc: Global, view: &mut V, sectors: u64) -> Result<Tree, ScanError>
     ensures answer { IfSome (V.content view.old) (λ c. GivesOrFails (λ tree. tree) scan_cause result (check_in c sectors)) }
     ensures kept { KeepsView V.content V.kept V.faults view.old view.new }
     ensures fault { IsErrOf result ScanError.Device → Rose (V.faults view.old) (V.faults view.new) }
 {
-    let mut body = Body::empty(alloc)?;
-    let boot = boot_on(view, sectors, &mut body)?;
-    let total = clusters_of(&boot);
-    geometry_tree(alloc, view, geometry_of(&boot), total, &mut body)
+    let opening = open_volume(alloc, view, sectors)?;
+    loaded_tree(alloc, view, opening.geometry, opening.total)
 }
 
 // The tree of a device of so many sectors.

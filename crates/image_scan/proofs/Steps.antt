@@ -18,16 +18,17 @@ use Rattle.state_model.specs.declared.stream.Stream.{Stream}
 use Rattle.state_model.specs.declared.stream.Stream.TheVariants.{Held, Placed}
 use Rattle.state_model.specs.Streams.{byte_at, extent_bytes, stream_bytes, real_size}
 use Rattle.boot_sector.specs.declared.boot.Boot.{Boot}
-use Rattle.boot_sector.specs.BootSectors.{boot_of}
+use Rattle.boot_sector.specs.BootSectors.{boot_of, clusters}
 use Rattle.volume_map.specs.declared.fault.MapFault.{MapFault}
 use Rattle.volume_map.specs.declared.fault.MapFault.TheVariants as faults
 use Rattle.volume_map.specs.Errors.{map_cause}
 use Rattle.volume_map.specs.Names.{long_links as long_names, loaded_links}
+use Rattle.image_scan.specs.declared.opening.Opening.{Opening}
 use Rattle.image_scan.specs.declared.refusal.Refusal.{Refusal}
 use Rattle.image_scan.specs.declared.refusal.ScanError.{ScanError}
 use Rattle.image_scan.specs.declared.refusal.ScanError.TheVariants as errors
 use Rattle.image_scan.specs.Errors.{scan_cause, boot_refusal, map_refusal, refused_as, error_of_map}
-use Rattle.image_scan.specs.Scans.{boot_place, boot_in, log_front, begins_with_ff, is_emptied, files_of, long_links, links_in}
+use Rattle.image_scan.specs.Scans.{boot_place, boot_in, geometry_of, log_front, begins_with_ff, is_emptied, log_in, files_of, long_links, links_in, opened_by}
 
 -- ---- causes
 
@@ -156,3 +157,14 @@ links_same c g = links_by (loaded c g)
 pub as_links : {X : Type 0} (known : Option Content) (view : X → List Link) (g : Geometry) (result : Result X ScanError) → IfSome known (λ c. GivesOrFails view scan_cause result (refused_as map_refusal (loaded_links c g)))
     → IfSome known (λ c. GivesOrFails view scan_cause result (links_in c g))
 as_links known view g result h = one known _ _ (λ c p. rw (← links_same c g) p) h
+
+-- ---- the front
+
+-- a volume whose log is emptied is opened
+pub opened : (known : Option Content) (geometry : Geometry) (total : ℕ) (b : Boot) → geometry ≡ geometry_of b → total ≡ clusters b → IfSome known (λ c. log_in c geometry ≡ Ok tt)
+    → IfSome known (λ c. opened_by c b ≡ Ok (record { geometry = geometry; total = total }))
+unfolding opened_by
+opened known geometry total b same size h =
+    let made : Opening = record { geometry = geometry_of b; total = clusters b } in
+    let is : made ≡ record { geometry = geometry; total = total } = rw (same, size) refl in
+    one known _ _ (λ c e. ap (λ (r : Result (Unit {0}) Refusal). r >>= λ _. okay made) (rw same at e) ∙ ap okay is) h

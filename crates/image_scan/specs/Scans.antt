@@ -15,7 +15,8 @@ use Rattle.state_model.specs.Streams.{real_size, stream_bytes}
 use Rattle.state_model.specs.Trees.{all_links}
 use Rattle.state_model.specs.Loads.{piece_of, judged, boot_block, data_stream, table_in, loaded}
 use Rattle.boot_sector.specs.declared.boot.Boot.{Boot}
-use Rattle.boot_sector.specs.BootSectors.{boot_of}
+use Rattle.boot_sector.specs.BootSectors.{boot_of, clusters}
+use Rattle.image_scan.specs.declared.opening.Opening.{Opening}
 use Rattle.image_scan.specs.declared.refusal.Refusal.{Refusal}
 use Rattle.image_scan.specs.declared.refusal.Refusal.TheVariants.{Short, Unbuilt}
 use Rattle.image_scan.specs.Errors.{boot_refusal, map_refusal, refused_as}
@@ -83,12 +84,17 @@ links_in c g = files_of c g >>= λ files. Ok (long_links files)
 
 -- ---- all
 
-unfoldable pub volume_links : Content → Geometry → Result (List Link) Refusal
-volume_links c g = log_in c g >>= λ _. links_in c g
+-- a volume with this boot sector, whose log is emptied
+unfoldable pub opened_by : Content → Boot → Result Opening Refusal
+opened_by c b = log_in c (geometry_of b) >>= λ _. Ok (record { geometry = geometry_of b; total = clusters b })
+
+-- where a volume's file table lies, and its clusters, on a device of so many sectors; or what refuses its boot sector or its log
+unfoldable pub opened_in : Content → ℕ → Result Opening Refusal
+opened_in c sectors = boot_on c sectors >>= opened_by c
 
 -- the links of a content on a device of so many sectors
 unfoldable pub scan_in : Content → ℕ → Result (List Link) Refusal
-scan_in c sectors = boot_on c sectors >>= λ b. volume_links c (geometry_of b)
+scan_in c sectors = opened_in c sectors >>= λ o. links_in c o.geometry
 
 -- The long names of the volume on these sectors, by the numbers of their files and then as they stand in the records; or
 -- the first refusal that applies: by the boot sector, by record 2 and the log, and by the records of the file table.

@@ -37,6 +37,10 @@ pub enum Refusal {
     /// The volume information isn't 3.1.
     #[error("version {major}.{minor} isn't 3.1")]
     Version { major: u8, minor: u8 },
+    /// There is no change journal whose records can be read: `$Extend` has no `$UsnJrnl` (1), its
+    /// file has an attribute list (2), or a stream of it is missing or out of shape (3).
+    #[error("there is no journal: {why}")]
+    NoJournal { why: u32 },
     /// The records stand for no tree: this rule is broken, first at this record.
     #[error("the volume breaks rule {rule} at {number}")]
     BadVolume { rule: u32, number: u64 },

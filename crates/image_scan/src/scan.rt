@@ -4,19 +4,15 @@ ghost use Rattle.host_base.specs.Answers.{GivesOrFails};
 ghost use Rattle.host_base.specs.Causes.{HasFailed, Rose};
 ghost use Rattle.disk_model.specs.Sectors.{sector_of};
 ghost use Rattle.disk_model.specs.Content.{content_of};
-ghost use Rattle.boot_sector.specs.BootSectors.{IsInProfile};
 ghost use Rattle.device_view.specs.Devices.{KeepsDevice};
 ghost use Rattle.volume_map.specs.Views.{KeepsView};
 ghost use Rattle.image_scan.specs.Errors.{scan_cause};
-ghost use Rattle.image_scan.specs.Scans.{geometry_of, links_in, volume_links, scan_in, scan_of};
+ghost use Rattle.image_scan.specs.Scans.{links_in, scan_in, scan_of};
 
-use crate::boot::boot_on;
-use crate::log::check_log;
+use crate::opening::open_volume;
 use crate::refusal::{Refusal, ScanError};
 use block_view::View;
-use boot_sector::Boot;
 use device_view::{DeviceView, piece_room};
-use disk_model::Body;
 use sector_device::Device;
 use state_model::Geometry;
 use std::alloc::Global;
@@ -39,49 +35,14 @@ fn links_in<V: View>(
     Ok(load_links(alloc, view, geometry)?)
 }
 
-// The links of a volume of this geometry.
-fn volume_links<V: View>(
-    alloc: Global,
-    view: &mut V,
-    geometry: Geometry,
-    body: &mut Body,
-) -> Result<Vec<Link>, ScanError>
-    requires some { 0 < geometry.per_cluster }
-    requires few { geometry.per_cluster ≤ 8 }
-    requires place { geometry.mft * geometry.per_cluster < 2 ^ 62 }
-    ensures answer { IfSome (V.content view.old) (λ c. GivesOrFails (λ links. links.items) scan_cause result (volume_links c geometry)) }
-    ensures kept { KeepsView V.content V.kept V.faults view.old view.new }
-    ensures fault { IsErrOf result ScanError.Device → Rose (V.faults view.old) (V.faults view.new) }
-{
-    check_log(alloc, view, geometry, body)?;
-    links_in(alloc, view, geometry)
-}
-
-/// The sectors of a cluster, and the cluster at which the file table begins, by the fields of a boot
-/// sector (Linux-NTFS documentation, "$Boot"). It takes no memory and doesn't fail.
-#[tactic(auto, unfolding(crate::specs::Scans::geometry_of))]
-pub fn geometry_of(boot: &Boot) -> Geometry
-    requires profile { IsInProfile boot.now }
-    ensures value { result ≡ geometry_of boot.now }
-    ensures some { 0 < result.per_cluster }
-    ensures few { result.per_cluster ≤ 8 }
-    ensures place { result.mft * result.per_cluster < 2 ^ 62 }
-{
-    Geometry {
-        per_cluster: u64::from(boot.per_cluster),
-        mft: boot.mft,
-    }
-}
-
 // The links of a view of so many sectors.
 fn scan_view<V: View>(alloc: Global, view: &mut V, sectors: u64) -> Result<Vec<Link>, ScanError>
     ensures answer { IfSome (V.content view.old) (λ c. GivesOrFails (λ links. links.items) scan_cause result (scan_in c sectors)) }
     ensures kept { KeepsView V.content V.kept V.faults view.old view.new }
     ensures fault { IsErrOf result ScanError.Device → Rose (V.faults view.old) (V.faults view.new) }
 {
-    let mut body = Body::empty(alloc)?;
-    let boot = boot_on(view, sectors, &mut body)?;
-    volume_links(alloc, view, geometry_of(&boot), &mut body)
+    let opening = open_volume(alloc, view, sectors)?;
+    links_in(alloc, view, opening.geometry)
 }
 
 // The links of a device of so many sectors.
