@@ -1,0 +1,4 @@
+mod Begins
+mod Disks
+mod Steps
+mod Whole

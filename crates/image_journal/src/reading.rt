@@ -1,0 +1,188 @@
+//! The journal of the volume on a device.
+ghost use Rattle.std.specs.Prelude.{◌≡◌, ◌*◌, ◌^◌, ◌<◌, ◌≤◌, Ok, IsOk, IfSome, IsErrOf};
+ghost use Rattle.host_base.specs.Answers.{GivesOrFails};
+ghost use Rattle.host_base.specs.Causes.{HasFailed, Rose};
+ghost use Rattle.disk_model.specs.Sectors.{sector_of};
+ghost use Rattle.disk_model.specs.Content.{content_of};
+ghost use Rattle.device_view.specs.Devices.{KeepsDevice};
+ghost use Rattle.stream_map.specs.Runs.{AreSmall};
+ghost use Rattle.volume_map.specs.Maps.{IsMap, volume_in};
+ghost use Rattle.volume_map.specs.Views.{KeepsView};
+ghost use Rattle.volume_model.specs.Volumes.{upper_of};
+ghost use Rattle.volume_state.specs.Journals.{journal_first, journal_entries};
+ghost use Rattle.volume_journal.specs.Places.{journal_place};
+ghost use Rattle.image_scan.specs.Errors.{scan_cause};
+ghost use Rattle.image_journal.specs.Records.{place_on, records_in, records_by, placed_records, volume_records, loaded_records, journal_in, journal_of};
+
+use crate::records::{all_entries, place_on};
+use block_view::View;
+use device_view::{DeviceView, piece_room};
+use disk_model::Body;
+use image_check::{check_version, tree_on, volume_on};
+use image_scan::{Refusal, ScanError, open_volume};
+use sector_device::Device;
+use state_model::{Extents, Geometry};
+use std::alloc::Global;
+use tree_model::UsnList;
+use volume_journal::first_byte;
+use volume_map::VolumeMap;
+
+/// The records of a volume's change journal.
+#[derive(Debug, Drop)]
+pub struct ReadJournal {
+    /// Its records, in order.
+    pub entries: UsnList,
+    /// The byte of `$J` at which the journal begins.
+    pub first: u64,
+    /// The byte of `$J` behind its last record, where the next one goes.
+    pub next: u64,
+}
+
+// The records of a whole journal.
+#[tactic(auto, unfolding(crate::specs::Records::records_in))]
+fn records_in<V: View>(
+    alloc: Global,
+    view: &mut V,
+    per: u64,
+    extents: &Extents,
+    body: &mut Body,
+) -> Result<ReadJournal, ScanError>
+    requires some { 0 < per }
+    requires few { per ≤ 8 }
+    requires small { AreSmall extents.now.runs }
+    requires left { journal_first per extents.now ≤ extents.now.real }
+    requires whole { IfSome (V.content view.old) (λ c. IsOk (journal_entries c per extents.now)) }
+    ensures answer { IfSome (V.content view.old) (λ c. GivesOrFails (λ j. j) scan_cause result (Ok (records_in c per extents.now))) }
+    ensures kept { KeepsView V.content V.kept V.faults view.old view.new }
+    ensures fault { IsErrOf result ScanError.Device → Rose (V.faults view.old) (V.faults view.new) }
+{
+    let first = first_byte(per, extents);
+    let entries = all_entries(alloc, view, per, extents, first, body)?;
+    Ok(ReadJournal {
+        entries,
+        first,
+        next: extents.real,
+    })
+}
+
+// The records of a volume that keeps its rules, in these clusters.
+fn records_by<V: View>(
+    alloc: Global,
+    view: &mut V,
+    map: &VolumeMap,
+    extents: &Extents,
+    body: &mut Body,
+) -> Result<ReadJournal, ScanError>
+    requires map { IsMap map.now }
+    requires small { AreSmall extents.now.runs }
+    requires left { journal_first map.now.per_cluster extents.now ≤ extents.now.real }
+    requires place { IfSome (V.content view.old) (λ c. journal_place (upper_of c (volume_in map.now)) (volume_in map.now) ≡ Ok extents.now) }
+    ensures answer { IfSome (V.content view.old) (λ c. GivesOrFails (λ j. j) scan_cause result (records_by c (volume_in map.now) extents.now)) }
+    ensures kept { KeepsView V.content V.kept V.faults view.old view.new }
+    ensures fault { IsErrOf result ScanError.Device → Rose (V.faults view.old) (V.faults view.new) }
+{
+    tree_on(alloc, view, map)?;
+    records_in(alloc, view, map.per_cluster, extents, body)
+}
+
+// The records of a volume of a known version.
+fn placed_records<V: View>(
+    alloc: Global,
+    view: &mut V,
+    map: &VolumeMap,
+) -> Result<ReadJournal, ScanError>
+    requires map { IsMap map.now }
+    ensures answer { IfSome (V.content view.old) (λ c. GivesOrFails (λ j. j) scan_cause result (placed_records c (volume_in map.now))) }
+    ensures kept { KeepsView V.content V.kept V.faults view.old view.new }
+    ensures fault { IsErrOf result ScanError.Device → Rose (V.faults view.old) (V.faults view.new) }
+{
+    let mut body = Body::empty(alloc)?;
+    let extents = place_on(alloc, view, map, &mut body)?;
+    records_by(alloc, view, map, &extents, &mut body)
+}
+
+// The records of a loaded volume.
+fn volume_records<V: View>(
+    alloc: Global,
+    view: &mut V,
+    map: &VolumeMap,
+) -> Result<ReadJournal, ScanError>
+    requires map { IsMap map.now }
+    ensures answer { IfSome (V.content view.old) (λ c. GivesOrFails (λ j. j) scan_cause result (volume_records c (volume_in map.now))) }
+    ensures kept { KeepsView V.content V.kept V.faults view.old view.new }
+    ensures fault { IsErrOf result ScanError.Device → Rose (V.faults view.old) (V.faults view.new) }
+{
+    check_version(map)?;
+    placed_records(alloc, view, map)
+}
+
+// The records of a volume of this geometry and so many clusters.
+fn loaded_records<V: View>(
+    alloc: Global,
+    view: &mut V,
+    geometry: Geometry,
+    total: u64,
+) -> Result<ReadJournal, ScanError>
+    requires some { 0 < geometry.per_cluster }
+    requires few { geometry.per_cluster ≤ 8 }
+    requires place { geometry.mft * geometry.per_cluster < 2 ^ 62 }
+    ensures answer { IfSome (V.content view.old) (λ c. GivesOrFails (λ j. j) scan_cause result (loaded_records c geometry total)) }
+    ensures kept { KeepsView V.content V.kept V.faults view.old view.new }
+    ensures fault { IsErrOf result ScanError.Device → Rose (V.faults view.old) (V.faults view.new) }
+{
+    let map = volume_on(alloc, view, geometry, total)?;
+    volume_records(alloc, view, &map)
+}
+
+// The records of a view of so many sectors.
+fn read_view<V: View>(alloc: Global, view: &mut V, sectors: u64) -> Result<ReadJournal, ScanError>
+    ensures answer { IfSome (V.content view.old) (λ c. GivesOrFails (λ j. j) scan_cause result (journal_in c sectors)) }
+    ensures kept { KeepsView V.content V.kept V.faults view.old view.new }
+    ensures fault { IsErrOf result ScanError.Device → Rose (V.faults view.old) (V.faults view.new) }
+{
+    let opening = open_volume(alloc, view, sectors)?;
+    loaded_records(alloc, view, opening.geometry, opening.total)
+}
+
+// The records of a device of so many sectors.
+fn read_device<D: Device>(
+    alloc: Global,
+    device: &mut D,
+    sectors: u64,
+) -> Result<ReadJournal, ScanError>
+    ensures answer { IfSome (D.gives device.old) (λ disk. GivesOrFails (λ j. j) scan_cause result (journal_in (content_of (sector_of disk)) sectors)) }
+    ensures kept { KeepsDevice D.gives D.sector_count D.fault_count device.old device.new }
+    ensures fault { IsErrOf result ScanError.Device → HasFailed (D.fault_count device.old) (D.fault_count device.new) (D.moment_of device.new) }
+{
+    let mut room = piece_room(alloc)?;
+    let mut view = DeviceView::new(&mut room, device);
+    read_view(alloc, &mut view, sectors)
+}
+
+/// The records of the change journal of the volume on the device (Linux-NTFS documentation,
+/// "$UsnJrnl"; Microsoft's reference, "USN_RECORD_V2"), those of other versions left out.
+///
+/// It reads what a check reads, and the journal once more. Its time is that of a check, and linear in
+/// the journal; its memory is that of a check, and linear in the records.
+///
+/// - [`ScanError::Refused`]: the first refusal that applies: one of those that come before the rules in
+///   a check; then [`Refusal::NoJournal`] with 1 where `$Extend` has no `$UsnJrnl`, 2 where its file has
+///   an attribute list, and 3 where one of its streams `$Max` and `$J` is missing or out of shape; then
+///   [`Refusal::BadVolume`] with the first of the nine rules that is broken, and the least number at
+///   which it is.
+/// - [`ScanError::Device`]: the device failed.
+/// - [`ScanError::Memory`]: want of memory, also where the journal has 2^32 - 1 records or more.
+pub fn read_journal<D: Device>(alloc: Global, device: &mut D) -> Result<ReadJournal, ScanError>
+    ensures answer { IfSome (D.gives device.old) (λ disk. GivesOrFails (λ j. j) scan_cause result (journal_of disk)) }
+    ensures kept { KeepsDevice D.gives D.sector_count D.fault_count device.old device.new }
+    ensures fault { IsErrOf result ScanError.Device → HasFailed (D.fault_count device.old) (D.fault_count device.new) (D.moment_of device.new) }
+{
+    let sectors = device.sectors();
+    if sectors == 0 {
+        return Err(ScanError::Refused(Refusal::Short {
+            sectors: 1,
+            device: 0,
+        }));
+    }
+    read_device(alloc, device, sectors)
+}

@@ -1,0 +1,141 @@
+//! The records of a journal whose place is known.
+ghost use Rattle.std.specs.Prelude.{◌≡◌, ◌<◌, ◌≤◌, List, length, IfOk, IfSome, IsOk, IsErrOf, Ok};
+ghost use Rattle.host_base.specs.Answers.{Gives, GivesOrFails};
+ghost use Rattle.host_base.specs.Causes.{Rose};
+ghost use Rattle.tree_model.specs.declared.journal.Usn.{Usn as UsnOf};
+ghost use Rattle.state_model.specs.Loads.{table_in};
+ghost use Rattle.state_model.specs.Trees.{all_links};
+ghost use Rattle.stream_map.specs.Runs.{AreSmall};
+ghost use Rattle.volume_map.specs.Maps.{IsMap, volume_in};
+ghost use Rattle.volume_map.specs.Views.{KeepsView};
+ghost use Rattle.volume_state.specs.Journals.{journal_first, journal_entries};
+ghost use Rattle.volume_journal.specs.Places.{journal_place};
+ghost use Rattle.usn_journal.specs.Pulls.{read_entries};
+ghost use Rattle.image_scan.specs.Errors.{scan_cause, refused_as};
+ghost use Rattle.image_scan.specs.declared.refusal.Refusal.TheVariants.{NoJournal};
+ghost use Rattle.image_journal.specs.Errors.{error_of_place, error_of_pull};
+ghost use Rattle.image_journal.specs.Records.{place_on};
+
+use block_view::View;
+use disk_model::Body;
+use image_scan::{Refusal, ScanError};
+use record_rules::all_links;
+use state_model::Extents;
+use std::alloc::Global;
+use tree_model::{Link, UsnList};
+use upcase_order::Upcase;
+use usn_journal::{PullFault, read_from};
+use volume_journal::{PlaceFault, journal_place};
+use volume_map::VolumeMap;
+use volume_parts::upper_table;
+
+// The most records that are asked for at once.
+const MOST: u32 = u32::MAX;
+
+fn error_of_place(fault: PlaceFault) -> ScanError
+    ensures value { result ≡ error_of_place fault }
+{
+    match fault {
+        PlaceFault::Absent { why } => ScanError::Refused(Refusal::NoJournal { why }),
+        PlaceFault::Memory => ScanError::Memory,
+    }
+}
+
+fn error_of_pull(fault: PullFault) -> ScanError
+    ensures value { result ≡ error_of_pull fault }
+{
+    match fault {
+        // The first three aren't met from the first byte of a whole journal on.
+        PullFault::Trimmed { .. } => ScanError::Memory,
+        PullFault::Ahead { .. } => ScanError::Memory,
+        PullFault::Broken { .. } => ScanError::Memory,
+        PullFault::View => ScanError::Device,
+        PullFault::Memory => ScanError::Memory,
+    }
+}
+
+// The clusters of `$J`, by the table of upper-case units and the names of a volume.
+fn named_place(
+    alloc: Global,
+    map: &VolumeMap,
+    up: &Upcase,
+    links: &[Link],
+) -> Result<Extents, ScanError>
+    requires map { IsMap map.now }
+    requires links { links.now ≡ all_links (table_in map.now.files.items) (length map.now.files.items) }
+    ensures answer { Gives (λ e. e) scan_cause result (refused_as NoJournal (journal_place up.now (volume_in map.now))) }
+    ensures inside { IfOk result (λ e. journal_first map.now.per_cluster e ≤ e.real) }
+    ensures small { IfOk result (λ e. AreSmall e.runs) }
+{
+    match journal_place(alloc, map, up, links) {
+        Ok(extents) => Ok(extents),
+        Err(fault) => Err(error_of_place(fault)),
+    }
+}
+
+/// Where the records of a loaded volume's change journal lie: the clusters of `$J` (Linux-NTFS
+/// documentation, "$UsnJrnl"). `body` is room for a body. It reads the table of upper-case units, and is
+/// linear in this and in the files' attributes.
+///
+/// - [`ScanError::Refused`]: [`Refusal::NoJournal`] with why there is no journal.
+/// - [`ScanError::Device`]: the view failed.
+/// - [`ScanError::Memory`]: want of memory.
+pub fn place_on<V: View>(
+    alloc: Global,
+    view: &mut V,
+    map: &VolumeMap,
+    body: &mut Body,
+) -> Result<Extents, ScanError>
+    requires map { IsMap map.now }
+    ensures answer { IfSome (V.content view.old) (λ c. GivesOrFails (λ e. e) scan_cause result (place_on c (volume_in map.now))) }
+    ensures inside { IfOk result (λ e. journal_first map.now.per_cluster e ≤ e.real) }
+    ensures small { IfOk result (λ e. AreSmall e.runs) }
+    ensures kept { KeepsView V.content V.kept V.faults view.old view.new }
+    ensures fault { IsErrOf result ScanError.Device → Rose (V.faults view.old) (V.faults view.new) }
+{
+    let up = upper_table(alloc, view, map, body)?;
+    let links = all_links(alloc, &map.files)?;
+    named_place(alloc, map, &up, links.as_slice())
+}
+
+// Entries of which there are fewer than can be asked for at once.
+fn fewer(entries: UsnList) -> Result<UsnList, ScanError>
+    ensures value { IfOk result (λ kept. kept ≡ entries) }
+    ensures few { IfOk result (λ kept. length kept < MOST) }
+    ensures cause { Gives (λ (l : List UsnOf). l) scan_cause result (Ok entries) }
+{
+    if entries.as_slice().len() >= MOST as usize {
+        return Err(ScanError::Memory);
+    }
+    Ok(entries)
+}
+
+/// All records of a whole journal, in these clusters, which begins at its byte `first`. A volume has
+/// `per` sectors a cluster; `body` is room for a body. Linear in the bytes of the journal, each of whose
+/// sectors takes one pass over the runs.
+///
+/// The errors are a failure of the view, and want of memory, which comes too where there are 2^32 - 1
+/// records or more.
+pub fn all_entries<V: View>(
+    alloc: Global,
+    view: &mut V,
+    per: u64,
+    extents: &Extents,
+    first: u64,
+    body: &mut Body,
+) -> Result<UsnList, ScanError>
+    requires some { 0 < per }
+    requires few { per ≤ 8 }
+    requires small { AreSmall extents.now.runs }
+    requires first { first ≡ journal_first per extents.now }
+    requires left { journal_first per extents.now ≤ extents.now.real }
+    requires whole { IfSome (V.content view.old) (λ c. IsOk (journal_entries c per extents.now)) }
+    ensures answer { IfSome (V.content view.old) (λ c. GivesOrFails (λ (l : List UsnOf). l) scan_cause result (Ok (read_entries (journal_entries c per extents.now)))) }
+    ensures kept { KeepsView V.content V.kept V.faults view.old view.new }
+    ensures fault { IsErrOf result ScanError.Device → Rose (V.faults view.old) (V.faults view.new) }
+{
+    match read_from(alloc, view, per, extents, first, MOST, body) {
+        Ok(pulled) => fewer(pulled.entries),
+        Err(fault) => Err(error_of_pull(fault)),
+    }
+}
