@@ -1,0 +1,7 @@
+pub mod Placing
+pub mod Naming
+pub mod Fitting
+pub mod Recording
+pub mod Sizing
+pub mod Standing
+pub mod Bodies

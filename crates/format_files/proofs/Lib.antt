@@ -1,0 +1,7 @@
+pub mod Streams
+pub mod Loading
+pub mod Tabling
+pub mod Linking
+pub mod Bytes
+pub mod Bits
+pub mod Owning

@@ -1,0 +1,7 @@
+pub mod Keeping
+pub mod Listing
+pub mod Ordering
+pub mod Indexing
+pub mod Nodes
+pub mod Checking
+pub mod Opening

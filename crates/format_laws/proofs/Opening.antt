@@ -1,0 +1,169 @@
+-- The image of a new volume is opened and loaded, and stands for its tree.
+use Rattle.std.specs.Prelude.{◌==◌, replicate}
+use Rattle.std.proofs.Common.{◌≡◌, ℕ, zero, suc, ◌*◌, ◌^◌, ◌<◌, ◌≤◌, Bool, true, leb, ltb, List, length, take, Some, Ok, refl, ap, ◌∙◌, arith}
+use Rattle.std.specs.List.{list_all}
+use Rattle.std.proofs.lemmas.Bool.{and_from, le-leb, lt-ltb}
+use Rattle.std.proofs.lemmas.List.{take_all}
+use Rattle.host_base.specs.Answers.{◌>>=◌, needs}
+use Rattle.disk_model.specs.declared.block.Body.{Body}
+use Rattle.disk_model.specs.Bytes.{zeros}
+use Rattle.disk_model.specs.Sectors.{sector_of}
+use Rattle.disk_model.specs.Content.{Content, content_of}
+use Rattle.record_model.specs.declared.values.VolumeInfo.{VolumeInfo}
+use Rattle.record_model.specs.StdValues.{volume_info_of, volume_info_over}
+use Rattle.record_model.proofs.FixedValues.{volume_info_read, volume_info_spelled}
+use Rattle.record_model.proofs.UnitBytes.{length-zeros}
+use Rattle.state_model.specs.declared.stream.Stream.TheVariants.{Placed}
+use Rattle.state_model.specs.Streams.{extent_bytes}
+use Rattle.state_model.specs.Loads.{Piece, piece_of, judged, data_stream}
+use Rattle.boot_sector.specs.declared.boot.Boot.{Boot}
+use Rattle.boot_sector.specs.BootSectors.{clusters, boot_of as read_boot, boot_spelling, FitsBoot}
+use Rattle.boot_sector.proofs.Tables.{table_is_read, size_from_test}
+use Rattle.boot_sector.proofs.Spelling.{boot_spells}
+use Rattle.volume_model.specs.Volumes.{volume_of}
+use Rattle.volume_state.specs.Versions.{info_or_none, file_info, volume_info}
+use Rattle.image_scan.specs.declared.opening.Opening.{Opening}
+use Rattle.image_scan.specs.declared.refusal.Refusal.TheVariants.{Short, Unbuilt}
+use Rattle.image_scan.specs.Errors.{boot_refusal, map_refusal, refused_as}
+use Rattle.image_scan.specs.Scans.{boot_in, sized_on, boot_on, geometry_of, begins_with_ff, is_emptied, is_emptied_log, has_empty_log, log_record, log_in, opened_by, opened_in}
+use Rattle.image_check.specs.Errors.{broken_refusal}
+use Rattle.image_check.specs.Checks.{volume_on, judged_version, has_version, tree_on, volume_tree, loaded_tree, check_in, check_of}
+use Rattle.volume_format.specs.declared.layout.Layout.{Layout}
+use Rattle.volume_format.specs.Layouts.{IsLayout, layout_of}
+use Rattle.volume_format.specs.Files.{system_data, standard, named as name_attr, system_attrs, other_streams, volume_streams, system_record, record_of}
+use Rattle.volume_format.specs.Images.{boot_of, log_bytes, formatted}
+use Rattle.format_blocks.specs.Blocks.{HasBlocks}
+use Rattle.format_files.specs.Volumes.{extents_at, new_geometry}
+use Rattle.format_laws.specs.Trees.{new_tree}
+use Rattle.format_laws.specs.Images.{FormattedStands}
+use Rattle.format_blocks.proofs.Sizing.{length-log}
+use Rattle.format_blocks.proofs.Standing.{layout_fits, regions_stand}
+use Rattle.format_blocks.proofs.Bodies.{blocks_read}
+use Rattle.format_files.proofs.Streams.{data_is}
+use Rattle.format_files.proofs.Loading.{passes, goes_on}
+use Rattle.format_files.proofs.Tabling.{used, volume_loaded}
+use Rattle.format_files.proofs.Linking.{vol, system_here}
+use Rattle.format_files.proofs.Bytes.{extent_is}
+use Rattle.format_laws.proofs.Checking.{checked_here}
+
+-- ---- the log
+
+all_ff : (k n : ℕ) → list_all (λ b. b == 0xFF) (take k (replicate n 0xFF)) ≡ true
+all_ff zero n = refl
+all_ff (suc k) zero = refl
+all_ff (suc k) (suc n) = all_ff k n
+
+log_ff : (v : Layout) (k : ℕ) → list_all (λ b. b == 0xFF) (take k (log_bytes v)) ≡ true
+unfolding log_bytes
+log_ff v k = all_ff k (4096 * v.log_pages)
+
+module _ (v : Layout) (layout : IsLayout v) (seed time : ℕ) (seed_fits : seed < 2 ^ 64) (small : time < 2 ^ 64) (c : Content) (has : HasBlocks v seed time c) (device : ℕ) (room : v.sectors ≤ device) where
+  abbrev boot : Boot
+  boot = boot_of v seed
+
+  -- ---- the boot sector
+
+  boot_fits : FitsBoot boot
+  boot_fits =
+      let count = layout.clusters in
+      let inside = layout.inside in
+      let few = layout.small in
+      record {
+        profile = record { per_cluster = size_from_test 8 refl; mft = omega arith; mirror = omega arith; small = omega arith };
+        serial = seed_fits;
+      }
+
+  boot_read : read_boot (boot_spelling boot) ≡ Ok boot
+  boot_read = table_is_read (boot_spelling boot) boot (boot_spells boot boot_fits)
+
+  boot_here : boot_on c device ≡ Ok boot
+  unfolding boot_on boot_in
+  boot_here =
+      goes_on _ boot (sized_on device) (ap (λ (b : Body). refused_as boot_refusal (read_boot b.bytes)) has.boot ∙ ap (refused_as boot_refusal) boot_read)
+      ∙ passes (leb v.sectors device) (Short v.sectors device) (Ok boot) (le-leb v.sectors device room)
+
+  -- ---- the log
+
+  log_stream : data_stream (record_of v time 2) ≡ Some (Placed (extents_at 52 v.log_pages (4096 * v.log_pages)))
+  unfolding record_of system_data
+  log_stream = data_is v layout time 2 (omega arith)
+
+  log_read : extent_bytes c 8 (extents_at 52 v.log_pages (4096 * v.log_pages)) ≡ log_bytes v
+  log_read = extent_is c 52 v.log_pages (4096 * v.log_pages) (log_bytes v) has.log (length-log v) (omega arith) ∙ take_all (4096 * v.log_pages) (log_bytes v) (omega (arith, length-log v))
+
+  emptied : is_emptied c 8 (Placed (extents_at 52 v.log_pages (4096 * v.log_pages))) ≡ true
+  unfolding is_emptied begins_with_ff
+  emptied =
+      and_from (leb 8192 (4096 * v.log_pages)) (list_all (λ b. b == 0xFF) (take 8192 (extent_bytes c 8 (extents_at 52 v.log_pages (4096 * v.log_pages)))))
+      (le-leb 8192 (4096 * v.log_pages) (omega (arith, layout.log_some)))
+      (ap (λ (bytes : List ℕ). list_all (λ b. b == 0xFF) (take 8192 bytes)) log_read ∙ log_ff v 8192)
+
+  empty_log : has_empty_log c 8 (Some (record_of v time 2)) ≡ true
+  empty_log = ap (is_emptied_log c 8) log_stream ∙ emptied
+
+  log_record_read : log_record c new_geometry ≡ Ok (Some (record_of v time 2))
+  unfolding log_record
+  log_record_read =
+      ap (λ (b : Body). refused_as map_refusal (judged 2 (piece_of b))) (has.table 2 (omega arith))
+      ∙ ap (λ (p : Piece). refused_as map_refusal (judged 2 p)) (used v layout time small 2 (omega arith))
+
+  log_here : log_in c new_geometry ≡ Ok tt
+  unfolding log_in
+  log_here = goes_on _ (Some (record_of v time 2)) (λ file. needs (has_empty_log c 8 file) (Unbuilt 7)) log_record_read ∙ ap (λ (b : Bool). needs b (Unbuilt 7)) empty_log
+
+  opened_here : opened_in c device ≡ Ok (record { geometry = new_geometry; total = clusters boot })
+  unfolding opened_in opened_by geometry_of
+  opened_here = goes_on _ boot (opened_by c) boot_here ∙ goes_on _ tt (λ _. Ok (record { geometry = new_geometry; total = clusters boot })) log_here
+
+  -- ---- the version
+
+  abbrev version : VolumeInfo
+  version = record { major = 3; minor = 1; flags = 0 }
+
+  version_read : volume_info_of (volume_info_over version (zeros 0x0C)) ≡ Ok version
+  version_read = volume_info_read (volume_info_over version (zeros 0x0C)) version (volume_info_spelled version (zeros 0x0C) (record { major = omega arith; minor = omega arith; flags = omega arith }) (omega (arith, length-zeros 0x0C)))
+
+  version_in : file_info (Some (system_record v time 3)) ≡ version
+  unfolding system_record system_attrs system_data other_streams volume_streams standard name_attr
+  version_in = ap info_or_none version_read
+
+  version_here : has_version (vol v time) ≡ Ok tt
+  unfolding has_version volume_info
+  version_here = ap (λ o. judged_version (file_info o)) (system_here v time 3 (omega arith)) ∙ ap judged_version version_in
+
+  -- ---- the tree
+
+  tree_here : volume_tree c (vol v time) ≡ Ok (new_tree v time)
+  unfolding volume_tree tree_on
+  tree_here = goes_on _ tt (λ _. tree_on c (vol v time)) version_here ∙ ap (refused_as broken_refusal) (checked_here v layout seed time small c has)
+
+  total_is : clusters boot ≡ v.clusters
+  total_is = layout.clusters
+
+  loaded_here : loaded_tree c new_geometry (clusters boot) ≡ Ok (new_tree v time)
+  unfolding loaded_tree volume_on
+  loaded_here =
+      ap (λ (total : ℕ). refused_as map_refusal (volume_of c new_geometry total) >>= λ w. volume_tree c w) total_is
+      ∙ goes_on _ (vol v time) (λ w. volume_tree c w) (ap (refused_as map_refusal) (volume_loaded v seed time c layout small has))
+      ∙ tree_here
+
+  pub check_here : check_in c device ≡ Ok (new_tree v time)
+  unfolding check_in
+  check_here = goes_on _ (record { geometry = new_geometry; total = clusters boot }) (λ (o : Opening). loaded_tree c o.geometry o.total) opened_here ∙ loaded_here
+
+device_sectors : (device : ℕ) → (layout_of device).sectors ≤ device
+unfolding layout_of
+device_sectors device = omega arith
+
+pub formatted_stands : FormattedStands
+unfolding check_of
+formatted_stands = λ old seed time can.
+    let disk = formatted old seed time in
+    let count = (regions_stand old seed time can).counted in
+    let some : ltb 0 (length (formatted old seed time)) ≡ true = lt-ltb 0 (length (formatted old seed time)) (omega (arith, count, can.least)) in
+    let v = layout_of (length old) in
+    let layout = layout_fits (length old) can.small can.least in
+    let has = blocks_read old seed time can in
+    passes (ltb 0 (length disk)) (Short 1 0) (check_in (content_of (sector_of disk)) (length disk)) some
+    ∙ ap (check_in (content_of (sector_of disk))) count
+    ∙ check_here v layout seed time can.seed_fits can.time_fits (content_of (sector_of disk)) has (length old) (device_sectors (length old))

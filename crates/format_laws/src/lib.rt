@@ -1,0 +1,11 @@
+//! The image of a new volume stands for its tree.
+//!
+//! The contract: the laws of the image, as functions with no body. The layouts are those of the
+//! Linux-NTFS documentation.
+#![tactic(auto)]
+
+mod laws;
+
+pub use laws::{
+    loaded_volume_stands, new_volume_keeps_indexes, new_volume_keeps_sizes, new_volume_stands,
+};
