@@ -1,19 +1,26 @@
--- The words of different commands differ.
-use Rattle.std.proofs.Common.{◌≡◌, ◌∙◌, ap, List, [], ◌∷◌, Some, None, refl}
+-- A command that runs no script isn't a run.
+use Rattle.std.proofs.Common.{◌≡◌, List, Option, Some, None}
 use Rattle.std.specs.Global.{Global}
-use Rattle.std.specs.Prelude.{String, string_bytes, codes}
+use Rattle.std.specs.Prelude.{IfSome, String}
+use Rattle.command_line.specs.declared.command.Command.{Command}
+use Rattle.command_line.specs.declared.command.Command.TheVariants as commands
 use Rattle.ntfs_host.specs.declared.command.Quiet.{Quiet}
-use Rattle.ntfs_host.specs.Words.{quiet_named, quiet_in, IsRun}
+use Rattle.ntfs_host.specs.Words.{quiet_some, RunsSome, command_in, quiet_in, IsRun}
 
-run_is_not_quiet : quiet_named (codes "run") ≡ None
-unfolding quiet_named
-run_is_not_quiet = refl
+apart : (command : Option Command) (quiet : Quiet) → quiet_some command ≡ Some quiet → RunsSome command → ⊥
+apart None quiet e run = run
+apart (Some commands.Scan) quiet e run = run
+apart (Some commands.Dump) quiet e run = run
+apart (Some commands.Check) quiet e run = run
+apart (Some commands.Journal) quiet e run = run
+apart (Some (commands.Format seed time)) quiet e run = run
+apart (Some (commands.Enable max time)) quiet e run = run
+apart (Some (commands.Run time)) quiet e run = absurd cc
+apart (Some (commands.Gen seed time)) quiet e run = run
 
-pub quiet_is_not_run : (words : List (String Global)) (command : Quiet) → quiet_in words ≡ Some command → IsRun words → ⊥
-quiet_is_not_run [] q e run = run
-quiet_is_not_run (a ∷ []) q e run = run
-quiet_is_not_run (a ∷ b ∷ []) q e run = run
-quiet_is_not_run (a ∷ b ∷ c ∷ []) q e run =
-    let none : quiet_named (string_bytes c) ≡ None = ap quiet_named run ∙ run_is_not_quiet in
-    cc
-quiet_is_not_run (a ∷ b ∷ c ∷ d ∷ words) q e run = run
+pub quiet_is_not_run : (words : List (String Global)) (quiet : Quiet) → quiet_in words ≡ Some quiet → IsRun words → ⊥
+quiet_is_not_run words quiet e run = apart (command_in words) quiet e run
+
+-- what holds of the command that is named
+pub named : (o : Option Quiet) (quiet : Quiet) (P : Quiet → Type 0) → o ≡ Some quiet → P quiet → IfSome o P
+named o quiet P e p = rw e p

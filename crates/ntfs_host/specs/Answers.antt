@@ -1,12 +1,25 @@
--- What the commands that read a volume answer.
-use Rattle.std.specs.Prelude.{ℕ, List, Result, Ok}
+-- What the commands that run no script answer, and what they leave on the device.
+use Rattle.std.specs.Prelude.{◌≡◌, ⊤, ℕ, List, length, Option, None, Some, Result, Ok}
+use Rattle.std.specs.Option.{option_map}
 use Rattle.host_base.specs.Answers.{◌>>=◌}
+use Rattle.volume_format.specs.declared.fault.FormatFault.{FormatFault}
+use Rattle.volume_format.specs.declared.fault.FormatFault.TheVariants as formats
+use Rattle.volume_format.specs.Answers.{format_answer}
+use Rattle.volume_format.specs.Images.{formatted}
 use Rattle.image_scan.specs.declared.refusal.Refusal.{Refusal}
+use Rattle.image_scan.specs.declared.refusal.Refusal.TheVariants.{VolumeLarge, Short, Unbuilt}
+use Rattle.image_scan.specs.declared.refusal.ScanError.{ScanError}
+use Rattle.image_scan.specs.declared.refusal.ScanError.TheVariants as errors
+use Rattle.image_scan.specs.Errors.{refused_as}
 use Rattle.image_scan.specs.Scans.{scan_of}
-use Rattle.image_dump.specs.Texts.{scan_text, dump_text, check_text}
+use Rattle.image_dump.specs.Texts.{scan_text, dump_text, check_text, journal_text}
 use Rattle.image_check.specs.Checks.{check_of}
+use Rattle.image_journal.specs.Records.{journal_of}
 use Rattle.ntfs_host.specs.declared.command.Quiet.{Quiet}
-use Rattle.ntfs_host.specs.declared.command.Quiet.TheVariants.{Scan, Dump, Check}
+use Rattle.ntfs_host.specs.declared.command.Quiet.TheVariants.{Scan, Dump, Check, Journal, Format}
+use Rattle.ntfs_host.specs.Text.{formatted_line}
+
+-- ---- answers
 
 -- the text of the long names of the volume on these sectors, or what refuses it
 abbrev pub scan_answer : List (List ℕ) → Result (List ℕ) Refusal
@@ -20,8 +33,56 @@ dump_answer disk = check_of disk >>= λ tree. Ok (dump_text tree)
 abbrev pub check_answer : List (List ℕ) → Result (List ℕ) Refusal
 check_answer disk = check_of disk >>= λ tree. Ok (check_text tree)
 
+-- the text of the records of its change journal
+abbrev pub journal_answer : List (List ℕ) → Result (List ℕ) Refusal
+journal_answer disk = journal_of disk >>= λ j. Ok (journal_text j.entries j.first j.next)
+
+-- a refusal of a format is that of an image; the other faults are none
+abbrev pub format_refusal : FormatFault → Refusal
+format_refusal (formats.VolumeLarge clusters) = VolumeLarge clusters
+format_refusal (formats.Short sectors device) = Short sectors device
+format_refusal formats.Device = Unbuilt 0
+format_refusal formats.Memory = Unbuilt 0
+
+abbrev pub error_of_format : FormatFault → ScanError
+error_of_format (formats.VolumeLarge clusters) = errors.Refused (VolumeLarge clusters)
+error_of_format (formats.Short sectors device) = errors.Refused (Short sectors device)
+error_of_format formats.Device = errors.Device
+error_of_format formats.Memory = errors.Memory
+
+-- the line of the volume that a format makes on so many sectors
+abbrev pub format_line : ℕ → Result (List ℕ) Refusal
+format_line sectors = refused_as format_refusal (format_answer sectors) >>= λ f. Ok (formatted_line f)
+
 -- The text that answers a command on a device with these sectors, or the first refusal that applies.
 abbrev pub answer_of : Quiet → List (List ℕ) → Result (List ℕ) Refusal
 answer_of Scan disk = scan_answer disk
 answer_of Dump disk = dump_answer disk
 answer_of Check disk = check_answer disk
+answer_of Journal disk = journal_answer disk
+answer_of (Format seed time) disk = format_line (length disk)
+
+-- ---- the device
+
+-- a command that leaves what reads give
+abbrev pub IsReader : Quiet → Type 0
+IsReader Scan = ⊤
+IsReader Dump = ⊤
+IsReader Check = ⊤
+IsReader Journal = ⊤
+IsReader (Format seed time) = ⊥
+
+-- What reads give once a command is done, where it was known before: after a format the new volume, with the sectors that
+-- aren't its own as they were; else what they gave.
+abbrev pub Leaves : Quiet → Option (List (List ℕ)) → Option (List (List ℕ)) → Type 0
+Leaves Scan gives gives_now = gives_now ≡ gives
+Leaves Dump gives gives_now = gives_now ≡ gives
+Leaves Check gives gives_now = gives_now ≡ gives
+Leaves Journal gives gives_now = gives_now ≡ gives
+Leaves (Format seed time) gives gives_now = gives_now ≡ option_map (λ disk. formatted disk seed time) gives
+
+-- a refusal, and no fault
+abbrev pub IsRefusal : ScanError → Type 0
+IsRefusal (errors.Refused refusal) = ⊤
+IsRefusal errors.Device = ⊥
+IsRefusal errors.Memory = ⊥

@@ -1,8 +1,10 @@
--- The lines of refusals, and what is printed of an answer.
+-- The lines of refusals and of a volume that was made, and what is printed of an answer.
 use Rattle.std.specs.Prelude.{ℕ, List, [], ◌∷◌, ◌++◌, codes, Result, Ok, Err}
 use Rattle.std.specs.Fmt.{decimal}
+use Rattle.volume_format.specs.declared.fault.Formatted.{Formatted}
 use Rattle.image_scan.specs.declared.refusal.Refusal.{Refusal}
-use Rattle.image_scan.specs.declared.refusal.Refusal.TheVariants.{NotNtfs, Geometry, VolumeLarge, Short, BadFixup, BadRecord, MftList, MftLarge, Version, BadVolume, Unbuilt}
+use Rattle.image_scan.specs.declared.refusal.Refusal.TheVariants.{NotNtfs, Geometry, VolumeLarge, Short, BadFixup, BadRecord, MftList, MftLarge, Version, NoJournal, BadVolume, Unbuilt}
+use Rattle.image_dump.specs.Texts.{line}
 
 -- the line of a refusal: its number, its name and its values
 unfoldable pub refusal_line : Refusal → List ℕ
@@ -15,8 +17,13 @@ refusal_line (BadRecord number rule) = codes "refused 6 BadRecord " ++ (decimal 
 refusal_line MftList = codes "refused 7 MftList\n"
 refusal_line (MftLarge records) = codes "refused 8 MftLarge " ++ decimal records ++ 10 ∷ []
 refusal_line (Version major minor) = codes "refused 9 Version " ++ (decimal major ++ (32 ∷ (decimal minor ++ 10 ∷ [])))
+refusal_line (NoJournal why) = codes "refused 14 NoJournal " ++ decimal why ++ 10 ∷ []
 refusal_line (BadVolume rule number) = codes "refused 15 BadVolume " ++ (decimal rule ++ (32 ∷ (decimal number ++ 10 ∷ [])))
 refusal_line (Unbuilt rule) = codes "refused 17 Unbuilt " ++ decimal rule ++ 10 ∷ []
+
+-- formatted CLUSTERS ROOM
+unfoldable pub formatted_line : Formatted → List ℕ
+formatted_line f = line (codes "formatted") (decimal f.clusters ∷ decimal f.room ∷ [])
 
 -- what is printed of an answer: its text, or the line of the refusal
 abbrev pub printed : Result (List ℕ) Refusal → List ℕ

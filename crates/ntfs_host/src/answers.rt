@@ -1,19 +1,25 @@
-//! The texts that answer the commands that read a volume.
-ghost use Rattle.std.specs.Prelude.{◌≡◌, IfOk, IfSome, IsErrOf, string_bytes};
+//! The texts that answer the commands that run no script.
+ghost use Rattle.std.specs.Prelude.{◌≡◌, IfOk, IfErr, IfSome, IsErrOf, string_bytes};
+ghost use Rattle.std.specs.Option.{option_map};
 ghost use Rattle.host_base.specs.Answers.{GivesOrFails};
 ghost use Rattle.host_base.specs.Causes.{HasFailed};
-ghost use Rattle.image_scan.specs.Errors.{scan_cause};
-ghost use Rattle.image_dump.specs.Texts.{scan_text, dump_text, check_text};
-ghost use Rattle.ntfs_host.specs.Answers.{scan_answer, dump_answer, check_answer, answer_of};
+ghost use Rattle.volume_format.specs.Answers.{format_answer};
+ghost use Rattle.volume_format.specs.Images.{formatted};
+ghost use Rattle.image_scan.specs.Errors.{scan_cause, refused_as};
+ghost use Rattle.image_dump.specs.Texts.{scan_text, dump_text, check_text, journal_text};
+ghost use Rattle.ntfs_host.specs.Answers.{scan_answer, dump_answer, check_answer, journal_answer, format_refusal, error_of_format, format_line, answer_of, IsReader, Leaves, IsRefusal};
 
 use crate::command::Quiet;
+use crate::text::formatted_line;
 use host_base::Memory;
 use image_check::check_image;
-use image_dump::{check_text, dump_text, scan_text};
-use image_scan::{ScanError, scan_image};
+use image_dump::{check_text, dump_text, journal_text, scan_text};
+use image_journal::{ReadJournal, read_journal};
+use image_scan::{Refusal, ScanError, scan_image};
 use sector_device::Device;
 use std::alloc::Global;
 use tree_model::{Link, Tree};
+use volume_format::{FormatFault, Formatted, format};
 
 fn text_of_links(alloc: Global, links: &[Link]) -> Result<String, Memory>
     ensures text { IfOk result (λ text. string_bytes text ≡ scan_text links.now) }
@@ -36,6 +42,15 @@ fn line_of_tree(alloc: Global, tree: &Tree) -> Result<String, Memory>
 {
     let mut text = String::new(alloc);
     check_text(tree, &mut text)?;
+    Ok(text)
+}
+
+fn text_of_journal(alloc: Global, journal: &ReadJournal) -> Result<String, Memory>
+    ensures text { IfOk result (λ text. string_bytes text ≡ journal_text journal.now.entries journal.now.first journal.now.next) }
+{
+    let mut text = String::new(alloc);
+    let entries = journal.entries.as_slice();
+    journal_text(entries, journal.first, journal.next, &mut text)?;
     Ok(text)
 }
 
@@ -69,22 +84,86 @@ fn check_answer<D: Device>(alloc: Global, device: &mut D) -> Result<String, Scan
     Ok(line_of_tree(alloc, &tree)?)
 }
 
-/// The text that answers a command on the device, which is only read; it takes memory for two copies
-/// of the text.
+// The text of a journal.
+fn journal_answer<D: Device>(alloc: Global, device: &mut D) -> Result<String, ScanError>
+    ensures answer { IfSome (D.gives device.old) (λ disk. GivesOrFails (λ text. string_bytes text) scan_cause result (journal_answer disk)) }
+    ensures gives { D.gives device.new ≡ D.gives device.old }
+    ensures fault { IsErrOf result ScanError.Device → HasFailed (D.fault_count device.old) (D.fault_count device.new) (D.moment_of device.new) }
+{
+    let journal = read_journal(alloc, device)?;
+    Ok(text_of_journal(alloc, &journal)?)
+}
+
+fn error_of_format(fault: FormatFault) -> ScanError
+    ensures value { result ≡ error_of_format fault }
+{
+    match fault {
+        FormatFault::VolumeLarge { clusters } => {
+            ScanError::Refused(Refusal::VolumeLarge { clusters })
+        }
+        FormatFault::Short { sectors, device } => {
+            ScanError::Refused(Refusal::Short { sectors, device })
+        }
+        FormatFault::Device => ScanError::Device,
+        FormatFault::Memory => ScanError::Memory,
+    }
+}
+
+// Makes a volume.
+fn make_volume<D: Device>(
+    alloc: Global,
+    device: &mut D,
+    seed: u64,
+    time: u64,
+) -> Result<Formatted, ScanError>
+    ensures answer { GivesOrFails (λ f. f) scan_cause result (refused_as format_refusal (format_answer (D.sector_count device.old))) }
+    ensures image { IfOk result (λ f. D.gives device.new ≡ option_map (λ disk. formatted disk seed time) (D.gives device.old)) }
+    ensures refused { IfErr result (λ e. IsRefusal e → D.gives device.new ≡ D.gives device.old) }
+    ensures fault { IsErrOf result ScanError.Device → HasFailed (D.fault_count device.old) (D.fault_count device.new) (D.moment_of device.new) }
+{
+    match format(alloc, device, seed, time) {
+        Ok(formatted) => Ok(formatted),
+        Err(fault) => Err(error_of_format(fault)),
+    }
+}
+
+// The line of a volume that was made.
+fn format_answer<D: Device>(
+    alloc: Global,
+    device: &mut D,
+    seed: u64,
+    time: u64,
+) -> Result<String, ScanError>
+    ensures answer { GivesOrFails (λ text. string_bytes text) scan_cause result (format_line (D.sector_count device.old)) }
+    ensures image { IfOk result (λ text. D.gives device.new ≡ option_map (λ disk. formatted disk seed time) (D.gives device.old)) }
+    ensures refused { IfErr result (λ e. IsRefusal e → D.gives device.new ≡ D.gives device.old) }
+    ensures fault { IsErrOf result ScanError.Device → HasFailed (D.fault_count device.old) (D.fault_count device.new) (D.moment_of device.new) }
+{
+    let formatted = make_volume(alloc, device, seed, time)?;
+    Ok(formatted_line(alloc, formatted)?)
+}
+
+/// The text that answers a command on the device, which is only read but by a format; it takes memory
+/// for two copies of the text.
 ///
-/// The errors are want of memory, a failure of the device, and the first refusal that applies.
+/// The errors are want of memory, a failure of the device, and the first refusal that applies, which
+/// leaves the device as it was.
 pub fn answer<D: Device>(
     alloc: Global,
     command: &Quiet,
     device: &mut D,
 ) -> Result<String, ScanError>
     ensures answer { IfSome (D.gives device.old) (λ disk. GivesOrFails (λ text. string_bytes text) scan_cause result (answer_of command.now disk)) }
-    ensures gives { D.gives device.new ≡ D.gives device.old }
+    ensures leaves { IfOk result (λ text. Leaves command.now (D.gives device.old) (D.gives device.new)) }
+    ensures refused { IfErr result (λ e. IsRefusal e → D.gives device.new ≡ D.gives device.old) }
+    ensures reads { IsReader command.now → D.gives device.new ≡ D.gives device.old }
     ensures fault { IsErrOf result ScanError.Device → HasFailed (D.fault_count device.old) (D.fault_count device.new) (D.moment_of device.new) }
 {
     match command {
         Quiet::Scan => scan_answer(alloc, device),
         Quiet::Dump => dump_answer(alloc, device),
         Quiet::Check => check_answer(alloc, device),
+        Quiet::Journal => journal_answer(alloc, device),
+        Quiet::Format { seed, time } => format_answer(alloc, device, *seed, *time),
     }
 }

@@ -1,4 +1,4 @@
-/// A command that reads the volume and runs no script.
+/// A command that runs no script.
 #[derive(Clone, Copy, Debug, PartialEq, Eq)]
 pub enum Quiet {
     /// Prints the long names of the volume.
@@ -7,4 +7,9 @@ pub enum Quiet {
     Dump,
     /// Prints whether the volume stands for a tree, and how many parts this has.
     Check,
+    /// Prints the records of the volume's change journal.
+    Journal,
+    /// Makes a new volume with this serial number; all its times are `time`, in units of 100 ns since
+    /// 1601-01-01.
+    Format { seed: u64, time: u64 },
 }

@@ -1,16 +1,16 @@
 //! The top call.
-ghost use Rattle.std.specs.Prelude.{◌≡◌, ◌≢◌, ◌⊎◌, ◌↔◌, IsTrue, None, IfSome, IsSomeAnd, IsOk, IsErr, IsErrAnd, Ok, ◌≤◌};
+ghost use Rattle.std.specs.Prelude.{◌≡◌, ◌≢◌, ◌⊎◌, ◌↔◌, IsTrue, None, IfOk, IfSome, IsSomeAnd, IsOk, IsErr, IsErrAnd, Ok, ◌≤◌};
 ghost use Rattle.std.specs.Io.KnownBytes.{Appends};
 ghost use Rattle.host_base.specs.Causes.{Rose, HasFailed, AppendsPart};
 ghost use Rattle.script_text.specs.Scripts.{script_of};
 ghost use Rattle.upcase_order.specs.Tables.{standard_table};
-ghost use Rattle.ntfs_host.specs.Answers.{answer_of};
+ghost use Rattle.ntfs_host.specs.Answers.{answer_of, IsReader, Leaves};
 ghost use Rattle.ntfs_host.specs.Mounts.{mounted_of};
 ghost use Rattle.ntfs_host.specs.Runs.{PrintsScript, PrintsScriptPart, IsRunStatus};
 ghost use Rattle.ntfs_host.specs.Scripts.{script_line};
 ghost use Rattle.ntfs_host.specs.Text.{printed};
 ghost use Rattle.ntfs_host.specs.Statuses.{IsQuietStatus};
-ghost use Rattle.ntfs_host.specs.Words.{quiet_named, quiet_in, IsRun, usage};
+ghost use Rattle.ntfs_host.specs.Words.{command_in, quiet_some, quiet_in, RunsSome, IsRun, Reads, usage};
 
 use crate::answers::answer;
 use crate::command::Quiet;
@@ -18,10 +18,11 @@ use crate::output::write_refusal;
 use crate::printing::write_lines;
 use crate::script_run::run_command;
 use crate::status::{DEVICE_FAULT, DONE, MEMORY, REFUSED, SINK_FAULT, USAGE, status_of};
+use command_line::{Command, LineFault, read_line};
 use host_base::{Gate, Sink, Source, write_all};
 use image_scan::ScanError;
 use sector_device::Device;
-use std::alloc::Global;
+use std::alloc::{AllocError, Global};
 use std::sync::Wait;
 use std::thread::Threads;
 
@@ -68,7 +69,10 @@ fn answer_into<K: Sink, D: Device>(
     ensures sink_failed { result ≡ 7 → Rose (K.faults sink.old) (K.faults sink.new) }
     ensures device_failed { result ≡ 8 → HasFailed (D.fault_count device.old) (D.fault_count device.new) (D.moment_of device.new) }
     ensures silent { result ≡ 8 → K.taken sink.new ≡ K.taken sink.old }
-    ensures gives { D.gives device.new ≡ D.gives device.old }
+    ensures leaves { result ≡ 0 → Leaves command.now (D.gives device.old) (D.gives device.new) }
+    ensures kept { result ≡ 3 → D.gives device.new ≡ D.gives device.old }
+    ensures left { result ≡ 7 → Leaves command.now (D.gives device.old) (D.gives device.new) ⊎ (D.gives device.new ≡ D.gives device.old) }
+    ensures reads { IsReader command.now → D.gives device.new ≡ D.gives device.old }
 {
     match answer(alloc, command, device) {
         Ok(text) => print_text(sink, text.as_str()),
@@ -79,7 +83,7 @@ fn answer_into<K: Sink, D: Device>(
 }
 
 /// Does a command that runs no script, on the device; its text, or the line of the first refusal that
-/// applies, goes to the sink. The device is only read.
+/// applies, goes to the sink. The device is only read, but by `Format`.
 ///
 /// `Scan` prints a line for each long name of a file record in use, `N S P Q NAME` with the number
 /// and sequence of the file and of its directory, by file number, directory number and raw units,
@@ -104,6 +108,18 @@ fn answer_into<K: Sink, D: Device>(
 /// near linear in the runs of all streams, which they sort; their memory grows with the file table
 /// and the bitmaps, and has room for the text twice.
 ///
+/// `Journal` prints of each record of the change journal `USN N S P Q REASON ATTRS TIME NAME`, with the
+/// file's number and sequence and its directory's, the reason and the attributes in eight hexadecimal
+/// digits; and then `journal FIRST NEXT`. It refuses what a dump refuses, and before the rules a volume
+/// without a journal whose records can be read. It reads what a dump reads, and the journal once more;
+/// its memory grows with the records too.
+///
+/// `Format` makes a new volume with this serial number, all of whose times are this one, and prints
+/// `formatted CLUSTERS ROOM`. It refuses a device of no sectors, of more than 16,777,216 clusters of
+/// eight sectors, and of fewer than 4,537 sectors. It writes the system's files; free clusters and the
+/// last sector of the device stay as they are. Its time is linear in the log and the bitmap of the
+/// clusters, and its memory doesn't grow with the volume.
+///
 /// The layouts are those of the Linux-NTFS documentation, "$Boot", "$MFT", "FILE Record",
 /// "$FILE_NAME", "$INDEX_ROOT", "$Bitmap" and "$UsnJrnl". The status is that of [`Outcome`].
 pub fn quiet_command<K: Sink, D: Device>(
@@ -125,8 +141,12 @@ pub fn quiet_command<K: Sink, D: Device>(
     ensures device_failed { result.status ≡ 8 → HasFailed (D.fault_count device) (D.fault_count result.device) (D.moment_of result.device) }
     ensures silent { result.status ≡ 8 → K.taken sink.new ≡ K.taken sink.old }
 
-    // What a read of the device gives stays.
-    ensures gives { D.gives result.device ≡ D.gives device }
+    // What reads of the device give stays, but for a format; a refusal leaves it too. A format whose line
+    // isn't written has made its volume, or was refused.
+    ensures reads { IsReader command.now → D.gives result.device ≡ D.gives device }
+    ensures kept { result.status ≡ 3 → D.gives result.device ≡ D.gives device }
+    ensures leaves { result.status ≡ 0 → Leaves command.now (D.gives device) (D.gives result.device) }
+    ensures left { result.status ≡ 7 → Leaves command.now (D.gives device) (D.gives result.device) ⊎ (D.gives result.device ≡ D.gives device) }
 
     // With no refusal and no fault the command is done, or memory is wanting.
     ensures complete { IsSomeAnd (D.gives device) (λ disk. IsOk (answer_of command.now disk)) → ¬ Rose (K.faults sink.old) (K.faults sink.new) → ¬ HasFailed (D.fault_count device) (D.fault_count result.device) (D.moment_of result.device) → (result.status ≡ 0) ⊎ (result.status ≡ 6) }
@@ -136,39 +156,42 @@ pub fn quiet_command<K: Sink, D: Device>(
     Outcome { status, device }
 }
 
-// The command that reads a volume and has this name.
-#[tactic(auto, unfolding(crate::specs::Words::quiet_named))]
-fn quiet_named(word: &str) -> Option<Quiet>
-    ensures named { result ≡ quiet_named word.now }
+// The command that the words name, if they are a line of one. The error is want of memory.
+fn command_in(alloc: Global, words: &[String]) -> Result<Option<Command>, AllocError>
+    ensures { IfOk result (λ command. command ≡ command_in words.now) }
 {
-    if word == "scan" {
-        return Some(Quiet::Scan);
-    }
-    if word == "dump" {
-        return Some(Quiet::Dump);
-    }
-    if word == "check" {
-        return Some(Quiet::Check);
-    }
-    None
-}
-
-// The command that reads a volume and that the words name.
-fn quiet_in(words: &[String]) -> Option<Quiet>
-    ensures named { result ≡ quiet_in words.now }
-{
-    match words {
-        [_, _, word] => quiet_named(word.as_str()),
-        _ => None,
+    match read_line(alloc, words) {
+        Ok(command) => Ok(Some(command)),
+        Err(LineFault::NoLine) => Ok(None),
+        Err(LineFault::Memory) => Err(AllocError),
     }
 }
 
-// Whether the words are the program's name, an image and `run`.
-fn is_run(words: &[String]) -> bool
-    ensures { IsTrue result ↔ IsRun words.now }
+// The command, where it is one that runs no script.
+fn quiet_of(command: &Option<Command>) -> Option<Quiet>
+    ensures named { result ≡ quiet_some command.now }
 {
-    match words {
-        [_, _, command] => command.as_str() == "run",
+    match command {
+        Some(Command::Scan) => Some(Quiet::Scan),
+        Some(Command::Dump) => Some(Quiet::Dump),
+        Some(Command::Check) => Some(Quiet::Check),
+        Some(Command::Journal) => Some(Quiet::Journal),
+        Some(Command::Format { seed, time }) => Some(Quiet::Format {
+            seed: *seed,
+            time: *time,
+        }),
+        Some(Command::Enable { .. }) => None,
+        Some(Command::Run { .. }) => None,
+        Some(Command::Gen { .. }) => None,
+        None => None,
+    }
+}
+
+fn is_run(command: &Option<Command>) -> bool
+    ensures { IsTrue result ↔ RunsSome command.now }
+{
+    match command {
+        Some(Command::Run { .. }) => true,
         _ => false,
     }
 }
@@ -188,9 +211,10 @@ fn write_usage<K: Sink>(sink: &mut K) -> u8
 /// Does the command that the words name, on the volume image of the device; its text, or the line
 /// of a refusal, goes to the sink.
 ///
-/// `words` has the program's name, the image and the command: `scan`, `dump` or `check`, which
-/// [`quiet_command`] does, or `run`, which runs the script that the source has left. `gate.pass` is
-/// called before each command of a script. The status is that of `Outcome`.
+/// `words` has the program's name, the image and the command, and its options (`command_line`):
+/// `scan`, `dump`, `check`, `journal` or `format`, which [`quiet_command`] does, or `run`, which runs
+/// the script that the source has left. `enable` and `gen` are no commands yet. `gate.pass` is called
+/// before each command of a script. The status is that of `Outcome`.
 #[tactic(auto, using(crate::proofs::Worded::quiet_is_not_run))]
 pub fn ntfs_host<R: Threads + Wait + Sync, S: Source, K: Sink, D: Device + Send, G: Gate + Sync>(
     rt: &R,
@@ -203,9 +227,10 @@ pub fn ntfs_host<R: Threads + Wait + Sync, S: Source, K: Sink, D: Device + Send,
 ) -> Outcome<D>
     ensures status { (result.status ≡ 2) ⊎ IsRunStatus result.status }
 
-    // The usage line comes exactly where the words are no line of a command.
+    // The usage line comes exactly where the words are no line of a command, or for want of memory nothing.
     ensures words { result.status ≡ 2 → (quiet_in words.now ≡ None) × (¬ IsRun words.now) }
-    ensures command { quiet_in words.now ≡ None → ¬ IsRun words.now → (result.status ≡ 2) ⊎ (result.status ≡ 7) }
+    ensures command { quiet_in words.now ≡ None → ¬ IsRun words.now → (result.status ≡ 2) ⊎ (result.status ≡ 6) ⊎ (result.status ≡ 7) }
+    ensures no_memory { quiet_in words.now ≡ None → ¬ IsRun words.now → result.status ≡ 6 → K.taken sink.new ≡ K.taken sink.old }
     ensures usage { result.status ≡ 2 → Appends (K.taken sink.old) (K.taken sink.new) usage }
     ensures usage_part { quiet_in words.now ≡ None → ¬ IsRun words.now → result.status ≡ 7 → AppendsPart (K.taken sink.old) (K.taken sink.new) usage }
 
@@ -231,14 +256,27 @@ pub fn ntfs_host<R: Threads + Wait + Sync, S: Source, K: Sink, D: Device + Send,
     ensures device_failed { result.status ≡ 8 → HasFailed (D.fault_count device) (D.fault_count result.device) (D.moment_of result.device) }
     ensures silent { (result.status ≡ 5) ⊎ (result.status ≡ 8) → K.taken sink.new ≡ K.taken sink.old }
 
-    // What a read of the device gives stays.
-    ensures gives { D.gives result.device ≡ D.gives device }
+    // What reads of the device give stays, but for a format; a refusal leaves it too. A format whose line
+    // isn't written has made its volume, or was refused.
+    ensures reads { Reads (quiet_in words.now) → D.gives result.device ≡ D.gives device }
+    ensures kept { result.status ≡ 3 → D.gives result.device ≡ D.gives device }
+    ensures leaves { IfSome (quiet_in words.now) (λ command. result.status ≡ 0 → Leaves command (D.gives device) (D.gives result.device)) }
+    ensures left { IfSome (quiet_in words.now) (λ command. result.status ≡ 7 → Leaves command (D.gives device) (D.gives result.device) ⊎ (D.gives result.device ≡ D.gives device)) }
 {
-    if let Some(command) = quiet_in(words) {
-        return quiet_command(alloc, &command, sink, device);
+    let command = match command_in(alloc, words) {
+        Ok(command) => command,
+        Err(_) => {
+            return Outcome {
+                status: MEMORY,
+                device,
+            };
+        }
+    };
+    if let Some(quiet) = quiet_of(&command) {
+        return quiet_command(alloc, &quiet, sink, device);
     }
     let mut device = device;
-    let status = if is_run(words) {
+    let status = if is_run(&command) {
         run_command(rt, alloc, source, sink, &mut device, gate)
     } else {
         write_usage(sink)

@@ -1,11 +1,12 @@
 //! The lines that are printed.
 ghost use Rattle.std.specs.Prelude.{◌≡◌, IfOk, string_bytes};
 ghost use Rattle.ntfs_host.specs.Scripts.{script_line};
-ghost use Rattle.ntfs_host.specs.Text.{refusal_line};
+ghost use Rattle.ntfs_host.specs.Text.{refusal_line, formatted_line};
 
 use image_scan::Refusal;
 use script_text::ScriptFault;
 use std::alloc::{AllocError, Global};
+use volume_format::Formatted;
 
 /// The refusal's line: its number, its name and its values.
 #[tactic(auto, unfolding(crate::specs::Text::refusal_line))]
@@ -32,11 +33,21 @@ pub fn refusal_line(alloc: Global, refusal: Refusal) -> Result<String, AllocErro
         Refusal::Version { major, minor } => {
             format!(in alloc; "refused 9 Version {major} {minor}\n")
         }
+        Refusal::NoJournal { why } => format!(in alloc; "refused 14 NoJournal {why}\n"),
         Refusal::BadVolume { rule, number } => {
             format!(in alloc; "refused 15 BadVolume {rule} {number}\n")
         }
         Refusal::Unbuilt { rule } => format!(in alloc; "refused 17 Unbuilt {rule}\n"),
     }
+}
+
+/// The line of a volume that was made: `formatted CLUSTERS ROOM`.
+#[tactic(auto, unfolding(crate::specs::Text::formatted_line))]
+pub fn formatted_line(alloc: Global, formatted: Formatted) -> Result<String, AllocError>
+    ensures { IfOk result (λ line. string_bytes line ≡ formatted_line formatted) }
+{
+    let (clusters, room) = (formatted.clusters, formatted.room);
+    format!(in alloc; "formatted {clusters} {room}\n")
 }
 
 /// The line that says what refuses a script; there is none for want of memory.

@@ -1,0 +1,17 @@
+use Rattle.std.proofs.Common.{Global, Ok}
+use Rattle.std.specs.Prelude.{String, string_bytes}
+use Rattle.std.proofs.lemmas.Result.{err_from_is_err_and}
+use Rattle.image_dump.specs.Texts.{journal_text}
+use Rattle.image_journal.specs.declared.reading.ReadJournal.{ReadJournal}
+use Rattle.image_journal.specs.Records.{journal_of}
+use Rattle.ntfs_host.proofs.Answering.{text_is}
+use Rattle.ntfs_host.proofs.Steps.{fails_first}
+use Rattle.ntfs_host.proofs.answers.journal_answer.Goals as goal
+
+pub returns-in_err-journal-clause-answer : goal.returns-in_err-journal-clause-answer
+returns-in_err-journal-clause-answer g c =
+    let p = err_from_is_err_and c.from_residual.result c.from_residual.ensures.1 in
+    rw (p.1, p.2) (fails_first _ (λ (j : ReadJournal). j) (λ (s : String Global). string_bytes s) _ journal_of (λ disk j. Ok (journal_text j.entries j.first j.next)) c.in_err-journal.ensures.answer)
+
+pub returns-clause-answer : goal.returns-clause-answer
+returns-clause-answer g c = text_is _ c.in_ok-journal.journal c.in_ok-text_of_journal.field-0 journal_of (λ (j : ReadJournal). journal_text j.entries j.first j.next) c.in_ok-journal.ensures.answer c.in_ok-text_of_journal.ensures.text
