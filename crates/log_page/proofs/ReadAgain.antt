@@ -178,7 +178,9 @@ module _ (r : Restart) (check : ℕ) (small : check < 2 ^ 16) where
       ∙ list_back r.used
 
   roomy : has_clients page ≡ true
-  roomy = ap (λ (a : ℕ). leb (a + 0xA0 * client_count page) 4096) clients ∙ ap (λ (k : ℕ). leb (0x70 + 0xA0 * k) 4096) count
+  roomy =
+      ap (λ (a : ℕ). eqb (client_count page) 0 || leb (a + 0xA0 * client_count page) 4096) clients
+      ∙ ap (λ (k : ℕ). eqb k 0 || leb (0x70 + 0xA0 * k) 4096) count
 
   is_page : is_restart_page page ≡ true
   is_page =

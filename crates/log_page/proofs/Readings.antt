@@ -1,11 +1,12 @@
 -- The entries of a page, one after the other.
 use Rattle.std.proofs.Common.{◌≡◌, ℕ, zero, suc, ◌+◌, ◌≤◌, true, false, List, [], ◌∷◌, ◌++◌, length, Option, Some, None, refl, sym, ap, ◌∙◌, subst, append_assoc, arith}
-use Rattle.std.specs.Prelude.{IfSome}
+use Rattle.std.specs.Prelude.{All, IfSome}
 use Rattle.std.proofs.lemmas.List.{append-nil, length-take, length-drop}
+use Rattle.std.proofs.lemmas.List.Elements.{All-push}
 use Rattle.log_model.specs.declared.entry.Entry.{Entry}
 use Rattle.log_model.specs.declared.entry.Act.{Act}
 use Rattle.log_model.specs.declared.entry.Act.TheVariants.{Update, Commit}
-use Rattle.log_model.specs.Entries.{act_size, entry_size}
+use Rattle.log_model.specs.Entries.{act_size, entry_size, FitsEntry}
 use Rattle.log_page.specs.RecordPages.{Reading, no_reading, foreign_here, entry_or_foreign, lsn_of, bytes_from, entry_in, goes_on, entries_from, AppendsFront}
 
 -- a reading with entries that were read before
@@ -29,6 +30,13 @@ ends_inside page at e size le =
 pub found_inside : (o : Option Entry) (e : Entry) (at : ℕ) → o ≡ Some e → IfSome o (λ e. at + entry_size e ≤ 4096) → at + entry_size e ≤ 4096
 found_inside None e at is le = absurd cc
 found_inside (Some x) e at is le = let same : x ≡ e = cc in subst (λ (y : Entry). at + entry_size y ≤ 4096) same le
+
+-- an entry that has a spelling goes with those that have
+pub one_more_fits : (o : Option Entry) (e : Entry) (entries grown : List Entry) → o ≡ Some e → IfSome o FitsEntry → grown ≡ entries ++ e ∷ [] → All FitsEntry entries → All FitsEntry grown
+one_more_fits None e entries grown is fits made all = absurd cc
+one_more_fits (Some x) e entries grown is fits made all =
+    let same : x ≡ e = cc in
+    subst (All FitsEntry) (sym made) (All-push FitsEntry entries e all (subst FitsEntry same fits))
 
 -- ---- one step
 

@@ -48,10 +48,11 @@ unfoldable pub greatest_lsn : ℕ → (ℕ → List ℕ) → Option Restart → 
 greatest_lsn pages raw chosen =
     fold (λ lsn page. greater lsn (said_lsn (raw page))) (option_map (λ (r : Restart). r.current) chosen) (range_with_len first_page (pages - first_page))
 
--- a new session's first lap: one more than that of the greatest LSN, which has the greatest lap; 1 where there is none
-unfoldable pub next_lap : ℕ → (ℕ → List ℕ) → Option Restart → ℕ
-next_lap pages raw chosen = above (greatest_lsn pages raw chosen)
-  where
-    above : Option ℕ → ℕ
-    above None = 1
-    above (Some lsn) = 1 + lap_of pages lsn
+-- one more than the lap of this LSN; 1 where there is none
+abbrev pub lap_above : ℕ → Option ℕ → ℕ
+lap_above pages (Some lsn) = 1 + lap_of pages lsn
+lap_above pages None = 1
+
+-- a new session's first lap: one more than that of the greatest LSN, which has the greatest lap
+abbrev pub next_lap : ℕ → (ℕ → List ℕ) → Option Restart → ℕ
+next_lap pages raw chosen = lap_above pages (greatest_lsn pages raw chosen)

@@ -42,7 +42,7 @@ has_area page = nat_le (area_at page + 0x2C) page_bytes
 
 -- and so does an entry of A0 bytes for each client
 abbrev pub has_clients : List ℕ → Bool
-has_clients page = nat_le (clients_at page + 0xA0 * client_count page) page_bytes
+has_clients page = client_count page == 0 || nat_le (clients_at page + 0xA0 * client_count page) page_bytes
 
 -- the list of clients in use is empty or begins at a client
 abbrev pub has_list : List ℕ → Bool

@@ -1,4 +1,4 @@
-ghost use Rattle.std.specs.Prelude.{◌≡◌, ◌+◌, ◌-◌, ◌*◌, ◌/◌, ◌<◌, ◌≤◌, ◌^◌, ◌++◌, ◌∷◌, [], length, IfOk, IfErr, IfSome, OnOk, OnErr};
+ghost use Rattle.std.specs.Prelude.{◌≡◌, ◌+◌, ◌-◌, ◌*◌, ◌/◌, ◌<◌, ◌≤◌, ◌^◌, ◌++◌, ◌∷◌, [], All, length, IfOk, IfErr, IfSome, OnOk, OnErr};
 ghost use Rattle.std.specs.Bool.{OnTrue};
 ghost use Rattle.host_base.specs.Answers.{Gives};
 ghost use Rattle.disk_model.specs.Fixups.{restored};
@@ -98,6 +98,7 @@ fn append_from(
     requires near { from ≤ 4096 }
     requires fits { first + 504 < 2 ^ 64 }
     ensures value { AppendsReading (entries_from (length page.now) page.now first from) entries.old.items entries.new.items result }
+    ensures fits { All FitsEntry entries.old.items → All FitsEntry entries.new.items }
 {
     let mut at = from;
     'places: while goes_on(page, at) {
@@ -149,6 +150,7 @@ fn append_in(
     requires place { 0x40 ≤ from }
     requires near { from ≤ 4096 }
     ensures value { AppendsPage (is_whole_page pages raw.now lsn) (page_reading raw.now lsn from) entries.old.items entries.new.items result }
+    ensures fits { All FitsEntry entries.old.items → All FitsEntry entries.new.items }
 {
     if !open_page(raw, room, pages, lsn) {
         return Err(PageFault::NotWhole);
@@ -166,7 +168,7 @@ fn append_in(
 ///   are appended.
 /// - [`PageFault::Memory`]: want of memory. A front of the entries may be appended.
 ///
-/// It takes time and memory linear in the page.
+/// Each entry that is appended has a spelling. It takes time and memory linear in the page.
 pub fn append_page(
     alloc: Global,
     entries: &mut Vec<Entry>,
@@ -181,6 +183,7 @@ pub fn append_page(
     requires place { 0x40 ≤ from }
     requires near { from ≤ 4096 }
     ensures value { AppendsPage (is_whole_page pages page.now lsn) (page_reading page.now lsn from) entries.old.items entries.new.items result }
+    ensures fits { All FitsEntry entries.old.items → All FitsEntry entries.new.items }
 {
     append_in(alloc, entries, page, &mut [0; PAGE], pages, lsn, from)
 }
@@ -202,6 +205,7 @@ pub fn append_at(
     requires place { 0x40 ≤ from }
     requires near { from ≤ 4096 }
     ensures value { AppendsPage (is_whole_page pages raw.now (page_lsn pages lap page)) (page_reading raw.now (page_lsn pages lap page) from) entries.old.items entries.new.items result }
+    ensures fits { All FitsEntry entries.old.items → All FitsEntry entries.new.items }
 {
     match page_lsn(pages, lap, page) {
         Some(lsn) => append_page(alloc, entries, raw, pages, lsn, from),

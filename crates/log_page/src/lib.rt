@@ -19,7 +19,8 @@ pub use fault::PageFault;
 pub use laws::{has_digits, lsn_says_place, restart_read_again, written_pages};
 pub use log_model::Entry;
 pub use places::{
-    Extent, LogPlace, digits, is_in_ring, lap_of, lsn_at, offset_of, page_lsn, sequence_bits,
+    Extent, Extents, LogPlace, digits, is_in_ring, lap_of, lsn_at, offset_of, page_lsn,
+    sequence_bits,
 };
 pub use record::{is_blank, said_lsn};
 pub use restart::{Restart, chosen, is_emptied, is_second_chosen};

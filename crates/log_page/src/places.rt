@@ -1,6 +1,8 @@
 ghost use Rattle.std.specs.Prelude.{◌≡◌, ◌+◌, ◌*◌, ◌^◌, ◌<◌, ◌≤◌, MatchOption, IfSome};
 ghost use Rattle.log_page.specs.Places.{digits, place_bits, sequence_bits, lsn_at, lap_of, offset_of, page_lsn, is_in_ring};
 
+use std::marker::Model;
+
 /// Sectors of the volume, one behind the other.
 #[derive(Clone, Copy, Debug, PartialEq, Eq)]
 pub struct Extent {
@@ -10,15 +12,51 @@ pub struct Extent {
     pub sectors: u64,
 }
 
+/// Runs of sectors one behind the other, which contracts see as a list.
+#[derive(Debug, Drop)]
+pub struct Extents {
+    items: Vec<Extent>,
+}
+
+impl Model for Extents {
+    ghost use Rattle.std.specs.Prelude.{List};
+    ghost use Rattle.log_page.specs.declared.places.Extent.{Extent};
+
+    ghost Value = { List Extent };
+
+    ghost view = { λ e. e.items.items };
+}
+
+impl From<Vec<Extent>> for Extents {
+    ghost from_gives = { λ items extents. extents ≡ items.items };
+
+    fn from(items: Vec<Extent>) -> Self {
+        Extents { items }
+    }
+}
+
+impl Extents {
+    /// The runs as a slice.
+    pub fn as_slice(&self) -> &[Extent]
+        ensures { result.now ≡ self.now }
+    {
+        &self.items
+    }
+}
+
 /// Where the log lies.
 #[derive(Debug, Drop)]
 pub struct LogPlace {
     /// The sectors of its pages, in the order of the log.
-    pub runs: Vec<Extent>,
+    pub runs: Extents,
+    /// How many sectors at its front are initialised; those behind them are zeros.
+    pub initialised: u64,
     /// Its pages of 4,096 bytes.
     pub pages: u64,
     /// The clusters of the volume.
     pub clusters: u64,
+    /// The sectors of the device; those of the log that aren't among them are zeros.
+    pub device: u64,
 }
 
 /// How many binary digits a number has.

@@ -45,8 +45,9 @@ fn has_clients(page: &[u8], area: usize) -> bool
     requires inside { area + 0x2C ≤ 4096 }
     ensures value { result ≡ has_clients page.now }
 {
+    let count = u16_at(page, area + 0x08) as usize;
     let clients = area + u16_at(page, area + 0x16) as usize;
-    clients + 0xa0 * u16_at(page, area + 0x08) as usize <= PAGE
+    count == 0 || clients + 0xa0 * count <= PAGE
 }
 
 // Whether the list of clients in use is empty or begins at a client.
@@ -87,7 +88,7 @@ fn has_own_name(page: &[u8], client: usize) -> bool
 fn first_client(page: &[u8], client: usize) -> (u64, bool)
     requires size { length page.now ≡ 4096 }
     requires place { client ≡ clients_at page.now }
-    requires inside { client + 0xA0 * client_count page.now ≤ 4096 }
+    requires inside { 0 < client_count page.now → client + 0xA0 * client_count page.now ≤ 4096 }
     requires area { area_at page.now + 0x2C ≤ 4096 }
     ensures oldest { result.0 ≡ oldest_in page.now }
     ensures own { result.1 ≡ is_own page.now }
@@ -104,7 +105,7 @@ fn first_client(page: &[u8], client: usize) -> (u64, bool)
 fn fields(page: &[u8]) -> Restart
     requires size { length page.now ≡ 4096 }
     requires area { area_at page.now + 0x2C ≤ 4096 }
-    requires clients { clients_at page.now + 0xA0 * client_count page.now ≤ 4096 }
+    requires clients { 0 < client_count page.now → clients_at page.now + 0xA0 * client_count page.now ≤ 4096 }
     ensures value { result ≡ restart_in page.now }
 {
     let area = u16_at(page, 0x18) as usize;

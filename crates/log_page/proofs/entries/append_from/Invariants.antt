@@ -1,4 +1,6 @@
 use Rattle.std.proofs.Common.{◌≡◌, ◌+◌, ◌-◌, ◌*◌, ◌≤◌, length}
+use Rattle.std.specs.Prelude.{All}
+use Rattle.log_model.specs.Entries.{FitsEntry}
 use Rattle.log_page.specs.RecordPages.{entries_from}
 use Rattle.log_page.proofs.Readings.{with_front}
 use Rattle.log_page.proofs.entries.append_from.Given as goal
@@ -10,6 +12,7 @@ invariant-places l = record {
   grown : length l.initial.entries.items ≤ length l.entries.items;
   counted : 0x58 * (length l.entries.items - length l.initial.entries.items) + l.from ≤ l.at;
   read : with_front l.entries.items (entries_from (length l.page - (length l.entries.items - length l.initial.entries.items)) l.page l.first l.at) ≡ with_front l.initial.entries.items (entries_from (length l.page) l.page l.first l.from);
+  fits : All FitsEntry l.initial.entries.items → All FitsEntry l.entries.items;
 }
 
 abbrev pub decreases-places : goal.decreases-places
