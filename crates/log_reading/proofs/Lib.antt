@@ -1,0 +1,4 @@
+pub mod Ahead
+pub mod Said
+pub mod Paging
+pub mod Walks

@@ -1,0 +1,5 @@
+pub mod Views
+pub mod LogPages
+pub mod Fronts
+pub mod Live
+pub mod Laps

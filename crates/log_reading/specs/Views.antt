@@ -1,0 +1,42 @@
+-- What a call leaves of a view, and what its faults are here.
+use Rattle.std.specs.Prelude.{◌≡◌, ℕ, ◌≤◌, ⊤, Option}
+use Rattle.host_base.specs.Answers.{Cause, refused, no_memory, failed}
+use Rattle.disk_model.specs.Content.{Content}
+use Rattle.block_view.specs.declared.fault.ViewFault.{ViewFault}
+use Rattle.block_view.specs.declared.fault.ViewFault.TheVariants as views
+use Rattle.log_reading.specs.declared.fault.RecoveryFault.{RecoveryFault}
+use Rattle.log_reading.specs.declared.fault.RecoveryFault.TheVariants.{LogVersion, NoRestart, ForeignLog, Fault, Memory}
+
+-- its content is the same, and what it keeps, and its count of faults didn't fall
+pub record KeepsView {V Kept : Type 0} (content : V → Option Content) (kept : V → Kept) (faults : V → ℕ) (old new : V) : Type 0 where
+  pub same : content new ≡ content old
+  pub stays : kept new ≡ kept old
+  pub later : faults old ≤ faults new
+
+abbrev pub fault_of_view : ViewFault → RecoveryFault
+fault_of_view views.Fault = Fault
+fault_of_view views.Memory = Memory
+
+-- it isn't a refusal
+abbrev pub NeverForeign : RecoveryFault → Type 0
+NeverForeign (LogVersion major minor) = ⊥
+NeverForeign NoRestart = ⊥
+NeverForeign (ForeignLog lsn) = ⊥
+NeverForeign Fault = ⊤
+NeverForeign Memory = ⊤
+
+-- it is no refusal but of an entry
+abbrev pub IsOfEntry : RecoveryFault → Type 0
+IsOfEntry (LogVersion major minor) = ⊥
+IsOfEntry NoRestart = ⊥
+IsOfEntry (ForeignLog lsn) = ⊤
+IsOfEntry Fault = ⊤
+IsOfEntry Memory = ⊤
+
+-- where an error of a call comes from
+abbrev pub recovery_cause : RecoveryFault → Cause RecoveryFault
+recovery_cause (LogVersion major minor) = refused (LogVersion major minor)
+recovery_cause NoRestart = refused NoRestart
+recovery_cause (ForeignLog lsn) = refused (ForeignLog lsn)
+recovery_cause Fault = failed
+recovery_cause Memory = no_memory
