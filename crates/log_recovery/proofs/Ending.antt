@@ -1,7 +1,7 @@
 -- What is found by all entries is what is meant.
-use Rattle.std.proofs.Common.{◌≡◌, ℕ, ◌+◌, ◌*◌, ◌/◌, ◌<◌, ◌≤◌, Bool, true, false, not, ◌||◌, ◌&&◌, eqb, List, [], ◌∷◌, ◌++◌, length, take, drop, get_or, Option, Some, None, refl, sym, ap, ◌∙◌, subst, arith}
+use Rattle.std.proofs.Common.{◌≡◌, ℕ, ◌+◌, ◌*◌, ◌/◌, ◌<◌, ◌≤◌, Bool, true, false, not, ◌||◌, ◌&&◌, List, [], ◌∷◌, ◌++◌, length, take, drop, get_or, Option, Some, None, refl, sym, ap, ◌∙◌, subst, arith}
 use Rattle.std.specs.Prelude.{if◌then◌else◌, All, nat_eq, nat_le, nat_lt, find, unwrap_or, IfSome, OnOk, IfErr, map, Result, Ok, Err}
-use Rattle.std.specs.List.{list_any, AllByRecursion, IsDistinct}
+use Rattle.std.specs.List.{AllByRecursion, IsDistinct}
 use Rattle.std.specs.Option.{option_map, option_or}
 use Rattle.std.specs.Cmp.Lexicographic.{pointwise}
 use Rattle.std.proofs.lemmas.List.{take_all, drop_all, take-append-drop}
@@ -15,24 +15,24 @@ use Rattle.disk_model.specs.declared.block.BlockKind.TheVariants.{Plain, FileRec
 use Rattle.disk_model.specs.Bodies.{BodyOf}
 use Rattle.disk_model.specs.Sectors.{sectors, same_block}
 use Rattle.disk_model.specs.Content.{Content, HasSizes}
-use Rattle.disk_model.specs.Writes.{Write, overlay}
+use Rattle.disk_model.specs.Writes.{Write}
 use Rattle.disk_model.specs.Laws.{IsElsewhere}
 use Rattle.disk_model.proofs.Frames.{overlay_elsewhere}
 use Rattle.log_model.specs.declared.entry.Entry.{Entry}
 use Rattle.log_model.specs.declared.entry.Act.{Act}
 use Rattle.log_model.specs.declared.entry.Act.TheVariants.{Update, Commit}
-use Rattle.log_model.specs.Logs.{kind_of, AreLevel, is_misplaced, first_misplaced, updates, IsLevel, is_ended, is_shadowed, first_rival, undo_of, redo_of, undos_back, redos, recovery_of, recovered, is_covered_whole, is_other, is_written_out, updates_partial, first_partial}
+use Rattle.log_model.specs.Logs.{kind_of, AreLevel, is_misplaced, first_misplaced, updates, IsLevel, is_ended, is_shadowed, undo_of, redo_of, undos_back, redos, recovery_of, recovered, is_covered_whole, is_other, is_written_out, updates_partial, first_partial}
 use Rattle.log_model.proofs.Recovering.{stays, changes, torn_after}
 use Rattle.log_recovery.specs.declared.found.RecoveredBlock.{RecoveredBlock}
 use Rattle.log_recovery.specs.declared.found.Shadow.{Shadow}
 use Rattle.log_recovery.specs.declared.found.RecoveredBlocks.{RecoveredBlocks}
 use Rattle.log_recovery.specs.declared.found.Judged.{Judged}
-use Rattle.log_recovery.specs.declared.fault.RecoveryFault.{RecoveryFault}
-use Rattle.log_recovery.specs.declared.fault.RecoveryFault.TheVariants.{LogVersion, NoRestart, ForeignLog, Fault, Memory}
+use Rattle.log_reading.specs.declared.fault.RecoveryFault.{RecoveryFault}
+use Rattle.log_reading.specs.declared.fault.RecoveryFault.TheVariants.{LogVersion, NoRestart, ForeignLog, Fault, Memory}
 use Rattle.log_recovery.specs.Blocks.{LiesInside, Lies, Judges}
-use Rattle.log_recovery.specs.Recovering.{is_updated, held_body, held_lsn, written_body, body_block, shadow_block, AreRecovered, foreign_entry, Recovers}
+use Rattle.log_recovery.specs.Recovering.{is_updated, held_body, held_lsn, shadow_lsn, written_body, body_block, shadow_block, AreRecovered, foreign_entry, Recovers}
 use Rattle.log_recovery.specs.Finding.{is_part, Found, Adds, Refuses, IsFirstPartial, update_block, RecoversPlaced}
-use Rattle.log_recovery.proofs.Saying.{body_of_parts, rival_at, says}
+use Rattle.log_recovery.proofs.Saying.{body_of_parts, says}
 use Rattle.log_recovery.proofs.Steps.{added, refused, no_update, updated_again, block_some, same_self_block, distinct_none}
 use Rattle.log_recovery.proofs.Walking.{rest_is}
 
@@ -139,36 +139,37 @@ written_all c log b =
     ∙ none_else (is_updated log b) s o w (recovered c log b)
     ∙ ap (λ (t : Bool). if t then Some (recovered c log b) else None) (sym test)
 
-shadow_all : (u s : Bool) (o : Option ℕ) → (if u then (if s then o else None) else None) ≡ (if u && s then o else None)
-shadow_all true s o = refl
-shadow_all false s o = refl
-
 or_own : (w : Bool) (x own : BodyOf) → (w ≡ false → x ≡ own) → unwrap_or (if w then Some x else None) own ≡ x
 or_own true x own h = refl
 or_own false x own h = sym (h refl)
 
-pub all_found : (c : Content) (log : List Entry) (k : ℕ) (found : RecoveredBlocks) → HasSizes c → All IsLevel log → length log ≤ k → Found c log k found → (first_partial c log ≡ None) × AreRecovered c log found
-all_found c log k found sized level past f =
+-- these are the shadowed blocks
+pub record AreShadows (log : List Entry) (shadows : List Shadow) : Type 0 where
+  pub held : (b : Block) → held_lsn shadows b ≡ shadow_lsn log b
+  pub once : IsDistinct same_block (map shadow_block shadows)
+
+pub all_found : (c : Content) (log : List Entry) (k : ℕ) (found : RecoveredBlocks) → HasSizes c → All IsLevel log → length log ≤ k → AreShadows log found.shadows.items → Found c log k found.bodies.items → (first_partial c log ≡ None) × AreRecovered c log found
+all_found c log k found sized level past shadows f =
     let all = take_all k log past in
-    let bodies = λ (b : Block). f.bodies b ∙ ap (λ (xs : List Entry). if is_updated xs b then written_body c log b else None) all ∙ written_all c log b in (
+    let bodies = λ (b : Block). f.held b ∙ ap (λ (xs : List Entry). if is_updated xs b then written_body c log b else None) all ∙ written_all c log b in (
       ap (option_map (λ (x : Entry). x.lsn)) (sym f.rest ∙ ap (find (λ (x : Entry). updates_partial c log x.act)) (drop_all k log past)),
       record {
         bodies = bodies;
         once = f.once;
-        shadows = λ b. f.shadows b ∙ ap (λ (xs : List Entry). if is_updated xs b then rival_at log b else None) all ∙ shadow_all (is_updated log b) (is_shadowed log b) (first_rival log b);
-        shadowed_once = f.shadowed_once;
+        shadows = shadows.held;
+        shadowed_once = shadows.once;
         content = fun_ext (λ b. ap (λ (o : Option BodyOf). unwrap_or o (c b)) (bodies b) ∙ or_own (is_written_out c log b) (recovered c log b) (c b) (not_written c log b sized level));
       },
     )
 
 -- ---- under a content that may be known
 
-pub again_known : (content : Option Content) (log : List Entry) (k : ℕ) (e : Entry) (b0 : Block) (found : RecoveredBlocks) → k < length log → e ≡ get_or log k e → update_block e.act ≡ Some b0 → is_updated (take k log) b0 ≡ true
+pub again_known : (content : Option Content) (log : List Entry) (k : ℕ) (e : Entry) (b0 : Block) (found : List RecoveredBlock) → k < length log → e ≡ get_or log k e → update_block e.act ≡ Some b0 → is_updated (take k log) b0 ≡ true
     → IfSome content (λ c. Found c log k found → Found c log (k + 1) found)
 again_known None log k e b0 found lt is some again = tt
 again_known (Some c) log k e b0 found lt is some again = updated_again c log k e b0 found lt is some again
 
-pub none_known : (content : Option Content) (log : List Entry) (k : ℕ) (e : Entry) (found : RecoveredBlocks) → k < length log → e ≡ get_or log k e → update_block e.act ≡ None
+pub none_known : (content : Option Content) (log : List Entry) (k : ℕ) (e : Entry) (found : List RecoveredBlock) → k < length log → e ≡ get_or log k e → update_block e.act ≡ None
     → IfSome content (λ c. Found c log k found → Found c log (k + 1) found)
 none_known None log k e found lt is none = tt
 none_known (Some c) log k e found lt is none = no_update c log k e found lt is none
@@ -186,7 +187,7 @@ updated_here log k e b0 lt is own = ap (λ (xs : List Entry). is_updated xs b0) 
 own_block : (act : Act) (b0 : Block) → update_block act ≡ Some b0 → updates b0 act ≡ true
 own_block act b0 e = block_some act b0 b0 e ∙ same_self_block b0
 
-pub added_known : {T : Type 0} (content : Option Content) (log : List Entry) (k : ℕ) (e : Entry) (b0 : Block) (judged : Judged) (ended : ℕ → Bool) (old new : RecoveredBlocks) (result : Result T RecoveryFault) → ended ≡ is_ended log → All IsLevel log
+pub added_known : {T : Type 0} (content : Option Content) (log : List Entry) (k : ℕ) (e : Entry) (b0 : Block) (judged : Judged) (ended : ℕ → Bool) (old new : List RecoveredBlock) (result : Result T RecoveryFault) → ended ≡ is_ended log → All IsLevel log
     → k < length log → e ≡ get_or log k e → update_block e.act ≡ Some b0 → is_updated (take k log) b0 ≡ false → IfSome content HasSizes → IfSome content (λ c. Judges ended log b0 (c b0) judged) → OnOk result (Adds judged b0 old new)
     → IfSome content (λ c. Found c log k old → OnOk result (Found c log (k + 1) new))
 added_known None log k e b0 judged ended old new result same level lt is some first sized judges adds = tt
@@ -202,7 +203,7 @@ refused_as c log lsn judged (ForeignLog l) r h = h r.0 ∙ ap (λ (n : ℕ). Som
 refused_as c log lsn judged Fault r h = tt
 refused_as c log lsn judged Memory r h = tt
 
-pub refused_known : {T : Type 0} (content : Option Content) (log : List Entry) (k : ℕ) (e : Entry) (b0 : Block) (judged : Judged) (ended : ℕ → Bool) (old : RecoveredBlocks) (result : Result T RecoveryFault) → ended ≡ is_ended log → All IsLevel log
+pub refused_known : {T : Type 0} (content : Option Content) (log : List Entry) (k : ℕ) (e : Entry) (b0 : Block) (judged : Judged) (ended : ℕ → Bool) (old : List RecoveredBlock) (result : Result T RecoveryFault) → ended ≡ is_ended log → All IsLevel log
     → k < length log → e ≡ get_or log k e → update_block e.act ≡ Some b0 → IfSome content HasSizes → IfSome content (λ c. Judges ended log b0 (c b0) judged) → IfErr result (Refuses judged e.lsn)
     → IfSome content (λ c. Found c log k old → IfErr result (IsFirstPartial c log))
 refused_known None log k e b0 judged ended old result same level lt is some sized judges refuses = tt
@@ -262,17 +263,15 @@ placed_known None log clusters result e r = tt
 placed_known (Some c) log clusters result e r = placed_result c log clusters result e r
 
 -- nothing is found before the first entry
-pub found_none : (content : Option Content) (log : List Entry) (found : RecoveredBlocks) → found.bodies.items ≡ [] → found.shadows.items ≡ [] → IfSome content (λ c. Found c log 0 found)
-found_none None log found bodies shadows = tt
-found_none (Some c) log found bodies shadows = record {
-  bodies = λ b. ap (λ (rs : List RecoveredBlock). held_body rs b) bodies;
-  once = subst (λ (rs : List RecoveredBlock). IsDistinct same_block (map body_block rs)) (sym bodies) distinct_none;
-  shadows = λ b. ap (λ (rs : List Shadow). held_lsn rs b) shadows;
-  shadowed_once = subst (λ (rs : List Shadow). IsDistinct same_block (map shadow_block rs)) (sym shadows) distinct_none;
+pub found_none : (content : Option Content) (log : List Entry) (bodies : List RecoveredBlock) → bodies ≡ [] → IfSome content (λ c. Found c log 0 bodies)
+found_none None log bodies none = tt
+found_none (Some c) log bodies none = record {
+  held = λ b. ap (λ (rs : List RecoveredBlock). held_body rs b) none;
+  once = subst (λ (rs : List RecoveredBlock). IsDistinct same_block (map body_block rs)) (sym none) distinct_none;
   whole = λ b e. absurd cc;
   rest = refl;
 }
 
-pub done_known : (content : Option Content) (log : List Entry) (k : ℕ) (found : RecoveredBlocks) → IfSome content HasSizes → All IsLevel log → length log ≤ k → IfSome content (λ c. Found c log k found) → IfSome content (λ c. RecoversPlaced c log (Ok found))
-done_known None log k found sized level past f = tt
-done_known (Some c) log k found sized level past f = all_found c log k found sized level past f
+pub done_known : (content : Option Content) (log : List Entry) (k : ℕ) (found : RecoveredBlocks) → IfSome content HasSizes → All IsLevel log → length log ≤ k → AreShadows log found.shadows.items → IfSome content (λ c. Found c log k found.bodies.items) → IfSome content (λ c. RecoversPlaced c log (Ok found))
+done_known None log k found sized level past shadows f = tt
+done_known (Some c) log k found sized level past shadows f = all_found c log k found sized level past shadows f

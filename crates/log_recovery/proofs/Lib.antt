@@ -1,5 +1,9 @@
 pub mod Walking
 pub mod Saying
+pub mod Grouping
+pub mod Marking
 pub mod Steps
+pub mod Clusters
 pub mod Ending
 pub mod Placing
+pub mod Wholes

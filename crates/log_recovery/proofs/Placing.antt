@@ -1,5 +1,5 @@
 -- Blocks as keys, and the places that a map has of them.
-use Rattle.std.proofs.Common.{◌≡◌, ℕ, zero, suc, ◌+◌, ◌-◌, ◌<◌, Bool, true, false, cond, ◌&&◌, List, [], ◌∷◌, length, drop, get_or, Option, Some, None, refl, sym, ap, ◌∙◌, arith}
+use Rattle.std.proofs.Common.{◌≡◌, ℕ, zero, suc, ◌+◌, ◌-◌, ◌<◌, Bool, true, false, not, cond, ◌&&◌, ◌||◌, List, [], ◌∷◌, length, drop, get_or, Option, Some, refl, sym, ap, ◌∙◌, arith}
 use Rattle.std.specs.Prelude.{if◌then◌else◌, ◌==◌, option_map}
 use Rattle.std.specs.List.{slice_get}
 use Rattle.std.specs.declared.cmp.Ordering.{Ordering}
@@ -42,6 +42,31 @@ key_equal a b =
 -- after a block is put
 pub put_at : (block b : Block) (old now : Option ℕ) (place : ℕ) → now ≡ cond (eq_by_cmp key_order (key_of block) (key_of b)) (Some place) old → now ≡ (if same_block b block then Some place else old)
 put_at block b old now place made = made ∙ ap (λ (t : Bool). cond t (Some place) old) (key_equal block b ∙ same_block-swap block b)
+
+-- after a block is met
+pub met_at : (block b : Block) (old now : Bool) → now ≡ cond (eq_by_cmp key_order (key_of block) (key_of b)) true old → now ≡ (old || same_block b block)
+met_at block b old now made = made ∙ ap (λ (t : Bool). cond t true old) (key_equal block b ∙ same_block-swap block b) ∙ swap (same_block b block) old
+  where
+    swap : (t o : Bool) → cond t true o ≡ (o || t)
+    swap true true = refl
+    swap true false = refl
+    swap false true = refl
+    swap false false = refl
+
+-- a block that was met before, and one that wasn't
+pub met_again : (first met updated : Bool) → first ≡ not met → met ≡ updated → first ≡ false → updated ≡ true
+met_again first met updated is same again = sym same ∙ turn met (sym is ∙ again)
+  where
+    turn : (t : Bool) → not t ≡ false → t ≡ true
+    turn true e = refl
+    turn false e = absurd cc
+
+pub met_first : (first met updated : Bool) → first ≡ not met → met ≡ updated → first ≡ true → updated ≡ false
+met_first first met updated is same new = sym same ∙ turn met (sym is ∙ new)
+  where
+    turn : (t : Bool) → not t ≡ true → t ≡ false
+    turn true e = absurd cc
+    turn false e = refl
 
 -- one more from the end
 pub place_more : (bodies : List RecoveredBlock) (done i : ℕ) (r : RecoveredBlock) (b : Block) (old now : Option ℕ) → length bodies ≡ i + done + 1 → r ≡ get_or bodies i r → now ≡ (if same_block b r.block then Some i else old)

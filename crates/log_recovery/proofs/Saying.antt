@@ -1,18 +1,15 @@
 -- What is found of a block is what is meant of it.
-use Rattle.std.proofs.Common.{◌≡◌, ℕ, ◌+◌, ◌<◌, Bool, true, false, not, ◌||◌, ◌&&◌, eqb, List, [], ◌∷◌, ◌++◌, length, take, drop, get_or, Option, Some, None, refl, sym, ap, ◌∙◌, arith}
-use Rattle.std.specs.Prelude.{if◌then◌else◌, All, nat_eq, IfSome}
-use Rattle.std.specs.List.{AllByRecursion}
+use Rattle.std.proofs.Common.{◌≡◌, ℕ, Bool, true, false, not, ◌||◌, ◌&&◌, List, Option, Some, None, refl, sym, ap, ◌∙◌}
+use Rattle.std.specs.Prelude.{if◌then◌else◌, All, nat_eq}
 use Rattle.std.specs.Cmp.Lexicographic.{pointwise}
-use Rattle.std.proofs.lemmas.List.Elements.{recursion_from_All}
 use Rattle.disk_model.specs.declared.block.Block.{Block}
 use Rattle.disk_model.specs.declared.block.BlockKind.TheVariants.{Plain}
 use Rattle.disk_model.specs.Bodies.{BodyOf}
 use Rattle.disk_model.specs.Sectors.{same_kind}
 use Rattle.disk_model.specs.Content.{Content, HasSizes}
-use Rattle.disk_model.specs.Writes.{bytes_after, overlay}
 use Rattle.disk_model.proofs.Frames.{bytes_after-append}
 use Rattle.log_model.specs.declared.entry.Entry.{Entry}
-use Rattle.log_model.specs.Logs.{IsLevel, is_ended, is_shadowed, first_rival, undos_back, redos, recovery_of, recovered, is_covered_whole, is_other, is_written_out, is_partial}
+use Rattle.log_model.specs.Logs.{IsLevel, is_ended, is_shadowed, undos_back, redos, recovered, is_covered_whole, is_other, is_written_out, is_partial}
 use Rattle.log_model.proofs.Recovering.{changes, torn_after}
 use Rattle.log_recovery.specs.declared.found.Judged.{Judged}
 use Rattle.log_recovery.specs.declared.found.Judged.TheVariants.{Shadowed, Partial, Kept, Made}
@@ -88,49 +85,35 @@ partial-shadowed c log b shadowed =
 
 abbrev pub made_of : Judged → Option BodyOf
 made_of (Made body) = Some body
-made_of (Shadowed lsn) = None
+made_of Shadowed = None
 made_of Partial = None
 made_of Kept = None
-
-abbrev pub lsn_of : Judged → Option ℕ
-lsn_of (Shadowed lsn) = Some lsn
-lsn_of (Made body) = None
-lsn_of Partial = None
-lsn_of Kept = None
-
--- the first update of a rival of a shadowed block
-abbrev pub rival_at : List Entry → Block → Option ℕ
-rival_at log b = if is_shadowed log b then first_rival log b else None
 
 -- what was found is what is meant; of a block that is recovered in part no body is told
 pub record Says (c : Content) (log : List Entry) (b : Block) (judged : Judged) : Type 0 where
   pub body : is_part judged ≡ false → written_body c log b ≡ made_of judged
-  pub lsn : rival_at log b ≡ lsn_of judged
   pub part : is_partial c log b ≡ is_part judged
 
 choose : {X : Type 0} (t u : Bool) (x : Option X) → t ≡ u → (if t then x else None) ≡ (if u then x else None)
 choose t u x e = ap (λ (s : Bool). if s then x else None) e
 
 pub says : (c : Content) (log : List Entry) (b : Block) (judged : Judged) → HasSizes c → All IsLevel log → is_updated log b ≡ true → Judges (is_ended log) log b (c b) judged → Says c log b judged
-says c log b (Shadowed lsn) sized level updated j =
-    let shadowed = shadowed-is log b ∙ j.0 in
+says c log b Shadowed sized level updated j =
+    let shadowed = shadowed-is log b ∙ j in
     record {
       body = λ whole. choose (is_written_out c log b) false (Some (recovered c log b)) (written-shadowed c log b updated shadowed);
-      lsn = choose (is_shadowed log b) true (first_rival log b) shadowed ∙ j.1;
       part = partial-shadowed c log b shadowed;
     }
 says c log b Partial sized level updated j =
     let seen = shadowed-is log b ∙ j.0 in
     record {
       body = λ whole. absurd cc;
-      lsn = choose (is_shadowed log b) false (first_rival log b) seen;
       part = partial-seen c log b seen ∙ j.1;
     }
 says c log b Kept sized level updated j =
     let seen = shadowed-is log b ∙ j.seen in
     record {
       body = λ whole. choose (is_written_out c log b) false (Some (recovered c log b)) (written-seen c log b updated seen ∙ j.made);
-      lsn = choose (is_shadowed log b) false (first_rival log b) seen;
       part = partial-seen c log b seen ∙ j.part;
     }
 says c log b (Made body) sized level updated j =
@@ -138,11 +121,5 @@ says c log b (Made body) sized level updated j =
     record {
       body = λ whole. choose (is_written_out c log b) true (Some (recovered c log b)) (written-seen c log b updated seen ∙ j.0.made)
           ∙ ap (λ (x : BodyOf). Some x) (recovered-seen c log b sized level seen ∙ sym j.1);
-      lsn = choose (is_shadowed log b) false (first_rival log b) seen;
       part = partial-seen c log b seen ∙ j.0.part;
     }
-
--- a shadowed block, whatever stands on the disk
-pub shadow_judged : (ended : ℕ → Bool) (log : List Entry) (b : Block) (lsn : ℕ) (content : Option Content) → shadowed_by ended log b ≡ true → first_rival log b ≡ Some lsn → IfSome content (λ c. Judges ended log b (c b) (Shadowed lsn))
-shadow_judged ended log b lsn None shadowed rival = tt
-shadow_judged ended log b lsn (Some c) shadowed rival = (shadowed, rival)

@@ -1,8 +1,8 @@
 -- One entry more: its block is added to what was found, or was found before.
-use Rattle.std.proofs.Common.{◌≡◌, ℕ, suc, ◌+◌, ◌<◌, Bool, true, false, not, ◌||◌, ◌&&◌, List, [], ◌∷◌, ◌++◌, length, take, drop, get_or, Option, Some, None, refl, sym, ap, ◌∙◌, subst, arith}
-use Rattle.std.specs.Prelude.{if◌then◌else◌, All, map, find, ◌==◌}
+use Rattle.std.proofs.Common.{◌≡◌, ℕ, ◌+◌, ◌<◌, Bool, true, false, ◌||◌, List, [], ◌∷◌, ◌++◌, length, take, drop, get_or, Option, Some, None, refl, sym, ap, ◌∙◌, subst}
+use Rattle.std.specs.Prelude.{if◌then◌else◌, map, find, ◌==◌}
 use Rattle.std.proofs.lemmas.Bool.{eq-eqb, and_from}
-use Rattle.std.specs.List.{list_any, AllByRecursion, IsDistinct}
+use Rattle.std.specs.List.{AllByRecursion, IsDistinct}
 use Rattle.std.specs.Option.{option_or, option_map}
 use Rattle.std.proofs.lemmas.List.Folds.{list_any-append}
 use Rattle.disk_model.specs.declared.block.Block.{Block}
@@ -10,21 +10,19 @@ use Rattle.disk_model.specs.Bodies.{BodyOf}
 use Rattle.disk_model.specs.declared.block.BlockKind.{BlockKind}
 use Rattle.disk_model.specs.declared.block.BlockKind.TheVariants.{Plain, FileRec, Index}
 use Rattle.disk_model.specs.Sectors.{same_block, same_kind}
-use Rattle.disk_model.specs.Content.{Content, HasSizes}
+use Rattle.disk_model.specs.Content.{Content}
 use Rattle.disk_model.proofs.Frames.{same_block-is}
 use Rattle.log_model.specs.declared.entry.Entry.{Entry}
 use Rattle.log_model.specs.declared.entry.Act.{Act}
 use Rattle.log_model.specs.declared.entry.Act.TheVariants.{Update, Commit}
 use Rattle.log_model.specs.Logs.{updates, is_partial, updates_partial, first_partial}
 use Rattle.log_recovery.specs.declared.found.RecoveredBlock.{RecoveredBlock}
-use Rattle.log_recovery.specs.declared.found.Shadow.{Shadow}
-use Rattle.log_recovery.specs.declared.found.RecoveredBlocks.{RecoveredBlocks}
 use Rattle.log_recovery.specs.declared.found.Judged.{Judged}
 use Rattle.log_recovery.specs.declared.found.Judged.TheVariants.{Shadowed, Partial, Kept, Made}
-use Rattle.log_recovery.specs.Recovering.{is_updated, held, written_body, body_block, shadow_block}
-use Rattle.log_recovery.specs.Finding.{bodies_with, shadows_with, is_part, Adds, Found, update_block}
+use Rattle.log_recovery.specs.Recovering.{is_updated, held, written_body, body_block}
+use Rattle.log_recovery.specs.Finding.{bodies_with, is_part, Adds, Found, update_block}
 use Rattle.log_recovery.proofs.Walking.{rest_is, front_is}
-use Rattle.log_recovery.proofs.Saying.{Says, made_of, lsn_of, rival_at}
+use Rattle.log_recovery.proofs.Saying.{Says, made_of}
 
 -- ---- blocks
 
@@ -74,7 +72,7 @@ one_or : {X : Type 0} (s : Bool) (x : X) (o p q : Option X) → o ≡ option_or 
 one_or true x o p q e = refl
 one_or false x o p q e = e
 
-held-push : {R X : Type 0} (at : R → Block) (of : R → X) (rs : List R) (r : R) (b : Block) → held at of (rs ++ r ∷ []) b ≡ option_or (held at of rs b) (if same_block b (at r) then Some (of r) else None)
+pub held-push : {R X : Type 0} (at : R → Block) (of : R → X) (rs : List R) (r : R) (b : Block) → held at of (rs ++ r ∷ []) b ≡ option_or (held at of rs b) (if same_block b (at r) then Some (of r) else None)
 held-push at of [] r b = refl
 held-push at of (x ∷ rs) r b = one_or (same_block b (at x)) (of x) _ _ _ (held-push at of rs r b)
 
@@ -86,15 +84,9 @@ none_or (Some x) s w e = refl
 -- with what was found of the block
 pub held-bodies_with : (judged : Judged) (b0 : Block) (bodies : List RecoveredBlock) (b : Block) → held body_block (λ r. r.body) (bodies_with judged b0 bodies) b ≡ option_or (held body_block (λ r. r.body) bodies b) (if same_block b b0 then made_of judged else None)
 held-bodies_with (Made body) b0 bodies b = held-push body_block (λ (r : RecoveredBlock). r.body) bodies (record { block = b0; body = body }) b
-held-bodies_with (Shadowed lsn) b0 bodies b = none_or (held body_block (λ (r : RecoveredBlock). r.body) bodies b) (same_block b b0) None refl
+held-bodies_with Shadowed b0 bodies b = none_or (held body_block (λ (r : RecoveredBlock). r.body) bodies b) (same_block b b0) None refl
 held-bodies_with Partial b0 bodies b = none_or (held body_block (λ (r : RecoveredBlock). r.body) bodies b) (same_block b b0) None refl
 held-bodies_with Kept b0 bodies b = none_or (held body_block (λ (r : RecoveredBlock). r.body) bodies b) (same_block b b0) None refl
-
-pub held-shadows_with : (judged : Judged) (b0 : Block) (shadows : List Shadow) (b : Block) → held shadow_block (λ s. s.lsn) (shadows_with judged b0 shadows) b ≡ option_or (held shadow_block (λ s. s.lsn) shadows b) (if same_block b b0 then lsn_of judged else None)
-held-shadows_with (Shadowed lsn) b0 shadows b = held-push shadow_block (λ (s : Shadow). s.lsn) shadows (record { block = b0; lsn = lsn }) b
-held-shadows_with (Made body) b0 shadows b = none_or (held shadow_block (λ (s : Shadow). s.lsn) shadows b) (same_block b b0) None refl
-held-shadows_with Partial b0 shadows b = none_or (held shadow_block (λ (s : Shadow). s.lsn) shadows b) (same_block b b0) None refl
-held-shadows_with Kept b0 shadows b = none_or (held shadow_block (λ (s : Shadow). s.lsn) shadows b) (same_block b b0) None refl
 
 -- ---- each once
 
@@ -122,20 +114,14 @@ map-push : {R : Type 0} (at : R → Block) (rs : List R) (r : R) → map at (rs 
 map-push at [] r = refl
 map-push at (x ∷ rs) r = ap (λ (l : List Block). at x ∷ l) (map-push at rs r)
 
-pushed_once : {R X : Type 0} (at : R → Block) (of : R → X) (rs : List R) (r : R) → IsDistinct same_block (map at rs) → held at of rs (at r) ≡ None → IsDistinct same_block (map at (rs ++ r ∷ []))
+pub pushed_once : {R X : Type 0} (at : R → Block) (of : R → X) (rs : List R) (r : R) → IsDistinct same_block (map at rs) → held at of rs (at r) ≡ None → IsDistinct same_block (map at (rs ++ r ∷ []))
 pushed_once at of rs r distinct none = subst (IsDistinct same_block) (sym (map-push at rs r)) (distinct_push (map at rs) (at r) distinct (others at of rs (at r) none))
 
 pub bodies_once : (judged : Judged) (b0 : Block) (bodies : List RecoveredBlock) → IsDistinct same_block (map body_block bodies) → held body_block (λ r. r.body) bodies b0 ≡ None → IsDistinct same_block (map body_block (bodies_with judged b0 bodies))
 bodies_once (Made body) b0 bodies distinct none = pushed_once body_block (λ (r : RecoveredBlock). r.body) bodies (record { block = b0; body = body }) distinct none
-bodies_once (Shadowed lsn) b0 bodies distinct none = distinct
+bodies_once Shadowed b0 bodies distinct none = distinct
 bodies_once Partial b0 bodies distinct none = distinct
 bodies_once Kept b0 bodies distinct none = distinct
-
-pub shadows_once : (judged : Judged) (b0 : Block) (shadows : List Shadow) → IsDistinct same_block (map shadow_block shadows) → held shadow_block (λ s. s.lsn) shadows b0 ≡ None → IsDistinct same_block (map shadow_block (shadows_with judged b0 shadows))
-shadows_once (Shadowed lsn) b0 shadows distinct none = pushed_once shadow_block (λ (s : Shadow). s.lsn) shadows (record { block = b0; lsn = lsn }) distinct none
-shadows_once (Made body) b0 shadows distinct none = distinct
-shadows_once Partial b0 shadows distinct none = distinct
-shadows_once Kept b0 shadows distinct none = distinct
 
 -- ---- one block more
 
@@ -210,23 +196,21 @@ rest_more p log k e lt is fails so_far = sym (find_behind p e (drop (k + 1) log)
 
 -- ---- the steps
 
-same_found : (c : Content) (log : List Entry) (k : ℕ) (e : Entry) (found : RecoveredBlocks) → ((b : Block) → is_updated (take (k + 1) log) b ≡ is_updated (take k log) b) → k < length log → e ≡ get_or log k e → updates_partial c log e.act ≡ false → Found c log k found → Found c log (k + 1) found
+same_found : (c : Content) (log : List Entry) (k : ℕ) (e : Entry) (found : List RecoveredBlock) → ((b : Block) → is_updated (take (k + 1) log) b ≡ is_updated (take k log) b) → k < length log → e ≡ get_or log k e → updates_partial c log e.act ≡ false → Found c log k found → Found c log (k + 1) found
 same_found c log k e found same lt is fails f = record {
-  bodies = λ b. f.bodies b ∙ ap (λ (t : Bool). if t then written_body c log b else None) (sym (same b));
+  held = λ b. f.held b ∙ ap (λ (t : Bool). if t then written_body c log b else None) (sym (same b));
   once = f.once;
-  shadows = λ b. f.shadows b ∙ ap (λ (t : Bool). if t then rival_at log b else None) (sym (same b));
-  shadowed_once = f.shadowed_once;
   whole = λ b u. f.whole b (sym (same b) ∙ u);
   rest = rest_more (λ (x : Entry). updates_partial c log x.act) log k e lt is fails f.rest;
 }
 
 -- an entry that is no update
-pub no_update : (c : Content) (log : List Entry) (k : ℕ) (e : Entry) (found : RecoveredBlocks) → k < length log → e ≡ get_or log k e → update_block e.act ≡ None → Found c log k found → Found c log (k + 1) found
+pub no_update : (c : Content) (log : List Entry) (k : ℕ) (e : Entry) (found : List RecoveredBlock) → k < length log → e ≡ get_or log k e → update_block e.act ≡ None → Found c log k found → Found c log (k + 1) found
 no_update c log k e found lt is none f =
     same_found c log k e found (λ b. updated_more log k e b lt is ∙ ap (λ (t : Bool). is_updated (take k log) b || t) (block_none e.act b none) ∙ or_false (is_updated (take k log) b)) lt is (partial_none c log e.act none) f
 
 -- an update of a block that was updated before
-pub updated_again : (c : Content) (log : List Entry) (k : ℕ) (e : Entry) (b0 : Block) (found : RecoveredBlocks) → k < length log → e ≡ get_or log k e → update_block e.act ≡ Some b0 → is_updated (take k log) b0 ≡ true → Found c log k found → Found c log (k + 1) found
+pub updated_again : (c : Content) (log : List Entry) (k : ℕ) (e : Entry) (b0 : Block) (found : List RecoveredBlock) → k < length log → e ≡ get_or log k e → update_block e.act ≡ Some b0 → is_updated (take k log) b0 ≡ true → Found c log k found → Found c log (k + 1) found
 updated_again c log k e b0 found lt is some again f =
     same_found c log k e found
     (λ b. updated_more log k e b lt is ∙ ap (λ (t : Bool). is_updated (take k log) b || t) (block_some e.act b0 b some) ∙ same_or (is_updated (take k log) b) (same_block b b0) (λ same. ap (is_updated (take k log)) (same_block-is b b0 same) ∙ again))
@@ -237,24 +221,18 @@ split_or true s e n = refl
 split_or false s e n = absurd cc
 
 -- the first update of a block
-pub added : (c : Content) (log : List Entry) (k : ℕ) (e : Entry) (b0 : Block) (judged : Judged) (old new : RecoveredBlocks) → k < length log → e ≡ get_or log k e → update_block e.act ≡ Some b0 → is_updated (take k log) b0 ≡ false
+pub added : (c : Content) (log : List Entry) (k : ℕ) (e : Entry) (b0 : Block) (judged : Judged) (old new : List RecoveredBlock) → k < length log → e ≡ get_or log k e → update_block e.act ≡ Some b0 → is_updated (take k log) b0 ≡ false
     → Says c log b0 judged → Adds judged b0 old new → Found c log k old → Found c log (k + 1) new
 added c log k e b0 judged old new lt is some first said adds f =
     let part = said.part ∙ adds.whole in
     let more = λ (b : Block). updated_more log k e b lt is ∙ ap (λ (t : Bool). is_updated (take k log) b || t) (block_some e.act b0 b some) in
     record {
-      bodies = grows (is_updated (take k log)) (is_updated (take (k + 1) log)) b0 (written_body c log) (held body_block (λ (r : RecoveredBlock). r.body) old.bodies.items) (held body_block (λ (r : RecoveredBlock). r.body) new.bodies.items) more first
-          (λ b. ap (λ (rs : List RecoveredBlock). held body_block (λ (r : RecoveredBlock). r.body) rs b) adds.bodies ∙ held-bodies_with judged b0 old.bodies.items b
-          ∙ ap (λ (o : Option BodyOf). option_or (held body_block (λ (r : RecoveredBlock). r.body) old.bodies.items b) (if same_block b b0 then o else None)) (sym (said.body adds.whole)))
-          f.bodies;
+      held = grows (is_updated (take k log)) (is_updated (take (k + 1) log)) b0 (written_body c log) (held body_block (λ (r : RecoveredBlock). r.body) old) (held body_block (λ (r : RecoveredBlock). r.body) new) more first
+          (λ b. ap (λ (rs : List RecoveredBlock). held body_block (λ (r : RecoveredBlock). r.body) rs b) adds.bodies ∙ held-bodies_with judged b0 old b
+          ∙ ap (λ (o : Option BodyOf). option_or (held body_block (λ (r : RecoveredBlock). r.body) old b) (if same_block b b0 then o else None)) (sym (said.body adds.whole)))
+          f.held;
       once = subst (λ (rs : List RecoveredBlock). IsDistinct same_block (map body_block rs)) (sym adds.bodies)
-          (bodies_once judged b0 old.bodies.items f.once (f.bodies b0 ∙ ap (λ (t : Bool). if t then written_body c log b0 else None) first));
-      shadows = grows (is_updated (take k log)) (is_updated (take (k + 1) log)) b0 (rival_at log) (held shadow_block (λ (s : Shadow). s.lsn) old.shadows.items) (held shadow_block (λ (s : Shadow). s.lsn) new.shadows.items) more first
-          (λ b. ap (λ (rs : List Shadow). held shadow_block (λ (s : Shadow). s.lsn) rs b) adds.shadows ∙ held-shadows_with judged b0 old.shadows.items b
-          ∙ ap (λ (o : Option ℕ). option_or (held shadow_block (λ (s : Shadow). s.lsn) old.shadows.items b) (if same_block b b0 then o else None)) (sym said.lsn))
-          f.shadows;
-      shadowed_once = subst (λ (rs : List Shadow). IsDistinct same_block (map shadow_block rs)) (sym adds.shadows)
-          (shadows_once judged b0 old.shadows.items f.shadowed_once (f.shadows b0 ∙ ap (λ (t : Bool). if t then rival_at log b0 else None) first));
+          (bodies_once judged b0 old f.once (f.held b0 ∙ ap (λ (t : Bool). if t then written_body c log b0 else None) first));
       whole = λ b u. whole_more b (same_block b b0) refl u;
       rest = rest_more (λ (x : Entry). updates_partial c log x.act) log k e lt is (partial_some c log e.act b0 some ∙ part) f.rest;
     }
@@ -264,7 +242,7 @@ added c log k e b0 judged old new lt is some first said adds f =
     whole_more b false same u = f.whole b (split_or (is_updated (take k log) b) (same_block b b0) (sym (updated_more log k e b lt is ∙ ap (λ (t : Bool). is_updated (take k log) b || t) (block_some e.act b0 b some)) ∙ u) same)
 
 -- a block that is recovered in part
-pub refused : (c : Content) (log : List Entry) (k : ℕ) (e : Entry) (b0 : Block) (judged : Judged) (found : RecoveredBlocks) → k < length log → e ≡ get_or log k e → update_block e.act ≡ Some b0
+pub refused : (c : Content) (log : List Entry) (k : ℕ) (e : Entry) (b0 : Block) (judged : Judged) (found : List RecoveredBlock) → k < length log → e ≡ get_or log k e → update_block e.act ≡ Some b0
     → Says c log b0 judged → is_part judged ≡ true → Found c log k found → first_partial c log ≡ Some e.lsn
 refused c log k e b0 judged found lt is some said part f =
     let p = λ (x : Entry). updates_partial c log x.act in

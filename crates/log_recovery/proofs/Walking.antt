@@ -2,9 +2,9 @@
 use Rattle.std.proofs.Common.{◌≡◌, ℕ, suc, ◌+◌, ◌-◌, ◌<◌, Bool, true, false, ◌||◌, ◌&&◌, List, [], ◌∷◌, ◌++◌, length, take, drop, get_or, Option, Some, None, refl, sym, ap, ◌∙◌, append_assoc, cond, arith}
 use Rattle.std.specs.Ordering.{eq_by_cmp, nat_cmp}
 use Rattle.std.proofs.lemmas.Bool.Decides.{nat_tests}
-use Rattle.std.specs.Prelude.{unwrap_or, if◌then◌else◌, find, ◌==◌}
-use Rattle.std.specs.Option.{option_or, option_map}
-use Rattle.std.specs.List.{list_any}
+use Rattle.std.specs.Prelude.{unwrap_or, ◌==◌}
+use Rattle.std.specs.Option.{option_or}
+use Rattle.std.specs.Borrow.{Bor}
 use Rattle.std.proofs.Math.Seq.{drop-cons}
 use Rattle.std.proofs.lemmas.List.{take_more}
 use Rattle.std.proofs.lemmas.List.Folds.{list_any-append}
@@ -12,37 +12,49 @@ use Rattle.disk_model.specs.declared.block.Block.{Block}
 use Rattle.disk_model.specs.Writes.{Write, bytes_after}
 use Rattle.disk_model.proofs.Frames.{bytes_after-append}
 use Rattle.log_model.specs.declared.entry.Entry.{Entry}
-use Rattle.log_model.specs.Logs.{act_says, last_said, undo_of, redo_of, undos_back, redos, is_ended, is_commit, updates, updates_rival, first_rival}
-use Rattle.log_recovery.specs.Blocks.{shadowed_by}
+use Rattle.log_model.specs.Logs.{act_says, last_said, undo_of, redo_of, undos_back, redos, is_ended, is_commit}
+use Rattle.log_recovery.specs.Groups.{lent}
 
--- the entries from this place on
-pub rest_is : (log : List Entry) (k : ℕ) (e : Entry) → k < length log → e ≡ get_or log k e → drop k log ≡ e ∷ drop (k + 1) log
-rest_is log k e lt is =
+-- the items from this place on
+pub rest_is : {X : Type 0} (xs : List X) (k : ℕ) (x : X) → k < length xs → x ≡ get_or xs k x → drop k xs ≡ x ∷ drop (k + 1) xs
+rest_is {X} xs k x lt is =
     let next : suc k ≡ k + 1 = omega arith in
-    drop-cons log k e lt ∙ ap (λ (x : Entry). x ∷ drop (suc k) log) (sym is) ∙ ap (λ (j : ℕ). e ∷ drop j log) next
+    drop-cons xs k x lt ∙ ap (λ (y : X). y ∷ drop (suc k) xs) (sym is) ∙ ap (λ (j : ℕ). x ∷ drop j xs) next
 
 -- and those up to it
-pub front_is : (log : List Entry) (k : ℕ) (e : Entry) → k < length log → e ≡ get_or log k e → take (k + 1) log ≡ take k log ++ e ∷ []
-front_is log k e lt is = take_more log k e lt ∙ ap (λ (x : Entry). take k log ++ x ∷ []) (sym is)
+pub front_is : {X : Type 0} (xs : List X) (k : ℕ) (x : X) → k < length xs → x ≡ get_or xs k x → take (k + 1) xs ≡ take k xs ++ x ∷ []
+front_is {X} xs k x lt is = take_more xs k x lt ∙ ap (λ (y : X). take k xs ++ y ∷ []) (sym is)
+
+pub lent-append : (xs ys : List (Bor Entry)) → lent (xs ++ ys) ≡ lent xs ++ lent ys
+lent-append [] ys = refl
+lent-append (x ∷ xs) ys = ap (λ (es : List Entry). x.now ∷ es) (lent-append xs ys)
+
+lent_rest : (group : List (Bor Entry)) (k : ℕ) (e : Bor Entry) → k < length group → e ≡ get_or group k e → lent (drop k group) ≡ e.now ∷ lent (drop (k + 1) group)
+lent_rest group k e lt is = ap lent (rest_is group k e lt is)
+
+pub lent_front : (group : List (Bor Entry)) (k : ℕ) (e : Bor Entry) → k < length group → e ≡ get_or group k e → lent (take (k + 1) group) ≡ lent (take k group) ++ e.now ∷ []
+lent_front group k e lt is = ap lent (front_is group k e lt is) ∙ lent-append (take k group) (e ∷ [])
 
 unwrap_or-or : (o p : Option Bool) (d : Bool) → unwrap_or (option_or o p) d ≡ unwrap_or o (unwrap_or p d)
 unwrap_or-or None p d = refl
 unwrap_or-or (Some x) p d = refl
 
-pub said_more : (ended : ℕ → Bool) (log : List Entry) (k : ℕ) (e : Entry) (b : Block) (before now all : Bool) → k < length log → e ≡ get_or log k e → now ≡ unwrap_or (act_says b (ended e.tx) e.act) before
-    → unwrap_or (last_said ended (drop k log) b) before ≡ all → unwrap_or (last_said ended (drop (k + 1) log) b) now ≡ all
-said_more ended log k e b before now all lt is said so_far =
-    ap (unwrap_or (last_said ended (drop (k + 1) log) b)) said
-    ∙ sym (unwrap_or-or (last_said ended (drop (k + 1) log) b) (act_says b (ended e.tx) e.act) before)
-    ∙ sym (ap (λ (xs : List Entry). unwrap_or (last_said ended xs b) before) (rest_is log k e lt is))
+pub said_more : (ended : ℕ → Bool) (group : List (Bor Entry)) (k : ℕ) (e : Bor Entry) (b : Block) (before now all : Bool) → k < length group → e ≡ get_or group k e → now ≡ unwrap_or (act_says b (ended e.now.tx) e.now.act) before
+    → unwrap_or (last_said ended (lent (drop k group)) b) before ≡ all → unwrap_or (last_said ended (lent (drop (k + 1) group)) b) now ≡ all
+said_more ended group k e b before now all lt is said so_far =
+    let rest = lent (drop (k + 1) group) in
+    ap (unwrap_or (last_said ended rest b)) said
+    ∙ sym (unwrap_or-or (last_said ended rest b) (act_says b (ended e.now.tx) e.now.act) before)
+    ∙ sym (ap (λ (xs : List Entry). unwrap_or (last_said ended xs b) before) (lent_rest group k e lt is))
     ∙ so_far
 
-pub redone_more : (ended : ℕ → Bool) (log : List Entry) (k : ℕ) (e : Entry) (b : Block) (bytes now all : List ℕ) → k < length log → e ≡ get_or log k e → now ≡ bytes_after (redo_of (ended e.tx) e.act) b bytes
-    → bytes_after (redos ended (drop k log)) b bytes ≡ all → bytes_after (redos ended (drop (k + 1) log)) b now ≡ all
-redone_more ended log k e b bytes now all lt is made so_far =
-    ap (bytes_after (redos ended (drop (k + 1) log)) b) made
-    ∙ sym (bytes_after-append (redo_of (ended e.tx) e.act) (redos ended (drop (k + 1) log)) b bytes)
-    ∙ sym (ap (λ (xs : List Entry). bytes_after (redos ended xs) b bytes) (rest_is log k e lt is))
+pub redone_more : (ended : ℕ → Bool) (group : List (Bor Entry)) (k : ℕ) (e : Bor Entry) (b : Block) (bytes now all : List ℕ) → k < length group → e ≡ get_or group k e → now ≡ bytes_after (redo_of (ended e.now.tx) e.now.act) b bytes
+    → bytes_after (redos ended (lent (drop k group))) b bytes ≡ all → bytes_after (redos ended (lent (drop (k + 1) group))) b now ≡ all
+redone_more ended group k e b bytes now all lt is made so_far =
+    let rest = lent (drop (k + 1) group) in
+    ap (bytes_after (redos ended rest) b) made
+    ∙ sym (bytes_after-append (redo_of (ended e.now.tx) e.now.act) (redos ended rest) b bytes)
+    ∙ sym (ap (λ (xs : List Entry). bytes_after (redos ended xs) b bytes) (lent_rest group k e lt is))
     ∙ so_far
 
 -- the last entry is undone first
@@ -55,18 +67,19 @@ undos_back-push [] e = sym (append-none (undo_of e.act))
 undos_back-push (x ∷ log) e =
     ap (λ (ws : List Write). ws ++ undo_of x.act) (undos_back-push log e) ∙ append_assoc (undo_of e.act) (undos_back log) (undo_of x.act)
 
-pub undone_more : (log : List Entry) (k i : ℕ) (e : Entry) (b : Block) (bytes now all : List ℕ) → length log ≡ i + k + 1 → e ≡ get_or log i e → now ≡ bytes_after (undo_of e.act) b bytes
-    → bytes_after (undos_back (take (length log - k) log)) b bytes ≡ all → bytes_after (undos_back (take (length log - (k + 1)) log)) b now ≡ all
-undone_more log k i e b bytes now all size is made so_far =
-    let here : length log - k ≡ i + 1 = omega arith in
-    let next : length log - (k + 1) ≡ i = omega arith in
-    let lt : i < length log = omega arith in
-    ap (λ (n : ℕ). bytes_after (undos_back (take n log)) b now) next
-    ∙ ap (bytes_after (undos_back (take i log)) b) made
-    ∙ sym (bytes_after-append (undo_of e.act) (undos_back (take i log)) b bytes)
-    ∙ sym (ap (λ (ws : List Write). bytes_after ws b bytes) (undos_back-push (take i log) e))
-    ∙ sym (ap (λ (xs : List Entry). bytes_after (undos_back xs) b bytes) (front_is log i e lt is))
-    ∙ sym (ap (λ (n : ℕ). bytes_after (undos_back (take n log)) b bytes) here)
+pub undone_more : (group : List (Bor Entry)) (k i : ℕ) (e : Bor Entry) (b : Block) (bytes now all : List ℕ) → length group ≡ i + k + 1 → e ≡ get_or group i e → now ≡ bytes_after (undo_of e.now.act) b bytes
+    → bytes_after (undos_back (lent (take (length group - k) group))) b bytes ≡ all → bytes_after (undos_back (lent (take (length group - (k + 1)) group))) b now ≡ all
+undone_more group k i e b bytes now all size is made so_far =
+    let here : length group - k ≡ i + 1 = omega arith in
+    let next : length group - (k + 1) ≡ i = omega arith in
+    let lt : i < length group = omega arith in
+    let front = lent (take i group) in
+    ap (λ (n : ℕ). bytes_after (undos_back (lent (take n group))) b now) next
+    ∙ ap (bytes_after (undos_back front) b) made
+    ∙ sym (bytes_after-append (undo_of e.now.act) (undos_back front) b bytes)
+    ∙ sym (ap (λ (ws : List Write). bytes_after ws b bytes) (undos_back-push front e.now))
+    ∙ sym (ap (λ (xs : List Entry). bytes_after (undos_back xs) b bytes) (lent_front group i e lt is))
+    ∙ sym (ap (λ (n : ℕ). bytes_after (undos_back (lent (take n group))) b bytes) here)
     ∙ so_far
 
 or_false : (a : Bool) → (a || false) ≡ a
@@ -95,30 +108,6 @@ ended_with log k e tx old new lt is commit made so_far =
 pub ended_without : (log : List Entry) (k : ℕ) (e : Entry) (tx : ℕ) (old : Bool) → k < length log → e ≡ get_or log k e → is_commit e.act ≡ false → old ≡ is_ended (take k log) tx → old ≡ is_ended (take (k + 1) log) tx
 ended_without log k e tx old lt is none so_far =
     so_far ∙ sym (ended_more log k e tx lt is ∙ ap (λ (t : Bool). is_ended (take k log) tx || (((e.tx == tx) && t) || false)) none ∙ or_nothing (is_ended (take k log) tx) (e.tx == tx))
-
--- ---- rivals
-
-said_behind : (o : Option Bool) (own : Bool) → unwrap_or (option_or o (if own then Some false else None)) false ≡ true → unwrap_or o false ≡ true
-said_behind None true e = e
-said_behind None false e = e
-said_behind (Some x) own e = e
-
--- an entry is found
-abbrev IsFound : Option Entry → Type 0
-IsFound o = option_map (λ (x : Entry). x.lsn) o ≡ Some (unwrap_or (option_map (λ (x : Entry). x.lsn) o) 0)
-
-one_rival : (rival : Bool) (x : Entry) (own : Bool) (o : Option Bool) (f : Option Entry) → (unwrap_or o false ≡ true → IsFound f) → unwrap_or (option_or o (if rival then Some true else (if own then Some false else None))) false ≡ true → IsFound (if rival then Some x else f)
-one_rival true x own o f found e = refl
-one_rival false x own o f found e = found (said_behind o own e)
-
-rival_found : (ended : ℕ → Bool) (log : List Entry) (b : Block) → unwrap_or (last_said ended log b) false ≡ true → IsFound (find (λ (x : Entry). updates_rival b x.act) log)
-rival_found ended [] b e = absurd cc
-rival_found ended (x ∷ log) b e = one_rival (updates_rival b x.act) x (updates b x.act && ended x.tx) (last_said ended log b) _ (rival_found ended log b) e
-
--- a shadowed block has an update of a rival
-pub shadow_has_rival : (ended : ℕ → Bool) (log : List Entry) (b : Block) → shadowed_by ended log b ≡ true → first_rival log b ≡ Some (unwrap_or (first_rival log b) 0)
-unfolding shadowed_by
-shadow_has_rival ended log b e = rival_found ended log b e
 
 -- ---- places in maps of numbers
 

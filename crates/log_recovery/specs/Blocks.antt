@@ -1,16 +1,15 @@
 -- What a list of entries makes of one block, where the transactions that are ended are known.
-use Rattle.std.specs.Prelude.{ℕ, ◌+◌, ◌*◌, ◌≡◌, ◌≤◌, ◌&&◌, ◌||◌, not, nat_eq, Bool, true, false, List, ◌++◌, length, Option, Some, None, unwrap_or}
+use Rattle.std.specs.Prelude.{ℕ, ◌+◌, ◌*◌, ◌≡◌, ◌≤◌, ◌&&◌, ◌||◌, not, nat_eq, Bool, true, false, List, length, unwrap_or}
 use Rattle.std.specs.Cmp.Lexicographic.{pointwise}
 use Rattle.disk_model.specs.declared.block.Block.{Block}
 use Rattle.disk_model.specs.declared.block.BlockKind.TheVariants.{Plain}
 use Rattle.disk_model.specs.Bodies.{BodyOf}
 use Rattle.disk_model.specs.Sectors.{sectors, same_kind}
-use Rattle.disk_model.specs.Content.{Content}
 use Rattle.disk_model.specs.Writes.{bytes_after}
 use Rattle.log_model.specs.declared.entry.Entry.{Entry}
 use Rattle.log_model.specs.declared.entry.Act.{Act}
 use Rattle.log_model.specs.declared.entry.Act.TheVariants.{Update, Commit}
-use Rattle.log_model.specs.Logs.{kind_of, last_said, first_rival, undos_back, redos, is_covered_whole}
+use Rattle.log_model.specs.Logs.{kind_of, last_said, undos_back, redos, is_covered_whole}
 use Rattle.log_recovery.specs.declared.found.Judged.{Judged}
 use Rattle.log_recovery.specs.declared.found.Judged.TheVariants.{Shadowed, Partial, Kept, Made}
 
@@ -53,7 +52,7 @@ pub record IsSeen (ended : ℕ → Bool) (log : List Entry) (b : Block) (body : 
 
 -- what is found of a block, of which this body stands on the disk
 abbrev pub Judges : (ℕ → Bool) → List Entry → Block → BodyOf → Judged → Type 0
-Judges ended log b body (Shadowed lsn) = (shadowed_by ended log b ≡ true) × (first_rival log b ≡ Some lsn)
+Judges ended log b body Shadowed = shadowed_by ended log b ≡ true
 Judges ended log b body Partial = (shadowed_by ended log b ≡ false) × (partial_by ended log b body ≡ true)
 Judges ended log b body Kept = IsSeen ended log b body false false
 Judges ended log b body (Made made) = IsSeen ended log b body false true × (made ≡ body_by ended log b body)

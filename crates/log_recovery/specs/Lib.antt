@@ -1,6 +1,9 @@
-pub mod Views
 pub mod Blocks
 pub mod Recovering
 pub mod Finding
 pub mod Sizes
 pub mod Places
+pub mod Groups
+pub mod Shadows
+pub mod LogStates
+pub mod Borrowing

@@ -1,15 +1,18 @@
--- Where blocks stand in a list of recovered blocks, as a map keeps them.
+-- Blocks as keys: which were met, as a set keeps them, and where they stand in a list of recovered blocks, as a map does.
 use Rattle.std.specs.Prelude.{◌≡◌, ℕ, ◌+◌, if◌then◌else◌, List, [], ◌∷◌, Option, Some, None, option_map}
 use Rattle.std.specs.List.{slice_get}
 use Rattle.std.specs.declared.cmp.Ordering.{Ordering}
 use Rattle.std.specs.Ordering.{nat_cmp, ordering_then}
 use Rattle.std.specs.BTreeMap.{BTreeMap, get}
+use Rattle.std.specs.BTreeSet.{BTreeSet, contains}
 use Rattle.disk_model.specs.declared.block.Block.{Block}
 use Rattle.disk_model.specs.declared.block.BlockKind.{BlockKind}
 use Rattle.disk_model.specs.declared.block.BlockKind.TheVariants.{Plain, FileRec, Index}
 use Rattle.disk_model.specs.Bodies.{BodyOf}
 use Rattle.disk_model.specs.Sectors.{same_block}
+use Rattle.log_model.specs.declared.entry.Entry.{Entry}
 use Rattle.log_recovery.specs.declared.found.RecoveredBlock.{RecoveredBlock}
+use Rattle.log_recovery.specs.Recovering.{is_updated}
 
 abbrev pub kind_number : BlockKind → ℕ
 kind_number Plain = 0
@@ -22,6 +25,10 @@ key_of b = (b.first, kind_number b.kind)
 
 abbrev pub key_order : ℕ × ℕ → ℕ × ℕ → Ordering
 key_order a b = ordering_then (nat_cmp a.0 b.0) (nat_cmp a.1 b.1)
+
+-- the set has the blocks of these updates
+abbrev pub HasMet : BTreeSet (ℕ × ℕ) → List Entry → Type 0
+HasMet met log = (b : Block) → contains key_order met (key_of b) ≡ is_updated log b
 
 -- the place of the first of these that stands for the block, where they stand from this place on
 abbrev pub place_from : ℕ → List RecoveredBlock → Block → Option ℕ

@@ -1,8 +1,10 @@
 -- What recovery answers: the blocks that it writes out, the shadowed blocks, or the entry that is refused.
-use Rattle.std.specs.Prelude.{ℕ, ◌≡◌, ◌*◌, ⊤, Bool, true, false, ◌&&◌, if◌then◌else◌, List, [], ◌∷◌, map, length, Option, Some, None, unwrap_or, Result, Ok, Err}
+use Rattle.std.specs.Prelude.{ℕ, ◌≡◌, ◌*◌, ◌%◌, ◌==◌, ⊤, Bool, true, ◌&&◌, if◌then◌else◌, List, [], ◌∷◌, map, length, Option, Some, None, unwrap_or, Result, Ok, Err}
 use Rattle.std.specs.List.{list_any, IsDistinct}
 use Rattle.std.specs.Option.{option_or}
 use Rattle.disk_model.specs.declared.block.Block.{Block}
+use Rattle.disk_model.specs.declared.block.BlockKind.{BlockKind}
+use Rattle.disk_model.specs.declared.block.BlockKind.TheVariants.{Plain, FileRec, Index}
 use Rattle.disk_model.specs.Bodies.{BodyOf}
 use Rattle.disk_model.specs.Sectors.{same_block, sectors}
 use Rattle.disk_model.specs.Content.{Content}
@@ -11,8 +13,8 @@ use Rattle.log_model.specs.Logs.{updates, is_shadowed, first_rival, recovered, i
 use Rattle.log_recovery.specs.declared.found.RecoveredBlock.{RecoveredBlock}
 use Rattle.log_recovery.specs.declared.found.Shadow.{Shadow}
 use Rattle.log_recovery.specs.declared.found.RecoveredBlocks.{RecoveredBlocks}
-use Rattle.log_recovery.specs.declared.fault.RecoveryFault.{RecoveryFault}
-use Rattle.log_recovery.specs.declared.fault.RecoveryFault.TheVariants.{LogVersion, NoRestart, ForeignLog, Fault, Memory}
+use Rattle.log_reading.specs.declared.fault.RecoveryFault.{RecoveryFault}
+use Rattle.log_reading.specs.declared.fault.RecoveryFault.TheVariants.{LogVersion, NoRestart, ForeignLog, Fault, Memory}
 
 -- some entry is an update of the block
 abbrev pub is_updated : List Entry → Block → Bool
@@ -53,12 +55,22 @@ IsSized r = length r.body.bytes ≡ 512 * sectors r.block.kind
 abbrev pub written_body : Content → List Entry → Block → Option BodyOf
 written_body c log b = if is_written_out c log b then Some (recovered c log b) else None
 
--- the first update of a rival of a block that has an update and is shadowed
+-- a block of this kind may begin in this sector: a file record in an even one, an index block in the first of eight
+abbrev pub may_begin : BlockKind → ℕ → Bool
+may_begin Plain first = true
+may_begin FileRec first = first % 2 == 0
+may_begin Index first = first % 8 == 0
+
+-- a block that an entry may update
+abbrev pub is_in_grid : Block → Bool
+is_in_grid b = may_begin b.kind b.first
+
+-- the LSN of the first update of a rival of a block of the grid that is shadowed
 abbrev pub shadow_lsn : List Entry → Block → Option ℕ
-shadow_lsn log b = if is_updated log b && is_shadowed log b then first_rival log b else None
+shadow_lsn log b = if is_in_grid b && is_shadowed log b then first_rival log b else None
 
 -- The bodies are the recovered ones of exactly the blocks that are written out, each once; the shadows are exactly the shadowed blocks
--- with an update, each once; and with these bodies the content is the recovered one.
+-- of the grid, each once; and with these bodies the content is the recovered one.
 pub record AreRecovered (c : Content) (log : List Entry) (found : RecoveredBlocks) : Type 0 where
   pub bodies : (b : Block) → held_body found.bodies.items b ≡ written_body c log b
   pub once : IsDistinct same_block (map body_block found.bodies.items)

@@ -19,15 +19,16 @@ pub struct Shadow {
 pub struct RecoveredBlocks {
     /// The blocks that recovery writes out, each once.
     pub bodies: Vec<RecoveredBlock>,
-    /// The shadowed blocks with an update in the log, each once.
+    /// The shadowed blocks, each once, of those that an entry may update: a file record begins in an
+    /// even sector, an index block in the first of eight. They may have no update of their own.
     pub shadows: Vec<Shadow>,
 }
 
 /// What is found of a block.
 #[derive(Drop)]
 pub enum Judged {
-    /// It is shadowed; the LSN is that of the first update of a rival.
-    Shadowed { lsn: u64 },
+    /// It is shadowed.
+    Shadowed,
     /// It is changed, has an update sequence and isn't covered whole.
     Partial,
     /// It stays as it is.

@@ -4,18 +4,20 @@ ghost use Rattle.std.specs.Ordering.{nat_cmp};
 ghost use Rattle.std.specs.BTreeSet.{contains};
 ghost use Rattle.host_base.specs.Causes.{Rose};
 ghost use Rattle.disk_model.specs.Sectors.{sectors};
-ghost use Rattle.log_recovery.specs.Views.{KeepsView, NeverForeign};
-ghost use Rattle.log_recovery.specs.Blocks.{Lies, Judges, shadowed_by};
+ghost use Rattle.log_reading.specs.Views.{KeepsView, NeverForeign};
+ghost use Rattle.log_recovery.specs.Blocks.{Judges, shadowed_by};
+ghost use Rattle.log_recovery.specs.Groups.{lent, LentLies};
 ghost use Rattle.log_recovery.specs.Finding.{IsSizedFor};
 
+use crate::covering::is_covered_whole;
 use crate::ended::Ended;
-use crate::fault::RecoveryFault;
 use crate::found::Judged;
 use crate::making::remake;
-use crate::walks::{is_covered_whole, is_shadowed, rival_of};
+use crate::walks::is_shadowed;
 use block_view::View;
 use disk_model::{Block, BlockKind, Body};
 use log_model::Entry;
+use log_reading::RecoveryFault;
 use std::alloc::{AllocError, Global};
 
 // A copy of a body.
@@ -33,20 +35,20 @@ fn copy_of(alloc: Global, body: &Body) -> Result<Body, AllocError>
 fn judge_seen(
     alloc: Global,
     ended: &Ended,
-    entries: &[Entry],
+    entries: &[&Entry],
     block: Block,
     before: &Body,
 ) -> Result<Judged, AllocError>
-    requires lies { All Lies entries.now }
+    requires lies { All LentLies entries.now }
     requires size { length before.now.bytes ≡ 512 * sectors block.kind }
-    requires seen { shadowed_by (contains nat_cmp ended.now) entries.now block ≡ false }
-    ensures judged { IfOk result (Judges (contains nat_cmp ended.now) entries.now block before.now) }
+    requires seen { shadowed_by (contains nat_cmp ended.now) (lent entries.now) block ≡ false }
+    ensures judged { IfOk result (Judges (contains nat_cmp ended.now) (lent entries.now) block before.now) }
     ensures sized { IfOk result (IsSizedFor block) }
 {
     let mut body = copy_of(alloc, before)?;
     remake(ended, entries, block, &mut body);
     let other = body.bytes() != before.bytes();
-    let whole = is_covered_whole(entries, block);
+    let whole = is_covered_whole(alloc, entries, block)?;
     body.set_torn(before.torn() && !whole);
     if block.kind != BlockKind::Plain && !whole && other {
         return Ok(Judged::Partial);
@@ -64,20 +66,19 @@ pub fn judge<V: View>(
     alloc: Global,
     view: &mut V,
     ended: &Ended,
-    entries: &[Entry],
+    entries: &[&Entry],
     block: Block,
     body: &mut Body,
 ) -> Result<Judged, RecoveryFault>
-    requires { All Lies entries.now }
-    ensures judged { IfSome (V.content view.old) (λ c. IfOk result (Judges (contains nat_cmp ended.now) entries.now block (c block))) }
+    requires { All LentLies entries.now }
+    ensures judged { IfSome (V.content view.old) (λ c. IfOk result (Judges (contains nat_cmp ended.now) (lent entries.now) block (c block))) }
     ensures sized { IfOk result (IsSizedFor block) }
     ensures never { IfErr result NeverForeign }
     ensures kept { KeepsView V.content V.kept V.faults view.old view.new }
     ensures fault { IsErrOf result RecoveryFault.Fault → Rose (V.faults view.old) (V.faults view.new) }
 {
     if is_shadowed(ended, entries, block) {
-        let lsn = rival_of(entries, block).unwrap_or(0);
-        return Ok(Judged::Shadowed { lsn });
+        return Ok(Judged::Shadowed);
     }
     view.body(block, body)?;
     Ok(judge_seen(alloc, ended, entries, block, body)?)

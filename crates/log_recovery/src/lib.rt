@@ -3,25 +3,33 @@
 //! Of a block with an update, all updates are undone backwards, and then those of ended transactions
 //! are redone forwards. A block is shadowed where an update of a rival, another kind of block that
 //! shares a sector with it, stands behind its own last ended update, or anywhere where it has none:
-//! such a block stays as it is.
+//! such a block stays as it is. It may have no update of its own; which blocks are shadowed is told of
+//! all that an entry may update: sectors, file records that begin in an even sector, and index blocks
+//! that begin in the first of eight.
 #![tactic(auto)]
 
+mod covering;
 mod ended;
-mod fault;
 mod found;
+mod groups;
 mod judging;
 mod making;
 mod places;
 mod recovering;
+mod shadowing;
 mod updates;
 mod view;
 mod walks;
+mod whole;
 
-pub use fault::RecoveryFault;
 pub use found::{RecoveredBlock, RecoveredBlocks, Shadow};
+pub use log_reading::RecoveryFault;
 pub use places::{Places, places_of};
 pub use recovering::recover_entries;
 pub use view::RecoveredView;
+pub use whole::{Recovered, recover, recover_view};
 
 #[cfg(test)]
 mod tests;
+#[cfg(test)]
+mod whole_tests;

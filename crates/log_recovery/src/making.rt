@@ -5,7 +5,8 @@ ghost use Rattle.std.specs.BTreeSet.{contains};
 ghost use Rattle.disk_model.specs.Sectors.{sectors};
 ghost use Rattle.disk_model.specs.Writes.{bytes_after};
 ghost use Rattle.log_model.specs.Logs.{undos_back, redos};
-ghost use Rattle.log_recovery.specs.Blocks.{Lies, bytes_by};
+ghost use Rattle.log_recovery.specs.Blocks.{bytes_by};
+ghost use Rattle.log_recovery.specs.Groups.{lent, LentLies};
 
 use crate::ended::Ended;
 use crate::updates::{redo_act, undo_act};
@@ -13,10 +14,10 @@ use disk_model::{Block, Body};
 use log_model::Entry;
 
 // Undoes all updates of the block, the last one first.
-fn undo(entries: &[Entry], block: Block, out: &mut Body)
-    requires lies { All Lies entries.now }
+fn undo(entries: &[&Entry], block: Block, out: &mut Body)
+    requires lies { All LentLies entries.now }
     requires size { length out.old.bytes ≡ 512 * sectors block.kind }
-    ensures bytes { out.new.bytes ≡ bytes_after (undos_back entries.now) block out.old.bytes }
+    ensures bytes { out.new.bytes ≡ bytes_after (undos_back (lent entries.now)) block out.old.bytes }
     ensures torn { out.new.torn ≡ out.old.torn }
     ensures size { length out.new.bytes ≡ 512 * sectors block.kind }
 {
@@ -28,10 +29,10 @@ fn undo(entries: &[Entry], block: Block, out: &mut Body)
 }
 
 // Redoes the updates of the block by ended transactions, in order.
-fn redo(ended: &Ended, entries: &[Entry], block: Block, out: &mut Body)
-    requires lies { All Lies entries.now }
+fn redo(ended: &Ended, entries: &[&Entry], block: Block, out: &mut Body)
+    requires lies { All LentLies entries.now }
     requires size { length out.old.bytes ≡ 512 * sectors block.kind }
-    ensures bytes { out.new.bytes ≡ bytes_after (redos (contains nat_cmp ended.now) entries.now) block out.old.bytes }
+    ensures bytes { out.new.bytes ≡ bytes_after (redos (contains nat_cmp ended.now) (lent entries.now)) block out.old.bytes }
     ensures torn { out.new.torn ≡ out.old.torn }
     ensures size { length out.new.bytes ≡ 512 * sectors block.kind }
 {
@@ -41,10 +42,10 @@ fn redo(ended: &Ended, entries: &[Entry], block: Block, out: &mut Body)
 }
 
 /// Undoes all updates of the block backwards, and redoes the ended ones forwards.
-pub fn remake(ended: &Ended, entries: &[Entry], block: Block, out: &mut Body)
-    requires lies { All Lies entries.now }
+pub fn remake(ended: &Ended, entries: &[&Entry], block: Block, out: &mut Body)
+    requires lies { All LentLies entries.now }
     requires size { length out.old.bytes ≡ 512 * sectors block.kind }
-    ensures bytes { out.new.bytes ≡ bytes_by (contains nat_cmp ended.now) entries.now block out.old.bytes }
+    ensures bytes { out.new.bytes ≡ bytes_by (contains nat_cmp ended.now) (lent entries.now) block out.old.bytes }
     ensures torn { out.new.torn ≡ out.old.torn }
     ensures size { length out.new.bytes ≡ 512 * sectors block.kind }
 {

@@ -1,7 +1,8 @@
-//! Where blocks stand in a list of recovered blocks.
-ghost use Rattle.std.specs.Prelude.{◌≡◌, if◌then◌else◌, Some, IfOk, OnOk};
+//! Blocks as keys: which were met, and where they stand in a list of recovered blocks.
+ghost use Rattle.std.specs.Prelude.{◌≡◌, ◌||◌, not, if◌then◌else◌, Some, IfOk, OnOk};
 ghost use Rattle.std.specs.Option.{option_copied};
 ghost use Rattle.std.specs.BTreeMap.{get};
+ghost use Rattle.std.specs.BTreeSet.{contains};
 ghost use Rattle.disk_model.specs.declared.block.Block.{Block as BlockOf};
 ghost use Rattle.disk_model.specs.Sectors.{same_block};
 ghost use Rattle.log_recovery.specs.Recovering.{held_body};
@@ -10,10 +11,13 @@ ghost use Rattle.log_recovery.specs.Places.{kind_number, key_of, key_order, HasP
 use crate::found::RecoveredBlock;
 use disk_model::{Block, BlockKind, Body};
 use std::alloc::{AllocError, Global};
-use std::collections::BTreeMap;
+use std::collections::{BTreeMap, BTreeSet};
 
 /// The places of blocks in a list, by their first sectors and the numbers of their kinds.
 pub type Places = BTreeMap<(u64, u8), usize>;
+
+/// The blocks that were met, by the same keys.
+pub type Met = BTreeSet<(u64, u8)>;
 
 fn kind_number(kind: BlockKind) -> u8
     ensures { result ≡ kind_number kind }
@@ -29,6 +33,15 @@ fn key_of(block: Block) -> (u64, u8)
     ensures { result ≡ key_of block }
 {
     (block.first, kind_number(block.kind))
+}
+
+/// Meets a block, in time logarithmic in their number: whether for the first time. The error is want
+/// of memory.
+pub fn meet(met: &mut Met, block: Block) -> Result<bool, AllocError>
+    ensures first { IfOk result (λ first. first ≡ not (contains key_order met.old (key_of block))) }
+    ensures met { OnOk result ((b : BlockOf) → contains key_order met.new (key_of b) ≡ (contains key_order met.old (key_of b) || same_block b block)) }
+{
+    Ok(met.insert(key_of(block))?)
 }
 
 // One block more, in place of an equal one.

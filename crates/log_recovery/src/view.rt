@@ -2,6 +2,7 @@ ghost use Rattle.std.specs.Prelude.{◌≡◌, ◌*◌, All, IfSome, length};
 ghost use Rattle.disk_model.specs.Sectors.{sectors};
 ghost use Rattle.std.specs.Option.{option_map, option_copied};
 ghost use Rattle.block_view.specs.Borrowed.{BorrowedView};
+ghost use Rattle.log_recovery.specs.Borrowing.{borrowed_view};
 ghost use Rattle.log_recovery.specs.Recovering.{held_body, content_with, IsSized};
 ghost use Rattle.log_recovery.specs.Places.{HasPlaces};
 ghost use Rattle.log_recovery.specs.Sizes.{sized_with};
@@ -22,6 +23,23 @@ pub struct RecoveredView<'a, V: View> {
     pub places: &'a Places,
     pub ghost sized: { All IsSized bodies.now },
     pub ghost right: { HasPlaces bodies.now places.now },
+}
+
+impl<'a, V: View> RecoveredView<'a, V> {
+    /// A view with these bodies, which stand at these places by `places_of`.
+    pub fn new(view: &'a mut V, bodies: &'a [RecoveredBlock], places: &'a Places) -> Self
+        requires sized { All IsSized bodies.now }
+        requires right { HasPlaces bodies.now places.now }
+        ensures content { ⟦<RecoveredView<'a, V> as View>⟧.content result ≡ option_map (content_with bodies.now) (V.content view.entry.now) }
+        ensures faults { ⟦<RecoveredView<'a, V> as View>⟧.faults result ≡ V.faults view.entry.now }
+        ensures kept { ⟦<RecoveredView<'a, V> as View>⟧.kept result ≡ borrowed_view V.content V.kept view.entry.ghost_name view.entry.now }
+    {
+        RecoveredView {
+            view,
+            bodies,
+            places,
+        }
+    }
 }
 
 // The body that is held of a block, with its size.

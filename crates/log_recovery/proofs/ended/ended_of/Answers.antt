@@ -1,4 +1,4 @@
-use Rattle.std.proofs.Common.{Bool, BTreeSet, ℕ, ap, ◌∙◌, sym}
+use Rattle.std.proofs.Common.{BTreeSet, ℕ, ap, ◌∙◌, sym}
 use Rattle.std.specs.Ordering.{nat_cmp}
 use Rattle.std.specs.BTreeSet.{contains}
 use Rattle.log_recovery.proofs.Walking.{ended_with, ended_without, after_put}

@@ -1,4 +1,4 @@
-use Rattle.std.proofs.Common.{List, ℕ, Bool, ap, ◌∙◌}
+use Rattle.std.proofs.Common.{Bool, ap, ◌∙◌}
 use Rattle.std.specs.Ordering.{nat_cmp}
 use Rattle.std.specs.BTreeSet.{contains}
 use Rattle.disk_model.specs.Writes.{bytes_after}
@@ -11,7 +11,7 @@ loop-entry-preserved c =
     let entry = c.entry-item.result in
     record {
       rest = redone_more (contains nat_cmp c.args.ended.now) c.args.entries.now c.loop-entry.entry-index entry c.args.block c.loop-entry.out.bytes c.redo_act.new.out.bytes _ c.loop-entry-test.true c.entry-item.is
-          (c.redo_act.ensures.bytes ∙ ap (λ (t : Bool). bytes_after (redo_of t entry.act) c.args.block c.loop-entry.out.bytes) c.contains.ensures) c.loop-entry.invariant.rest;
+          (c.redo_act.ensures.bytes ∙ ap (λ (t : Bool). bytes_after (redo_of t entry.now.act) c.args.block c.loop-entry.out.bytes) c.contains.ensures) c.loop-entry.invariant.rest;
       torn = c.redo_act.ensures.torn ∙ c.loop-entry.invariant.torn;
       size = c.redo_act.ensures.size;
     }

@@ -4,12 +4,13 @@ use Rattle.std.specs.BTreeSet.{contains}
 use Rattle.disk_model.specs.Sectors.{sectors}
 use Rattle.disk_model.specs.Writes.{bytes_after}
 use Rattle.log_model.specs.Logs.{redos}
+use Rattle.log_recovery.specs.Groups.{lent}
 use Rattle.log_recovery.proofs.making.redo.Given as goal
 
 -- the entries that are left redo, of what is there, what all redo of what was there
 abbrev pub invariant-loop-entry : goal.invariant-loop-entry
 invariant-loop-entry l = record {
-  rest : bytes_after (redos (contains nat_cmp l.ended) (drop l.entry-index l.entries)) l.block l.out.bytes ≡ bytes_after (redos (contains nat_cmp l.ended) l.entries) l.block l.fn.out.bytes;
+  rest : bytes_after (redos (contains nat_cmp l.ended) (lent (drop l.entry-index l.entries))) l.block l.out.bytes ≡ bytes_after (redos (contains nat_cmp l.ended) (lent l.entries)) l.block l.fn.out.bytes;
   torn : l.out.torn ≡ l.fn.out.torn;
   size : length l.out.bytes ≡ 512 * sectors l.block.kind;
 }

@@ -1,4 +1,5 @@
-use Rattle.std.proofs.Common.{◌≡◌, ◌-◌, ◌+◌, length, ap, sym, ◌∙◌, arith}
+use Rattle.std.proofs.Common.{◌-◌, length, ap, sym, ◌∙◌, arith}
+use Rattle.std.specs.Borrow.{Bor}
 use Rattle.disk_model.specs.Writes.{bytes_after}
 use Rattle.log_model.specs.declared.entry.Entry.{Entry}
 use Rattle.log_model.specs.Logs.{undo_of}
@@ -10,7 +11,7 @@ loop-done-preserved c =
     let log = c.args.entries.now in
     let entry = c.index-entries-last.result in
     record {
-      rest = undone_more log c.loop-done.done (length log - 1 - c.loop-done.done) entry c.args.block c.loop-done.out.bytes c.undo_act.new.out.bytes _ (omega arith) c.index-entries-last.is (c.undo_act.ensures.bytes ∙ ap (λ (x : Entry). bytes_after (undo_of x.act) c.args.block c.loop-done.out.bytes) (sym c.index-entries-last.is)) c.loop-done.invariant.rest;
+      rest = undone_more log c.loop-done.done (length log - 1 - c.loop-done.done) entry c.args.block c.loop-done.out.bytes c.undo_act.new.out.bytes _ (omega arith) c.index-entries-last.is (c.undo_act.ensures.bytes ∙ ap (λ (x : Bor Entry). bytes_after (undo_of x.now.act) c.args.block c.loop-done.out.bytes) (sym c.index-entries-last.is)) c.loop-done.invariant.rest;
       torn = c.undo_act.ensures.torn ∙ c.loop-done.invariant.torn;
       size = c.undo_act.ensures.size;
     }

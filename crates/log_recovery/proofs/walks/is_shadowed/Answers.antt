@@ -11,4 +11,4 @@ loop-entry-preserved c =
     let log = c.args.entries.now in
     let entry = c.entry-item.result in
     said_more (contains nat_cmp c.args.ended.now) log c.loop-entry.entry-index entry c.args.block c.loop-entry.shadowed c.unwrap_or-shadowed.result _ c.loop-entry-test.true c.entry-item.is
-    (c.unwrap_or-shadowed.ensures ∙ ap (λ (o : Option Bool). unwrap_or o c.loop-entry.shadowed) (c.act_says-says.ensures ∙ ap (λ (t : Bool). act_says c.args.block t entry.act) c.contains.ensures)) c.loop-entry.invariant
+    (c.unwrap_or-shadowed.ensures ∙ ap (λ (o : Option Bool). unwrap_or o c.loop-entry.shadowed) (c.act_says-says.ensures ∙ ap (λ (t : Bool). act_says c.args.block t entry.now.act) c.contains.ensures)) c.loop-entry.invariant

@@ -1,0 +1,179 @@
+-- Recovery by a log as steps, one after the other, over a content that may be known.
+use Rattle.std.proofs.Common.{◌≡◌, ℕ, ◌+◌, ◌^◌, ◌≤◌, Bool, true, false, List, Option, Some, None, Result, Ok, Err, refl, sym, ap, ◌∙◌, subst, arith}
+use Rattle.std.specs.Prelude.{IfSome, IsErrOf, ◌==◌}
+use Rattle.std.specs.Option.{option_or}
+use Rattle.std.proofs.lemmas.Bool.{le-ltb}
+use Rattle.std.proofs.Math.Nat.{le_trans}
+use Rattle.std.proofs.Math.Pow.{pow_mono}
+use Rattle.host_base.specs.Answers.{◌>>=◌, needs, ExplainsOrFails}
+use Rattle.host_base.proofs.Known.{both, one}
+use Rattle.disk_model.specs.Content.{Content}
+use Rattle.log_model.specs.declared.entry.Entry.{Entry}
+use Rattle.log_model.specs.Logs.{first_misplaced, first_partial}
+use Rattle.log_page.specs.declared.restart.Restart.{Restart}
+use Rattle.log_page.specs.declared.places.LogPlace.{LogPlace}
+use Rattle.log_page.specs.Places.{sequence_bits}
+use Rattle.log_page.specs.Restarts.{is_emptied}
+use Rattle.log_reading.specs.declared.fault.RecoveryFault.{RecoveryFault}
+use Rattle.log_reading.specs.declared.fault.RecoveryFault.TheVariants.{LogVersion, NoRestart, ForeignLog, Fault, Memory}
+use Rattle.log_reading.specs.declared.front.Front.{Front}
+use Rattle.log_reading.specs.Views.{recovery_cause}
+use Rattle.log_reading.specs.LogPages.{page_in}
+use Rattle.log_reading.specs.Fronts.{chosen_in, is_readable, front_in}
+use Rattle.log_recovery.specs.declared.found.RecoveredBlocks.{RecoveredBlocks}
+use Rattle.log_recovery.specs.declared.whole.Recovered.{Recovered}
+use Rattle.log_recovery.specs.Recovering.{foreign_entry, Recovers}
+use Rattle.log_recovery.specs.LogStates.{all_or_refused, entries_in, whole_entries, has_lap, lap_in, LogState, recovery_in, RecoversLog}
+
+-- ---- causes
+
+-- an error of the first step is that of both
+failed_error : {A B : Type 0} (e : RecoveryFault) (f : Result A RecoveryFault) (g : A → Result B RecoveryFault) → ExplainsOrFails (recovery_cause e) f → ExplainsOrFails (recovery_cause e) (f >>= g)
+failed_error (LogVersion major minor) f g h = ap (λ x. x >>= g) h
+failed_error NoRestart f g h = ap (λ x. x >>= g) h
+failed_error (ForeignLog lsn) f g h = ap (λ x. x >>= g) h
+failed_error Fault f g h = tt
+failed_error Memory f g h = tt
+
+-- ---- steps
+
+first_failed : {A B : Type 0} (known : Option Content) (e : RecoveryFault) (f : Content → Result A RecoveryFault) (g : Content → A → Result B RecoveryFault)
+    → IfSome known (λ c. ExplainsOrFails (recovery_cause e) (f c)) → IfSome known (λ c. ExplainsOrFails (recovery_cause e) (f c >>= g c))
+first_failed known e f g h = one known _ _ (λ c p. failed_error e (f c) (g c) p) h
+
+-- the second step goes on with the value of the first
+then_on : {A B : Type 0} (known : Option Content) (x : A) (f : Content → Result A RecoveryFault) (g : Content → A → Result B RecoveryFault) (P : Content → Result B RecoveryFault → Type 0)
+    → IfSome known (λ c. f c ≡ Ok x) → IfSome known (λ c. P c (g c x)) → IfSome known (λ c. P c (f c >>= g c))
+then_on known x f g P first second = both known _ _ _ (λ c e h. subst (λ (r : Result _ RecoveryFault). P c (r >>= g c)) (sym e) h) first second
+
+-- ---- the front
+
+abbrev okay : Front → Result Front RecoveryFault
+okay front = Ok front
+
+-- it is no fault of the view
+readable_no_fault : (chosen : Option Restart) (first second : List ℕ) (front : Front) → IsErrOf (is_readable chosen first second >>= λ _. okay front) Fault → ⊥
+readable_no_fault (Some r) first second front h = by_test (r.major == 1) h
+  where
+    by_test : (b : Bool) → IsErrOf (needs b (LogVersion r.major r.minor) >>= λ _. okay front) Fault → ⊥
+    by_test true h = absurd cc
+    by_test false h = absurd cc
+readable_no_fault None first second front h = by_test (is_emptied first second) h
+  where
+    by_test : (b : Bool) → IsErrOf (needs b NoRestart >>= λ _. okay front) Fault → ⊥
+    by_test true h = absurd cc
+    by_test false h = absurd cc
+
+pub front_no_fault : (first second : List ℕ) (result : Result Front RecoveryFault) → result ≡ front_in first second → IsErrOf result Fault → ⊥
+unfolding front_in
+front_no_fault first second result is h = readable_no_fault (chosen_in first second) first second _ (subst (λ (r : Result Front RecoveryFault). IsErrOf r Fault) is h)
+
+-- ---- blocks
+
+first_or : (c : Content) (log : List Entry) (clusters : ℕ) → first_misplaced log clusters ≡ None → foreign_entry c log clusters ≡ first_partial c log
+unfolding foreign_entry
+first_or c log clusters e = ap (λ (o : Option ℕ). option_or o (first_partial c log)) e
+
+whole_failed : (c : Content) (log : List Entry) (clusters : ℕ) (e : RecoveryFault) → first_misplaced log clusters ≡ None → Recovers c log clusters (Err e) → ExplainsOrFails (recovery_cause e) (whole_entries c log)
+whole_failed c log clusters (LogVersion major minor) placed h = absurd h
+whole_failed c log clusters NoRestart placed h = absurd h
+whole_failed c log clusters (ForeignLog lsn) placed h = ap (λ (o : Option ℕ). all_or_refused o log) (sym (first_or c log clusters placed) ∙ h)
+whole_failed c log clusters Fault placed h = tt
+whole_failed c log clusters Memory placed h = tt
+
+-- no entry is misplaced, so a block in part is refused
+in_part : (known : Option Content) (log : List Entry) (clusters : ℕ) (e : RecoveryFault) → first_misplaced log clusters ≡ None
+    → IfSome known (λ c. Recovers c log clusters (Err e)) → IfSome known (λ c. ExplainsOrFails (recovery_cause e) (whole_entries c log))
+in_part known log clusters e placed h = one known _ _ (λ c p. whole_failed c log clusters e placed p) h
+
+-- or all entries are taken
+all_whole : (known : Option Content) (log : List Entry) (clusters : ℕ) (found : RecoveredBlocks) → first_misplaced log clusters ≡ None
+    → IfSome known (λ c. Recovers c log clusters (Ok found)) → IfSome known (λ c. whole_entries c log ≡ Ok log)
+all_whole known log clusters found placed h = one known _ _ (λ c p. ap (λ (o : Option ℕ). all_or_refused o log) (sym (first_or c log clusters placed) ∙ p.0)) h
+
+-- of the same entries
+pub same_entries : (known : Option Content) (given entries : List Entry) (clusters : ℕ) (result : Result RecoveredBlocks RecoveryFault) → given ≡ entries
+    → IfSome known (λ c. Recovers c given clusters result) → IfSome known (λ c. Recovers c entries clusters result)
+same_entries known given entries clusters result is h = subst (λ (es : List Entry). IfSome known (λ c. Recovers c es clusters result)) is h
+
+-- ---- all steps
+
+abbrev state_of : Front → List Entry → ℕ → LogState
+state_of front log lap = record { log = log; next_lap = lap; restart = front.restart; opens = front.opens }
+
+abbrev with_lap : LogPlace → Front → Content → List Entry → Result LogState RecoveryFault
+with_lap place front c log = lap_in c place front.chosen >>= λ lap. Ok (state_of front log lap)
+
+abbrev with_blocks : LogPlace → Front → Content → List Entry → Result LogState RecoveryFault
+with_blocks place front c entries = whole_entries c entries >>= with_lap place front c
+
+abbrev with_entries : LogPlace → Content → Front → Result LogState RecoveryFault
+with_entries place c front = entries_in c place front.chosen >>= with_blocks place front c
+
+abbrev fronts : LogPlace → Content → Result Front RecoveryFault
+fronts place c = front_in (page_in c place 0) (page_in c place 1)
+
+pub front_failed : (known : Option Content) (place : LogPlace) (e : RecoveryFault) → IfSome known (λ c. ExplainsOrFails (recovery_cause e) (front_in (page_in c place 0) (page_in c place 1)))
+    → IfSome known (λ c. RecoversLog c (recovery_in c place) (Err e))
+unfolding recovery_in
+front_failed known place e h = first_failed known e (fronts place) (with_entries place) h
+
+-- behind a front that was read
+behind_front : (known : Option Content) (place : LogPlace) (front : Front) (result : Result Recovered RecoveryFault) → IfSome known (λ c. front_in (page_in c place 0) (page_in c place 1) ≡ Ok front)
+    → IfSome known (λ c. RecoversLog c (with_entries place c front) result) → IfSome known (λ c. RecoversLog c (recovery_in c place) result)
+unfolding recovery_in
+behind_front known place front result is h = then_on known front (fronts place) (with_entries place) (λ c meant. RecoversLog c meant result) is h
+
+pub entries_failed : (known : Option Content) (place : LogPlace) (front : Front) (e : RecoveryFault) → IfSome known (λ c. front_in (page_in c place 0) (page_in c place 1) ≡ Ok front)
+    → IfSome known (λ c. ExplainsOrFails (recovery_cause e) (entries_in c place front.chosen)) → IfSome known (λ c. RecoversLog c (recovery_in c place) (Err e))
+entries_failed known place front e is h = behind_front known place front (Err e) is (first_failed known e (λ c. entries_in c place front.chosen) (with_blocks place front) h)
+
+-- what was read: the front and the entries, none of which is misplaced
+pub record WasRead (known : Option Content) (place : LogPlace) (front : Front) (entries : List Entry) : Type 0 where
+  pub front_is : IfSome known (λ c. front_in (page_in c place 0) (page_in c place 1) ≡ Ok front)
+  pub entries_are : IfSome known (λ c. entries_in c place front.chosen ≡ Ok entries)
+  pub placed : first_misplaced entries place.clusters ≡ None
+
+behind_entries : (known : Option Content) (place : LogPlace) (front : Front) (entries : List Entry) (result : Result Recovered RecoveryFault) → WasRead known place front entries
+    → IfSome known (λ c. RecoversLog c (with_blocks place front c entries) result) → IfSome known (λ c. RecoversLog c (recovery_in c place) result)
+behind_entries known place front entries result read h =
+    behind_front known place front result read.front_is
+    (then_on known entries (λ c. entries_in c place front.chosen) (with_blocks place front) (λ c meant. RecoversLog c meant result) read.entries_are h)
+
+pub blocks_failed : (known : Option Content) (place : LogPlace) (front : Front) (entries : List Entry) (e : RecoveryFault) → WasRead known place front entries
+    → IfSome known (λ c. Recovers c entries place.clusters (Err e)) → IfSome known (λ c. RecoversLog c (recovery_in c place) (Err e))
+blocks_failed known place front entries e read h =
+    behind_entries known place front entries (Err e) read
+    (first_failed known e (λ c. whole_entries c entries) (with_lap place front) (in_part known entries place.clusters e read.placed h))
+
+behind_blocks : (known : Option Content) (place : LogPlace) (front : Front) (entries : List Entry) (blocks : RecoveredBlocks) (result : Result Recovered RecoveryFault) → WasRead known place front entries
+    → IfSome known (λ c. Recovers c entries place.clusters (Ok blocks)) → IfSome known (λ c. RecoversLog c (with_lap place front c entries) result)
+    → IfSome known (λ c. RecoversLog c (recovery_in c place) result)
+behind_blocks known place front entries blocks result read found h =
+    behind_entries known place front entries result read
+    (then_on known entries (λ c. whole_entries c entries) (with_lap place front) (λ c meant. RecoversLog c meant result) (all_whole known entries place.clusters blocks read.placed found) h)
+
+pub lap_failed : (known : Option Content) (place : LogPlace) (front : Front) (entries : List Entry) (blocks : RecoveredBlocks) (e : RecoveryFault) → WasRead known place front entries
+    → IfSome known (λ c. Recovers c entries place.clusters (Ok blocks)) → IfSome known (λ c. ExplainsOrFails (recovery_cause e) (lap_in c place front.chosen))
+    → IfSome known (λ c. RecoversLog c (recovery_in c place) (Err e))
+lap_failed known place front entries blocks e read found h =
+    behind_blocks known place front entries blocks (Err e) read found (first_failed known e (λ c. lap_in c place front.chosen) (λ _ lap. Ok (state_of front entries lap)) h)
+
+pub recovered_whole : (known : Option Content) (place : LogPlace) (front : Front) (entries : List Entry) (blocks : RecoveredBlocks) (lap : ℕ) → WasRead known place front entries
+    → IfSome known (λ c. Recovers c entries place.clusters (Ok blocks)) → IfSome known (λ c. lap_in c place front.chosen ≡ Ok lap)
+    → IfSome known (λ c. RecoversLog c (recovery_in c place) (Ok (record { blocks = blocks; next_lap = lap; restart = front.restart; opens = front.opens })))
+recovered_whole known place front entries blocks lap read found lap_is =
+    behind_blocks known place front entries blocks result read found
+    (then_on known lap (λ c. lap_in c place front.chosen) (λ _ n. Ok (state_of front entries n)) (λ c meant. RecoversLog c meant result) lap_is
+    (one known _ _ (λ c p. record { blocks = p.1; next_lap = refl; restart = refl; opens = refl }) found))
+  where
+    result : Result Recovered RecoveryFault
+    result = Ok (record { blocks = blocks; next_lap = lap; restart = front.restart; opens = front.opens })
+
+-- ---- laps
+
+-- past all numbers of 64 bits no laps are left
+pub no_lap : (pages last : ℕ) → 2 ^ 64 ≤ last + 65537 → false ≡ has_lap pages (1 + last)
+no_lap pages last past =
+    let most : 2 ^ sequence_bits pages ≤ 2 ^ 64 = pow_mono {j = 64} (omega arith) in
+    sym (le-ltb (1 + last + 65536) (2 ^ sequence_bits pages) (le_trans most (omega (arith, past))))
