@@ -1,12 +1,8 @@
 -- Steps of a scan, one after the other, over a content that may be known.
-use Rattle.std.proofs.Common.{◌≡◌, ℕ, ◌<◌, ◌≤◌, Bool, false, List, ◌++◌, length, take, drop, Option, Result, Ok, Err, refl, sym, ap, ◌∙◌, subst, arith}
-use Rattle.std.specs.Prelude.{IfSome, ◌==◌, ◌&&◌}
-use Rattle.std.specs.List.{list_all}
-use Rattle.std.proofs.lemmas.Bool.{lt-leb, le-leb}
-use Rattle.std.proofs.lemmas.List.{take-append-le}
-use Rattle.std.proofs.lemmas.List.FromFn.{length-map-range_with_len}
+use Rattle.std.proofs.Common.{◌≡◌, ℕ, List, Option, Result, Ok, Err, refl, sym, ap, ◌∙◌, subst}
+use Rattle.std.specs.Prelude.{IfSome}
 use Rattle.host_base.specs.Answers.{◌>>=◌, Explains, ExplainsOrFails, Gives, GivesOrFails}
-use Rattle.host_base.proofs.Known.{both, one, always}
+use Rattle.host_base.proofs.Known.{both, one}
 use Rattle.disk_model.specs.Bodies.{BodyOf}
 use Rattle.disk_model.specs.Content.{Content}
 use Rattle.record_model.specs.Records.{Record}
@@ -14,9 +10,6 @@ use Rattle.tree_model.specs.declared.link.Link.{Link}
 use Rattle.state_model.specs.declared.geometry.Geometry.{Geometry}
 use Rattle.state_model.specs.declared.geometry.MapRefusal.{MapRefusal}
 use Rattle.state_model.specs.Loads.{loaded}
-use Rattle.state_model.specs.declared.stream.Stream.{Stream}
-use Rattle.state_model.specs.declared.stream.Stream.TheVariants.{Held, Placed}
-use Rattle.state_model.specs.Streams.{byte_at, extent_bytes, stream_bytes, real_size}
 use Rattle.boot_sector.specs.declared.boot.Boot.{Boot}
 use Rattle.boot_sector.specs.BootSectors.{boot_of, clusters}
 use Rattle.volume_map.specs.declared.fault.MapFault.{MapFault}
@@ -27,8 +20,17 @@ use Rattle.image_scan.specs.declared.opening.Opening.{Opening}
 use Rattle.image_scan.specs.declared.refusal.Refusal.{Refusal}
 use Rattle.image_scan.specs.declared.refusal.ScanError.{ScanError}
 use Rattle.image_scan.specs.declared.refusal.ScanError.TheVariants as errors
-use Rattle.image_scan.specs.Errors.{scan_cause, boot_refusal, map_refusal, refused_as, error_of_map}
-use Rattle.image_scan.specs.Scans.{boot_place, boot_in, geometry_of, log_front, begins_with_ff, is_emptied, log_in, files_of, long_links, links_in, opened_by}
+use Rattle.log_model.specs.Logs.{recovered}
+use Rattle.log_page.specs.declared.places.LogPlace.{LogPlace}
+use Rattle.log_reading.specs.declared.fault.RecoveryFault.{RecoveryFault}
+use Rattle.log_reading.specs.declared.fault.RecoveryFault.TheVariants as logs
+use Rattle.log_reading.specs.Views.{recovery_cause}
+use Rattle.log_recovery.specs.declared.whole.Recovered.{Recovered}
+use Rattle.log_recovery.specs.Recovering.{content_with}
+use Rattle.log_recovery.specs.LogStates.{LogState, recovery_in, IsRecoveredBy, RecoversLog}
+use Rattle.image_scan.specs.Errors.{scan_cause, boot_refusal, map_refusal, log_refusal, refused_as, error_of_map, error_of_log}
+use Rattle.image_scan.specs.Scans.{boot_place, boot_in, geometry_of, recovered_at, recovered_in, files_of, long_links, links_in, Opened, opened_by}
+use Rattle.image_scan.specs.Openings.{content_after, opened_as}
 
 -- ---- causes
 
@@ -49,15 +51,6 @@ gives_or_fails view (Err e) meant h = or_fails e meant h
 abbrev pub okay : {A : Type 0} → A → Result A Refusal
 okay x = Ok x
 
--- a value that is certain is met by no refusal
-certain : {A B : Type 0} (e : ScanError) (x : A) (meant : Result B Refusal) → ExplainsOrFails (scan_cause e) (okay x) → ExplainsOrFails (scan_cause e) meant
-certain errors.Memory x meant h = tt
-certain errors.Device x meant h = tt
-certain (errors.Refused r) x meant h = absurd cc
-
-pub okay_is : {A : Type 0} (x y : A) → okay x ≡ okay y → x ≡ y
-okay_is x y e = cc
-
 -- an error of the first step is that of both
 pub fails_first : {X Y A B : Type 0} (known : Option Content) (view : X → A) (view' : Y → B) (e : ScanError) (f : Content → Result A Refusal) (g : Content → A → Result B Refusal)
     → IfSome known (λ c. GivesOrFails {X = X} view scan_cause (Err e) (f c)) → IfSome known (λ c. GivesOrFails {X = Y} view' scan_cause (Err e) (f c >>= g c))
@@ -68,19 +61,20 @@ pub goes_on : {Y A B : Type 0} (known : Option Content) (view : Y → B) (x : A)
     → IfSome known (λ c. f c ≡ Ok x) → IfSome known (λ c. GivesOrFails view scan_cause result (g c x)) → IfSome known (λ c. GivesOrFails view scan_cause result (f c >>= g c))
 goes_on known view x result f g first second = both known _ _ _ (λ c e h. rw e h) first second
 
+-- the same where the value of the first is one of the content
+pub goes_on_by : {Y A B : Type 0} (known : Option Content) (view : Y → B) (x : Content → A) (result : Result Y ScanError) (f : Content → Result A Refusal) (g : Content → A → Result B Refusal)
+    → IfSome known (λ c. f c ≡ Ok (x c)) → IfSome known (λ c. GivesOrFails view scan_cause result (g c (x c))) → IfSome known (λ c. GivesOrFails view scan_cause result (f c >>= g c))
+goes_on_by known view x result f g first second = both known _ _ _ (λ c e h. rw e h) first second
+
+-- a second step whose value is one of the content too
+pub goes_on_as : {Y A B : Type 0} (known : Option Content) (view : Content → Y → B) (x : A) (result : Result Y ScanError) (f : Content → Result A Refusal) (g : Content → A → Result B Refusal)
+    → IfSome known (λ c. f c ≡ Ok x) → IfSome known (λ c. GivesOrFails (view c) scan_cause result (g c x)) → IfSome known (λ c. GivesOrFails (view c) scan_cause result (f c >>= g c))
+goes_on_as known view x result f g first second = both known _ _ _ (λ c e h. rw e h) first second
+
 -- a second step that reaches nothing outside
 pub then_gives : {Y A B : Type 0} (known : Option Content) (view : Y → B) (x : A) (result : Result Y ScanError) (f : Content → Result A Refusal) (g : A → Result B Refusal)
     → IfSome known (λ c. f c ≡ Ok x) → Gives view scan_cause result (g x) → IfSome known (λ c. GivesOrFails view scan_cause result (f c >>= g))
 then_gives known view x result f g first second = one known _ _ (λ c e. rw e (gives_or_fails view result (g x) second)) first
-
--- a first step that is certain
-pub certain_error : {X Y A B : Type 0} (known : Option Content) (view : X → A) (view' : Y → B) (e : ScanError) (f : Content → A) (meant : Content → Result B Refusal)
-    → IfSome known (λ c. GivesOrFails {X = X} view scan_cause (Err e) (okay (f c))) → IfSome known (λ c. GivesOrFails {X = Y} view' scan_cause (Err e) (meant c))
-certain_error known view view' e f meant h = one known _ _ (λ c p. certain e (f c) (meant c) p) h
-
-pub certainly_on : {Y A B : Type 0} (known : Option Content) (view : Y → B) (x : A) (result : Result Y ScanError) (f : Content → A) (g : A → Result B Refusal)
-    → IfSome known (λ c. okay (f c) ≡ okay x) → Gives view scan_cause result (g x) → IfSome known (λ c. GivesOrFails view scan_cause result (g (f c)))
-certainly_on known view x result f g first second = one known _ _ (λ c e. rw (okay_is (f c) x e) (gives_or_fails view result (g x) second)) first
 
 -- ---- the boot sector
 
@@ -109,38 +103,30 @@ map_value known x f h = one known _ _ (λ c e. ap (refused_as map_refusal) e) h
 
 -- ---- the log
 
--- what a stream holds is as long as its real size
-stream_size : (c : Content) (per : ℕ) (s : Stream) → length (stream_bytes c per s) ≡ real_size s
-unfolding extent_bytes
-stream_size c per (Held value) = refl
-stream_size c per (Placed e) = length-map-range_with_len (byte_at c per e) 0 e.real
+log_failed : {A : Type 0} (e : RecoveryFault) (meant : Result LogState RecoveryFault) (g : LogState → Result A Refusal)
+    → ExplainsOrFails (recovery_cause e) meant → ExplainsOrFails (scan_cause (error_of_log e)) (refused_as log_refusal meant >>= g)
+log_failed (logs.LogVersion major minor) meant g h = ap (λ (r : Result LogState RecoveryFault). refused_as log_refusal r >>= g) h
+log_failed logs.NoRestart meant g h = ap (λ (r : Result LogState RecoveryFault). refused_as log_refusal r >>= g) h
+log_failed (logs.ForeignLog lsn) meant g h = ap (λ (r : Result LogState RecoveryFault). refused_as log_refusal r >>= g) h
+log_failed logs.Fault meant g h = tt
+log_failed logs.Memory meant g h = tt
 
-front_read : (c : Content) (per : ℕ) (s : Stream) (count : ℕ) (out zs : List ℕ) (is : Bool) → count ≤ real_size s → is ≡ list_all (λ b. b == 0xFF) out → out ≡ take count (drop 0 (stream_bytes c per s) ++ zs) → begins_with_ff c per s count ≡ is
-unfolding begins_with_ff
-front_read c per s count out zs is long all read =
-    let size = stream_size c per s in
-    let fits : count ≤ length (stream_bytes c per s) = omega arith in
-    let e : out ≡ take count (stream_bytes c per s) = read ∙ take-append-le count (stream_bytes c per s) zs fits in
-    sym (all ∙ ap (list_all (λ b. b == 0xFF)) e)
+-- an error of recovery, as one of the scan
+pub log_error : {X : Type 0} (known : Option Content) (view : X → Content) (place : LogPlace) (e : RecoveryFault) (e' : ScanError) → e' ≡ error_of_log e
+    → IfSome known (λ c. RecoversLog c (recovery_in c place) (Err e)) → IfSome known (λ c. GivesOrFails {X = X} view scan_cause (Err e') (recovered_at c place))
+unfolding recovered_at
+log_error known view place e e' is h = one known _ _ (λ c p. rw is (log_failed e (recovery_in c place) (λ state. Ok (recovered c state.log)) p)) h
 
--- the front that was read is all FF or not
-pub begins_is : (known : Option Content) (per : ℕ) (s : Stream) (count : ℕ) (out zs : List ℕ) (is : Bool) → count ≤ real_size s → is ≡ list_all (λ b. b == 0xFF) out
-    → IfSome known (λ c. out ≡ take count (drop 0 (stream_bytes c per s) ++ zs)) → IfSome known (λ c. okay (begins_with_ff c per s count) ≡ okay is)
-begins_is known per s count out zs is long all read = one known _ _ (λ c e. ap okay (front_read c per s count out zs is long all e)) read
+log_content : (c : Content) (meant : Result LogState RecoveryFault) (found : Recovered) → IsRecoveredBy c meant found
+    → (refused_as log_refusal meant >>= λ state. okay (recovered c state.log)) ≡ okay (content_with found.blocks.bodies.items c)
+log_content c (Ok state) found h = ap okay (sym h.blocks.content)
+log_content c (Err e) found h = absurd h
 
--- a shorter stream
-pub is_short : (known : Option Content) (per : ℕ) (s : Stream) → real_size s < log_front → IfSome known (λ c. okay (is_emptied c per s) ≡ okay false)
-unfolding is_emptied
-is_short known per s lt = always known _ (λ c. ap (λ (b : Bool). okay (b && begins_with_ff c per s log_front)) (lt-leb log_front (real_size s) lt))
-
-abbrev front_judged : Content → ℕ → Stream → Result Bool ScanError → ℕ → Type 0
-front_judged c per s result n = GivesOrFails (λ is. is) scan_cause result (okay (begins_with_ff c per s n))
-
--- one that is no shorter is judged by its front
-pub is_no_shorter : (known : Option Content) (per : ℕ) (s : Stream) (count : ℕ) (result : Result Bool ScanError) → log_front ≤ real_size s → count ≡ log_front
-    → IfSome known (λ c. GivesOrFails (λ is. is) scan_cause result (okay (begins_with_ff c per s count))) → IfSome known (λ c. GivesOrFails (λ is. is) scan_cause result (okay (is_emptied c per s)))
-unfolding is_emptied
-is_no_shorter known per s count result le size h = one known _ _ (λ c p. rw (le-leb log_front (real_size s) le) (subst (front_judged c per s result) size p)) h
+-- and its answer
+pub log_value : (known : Option Content) (place : LogPlace) (found : Recovered) → IfSome known (λ c. RecoversLog c (recovery_in c place) (Ok found))
+    → IfSome known (λ c. recovered_at c place ≡ Ok (content_with found.blocks.bodies.items c))
+unfolding recovered_at
+log_value known place found h = one known _ _ (λ c p. log_content c (recovery_in c place) found p) h
 
 -- ---- links
 
@@ -160,11 +146,15 @@ as_links known view g result h = one known _ _ (λ c p. rw (← links_same c g) 
 
 -- ---- the front
 
--- a volume whose log is emptied is opened
-pub opened : (known : Option Content) (geometry : Geometry) (total : ℕ) (b : Boot) → geometry ≡ geometry_of b → total ≡ clusters b → IfSome known (λ c. log_in c geometry ≡ Ok tt)
-    → IfSome known (λ c. opened_by c b ≡ Ok (record { geometry = geometry; total = total }))
+-- a volume whose log isn't refused is opened
+pub opened : (known : Option Content) (o : Opening) (b : Boot) (sectors : ℕ) → o.geometry ≡ geometry_of b → o.total ≡ clusters b
+    → IfSome known (λ c. recovered_in c o.geometry o.total sectors ≡ Ok (content_after o c)) → IfSome known (λ c. opened_by c sectors b ≡ Ok (opened_as c o))
 unfolding opened_by
-opened known geometry total b same size h =
-    let made : Opening = record { geometry = geometry_of b; total = clusters b } in
-    let is : made ≡ record { geometry = geometry; total = total } = rw (same, size) refl in
-    one known _ _ (λ c e. ap (λ (r : Result (Unit {0}) Refusal). r >>= λ _. okay made) (rw same at e) ∙ ap okay is) h
+opened known o b sectors same size h =
+    one known _ _ (λ c e. ap (λ (r : Result Content Refusal). r >>= λ content. okay (made content)) (rw (same, size) at e) ∙ ap okay (parts c)) h
+  where
+    made : Content → Opened
+    made content = record { geometry = geometry_of b; total = clusters b; content = content }
+
+    parts : (c : Content) → made (content_after o c) ≡ opened_as c o
+    parts c = rw (same, size) refl

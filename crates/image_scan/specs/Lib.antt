@@ -1,3 +1,4 @@
 pub mod Errors
-pub mod Openings
+pub mod LogPlaces
 pub mod Scans
+pub mod Openings

@@ -1,6 +1,6 @@
 -- The long names of a volume, from the sectors of its device; or the first refusal that applies.
-use Rattle.std.specs.Prelude.{ℕ, Bool, false, ◌&&◌, ◌==◌, nat_le, nat_lt, List, length, take, Option, Some, None, Result, Ok}
-use Rattle.std.specs.List.{list_all, filter}
+use Rattle.std.specs.Prelude.{ℕ, nat_le, nat_lt, List, length, Option, Some, None, Result, Ok}
+use Rattle.std.specs.List.{filter}
 use Rattle.host_base.specs.Answers.{◌>>=◌, needs}
 use Rattle.disk_model.specs.declared.block.Block.{Block}
 use Rattle.disk_model.specs.declared.block.BlockKind.TheVariants.{Plain}
@@ -11,15 +11,17 @@ use Rattle.tree_model.specs.declared.link.Link.{Link}
 use Rattle.tree_model.specs.Trees.{is_long}
 use Rattle.state_model.specs.declared.geometry.Geometry.{Geometry}
 use Rattle.state_model.specs.declared.stream.Stream.{Stream}
-use Rattle.state_model.specs.Streams.{real_size, stream_bytes}
 use Rattle.state_model.specs.Trees.{all_links}
 use Rattle.state_model.specs.Loads.{piece_of, judged, boot_block, data_stream, table_in, loaded}
 use Rattle.boot_sector.specs.declared.boot.Boot.{Boot}
 use Rattle.boot_sector.specs.BootSectors.{boot_of, clusters}
-use Rattle.image_scan.specs.declared.opening.Opening.{Opening}
+use Rattle.log_model.specs.Logs.{recovered}
+use Rattle.log_page.specs.declared.places.LogPlace.{LogPlace}
+use Rattle.log_recovery.specs.LogStates.{recovery_in}
 use Rattle.image_scan.specs.declared.refusal.Refusal.{Refusal}
-use Rattle.image_scan.specs.declared.refusal.Refusal.TheVariants.{Short, Unbuilt}
-use Rattle.image_scan.specs.Errors.{boot_refusal, map_refusal, refused_as}
+use Rattle.image_scan.specs.declared.refusal.Refusal.TheVariants.{Short}
+use Rattle.image_scan.specs.Errors.{boot_refusal, map_refusal, log_refusal, refused_as}
+use Rattle.image_scan.specs.LogPlaces.{place_of}
 
 -- ---- the boot sector
 
@@ -42,33 +44,26 @@ geometry_of b = record { per_cluster = b.per_cluster; mft = b.mft }
 
 -- ---- the log
 
--- two pages
-abbrev pub log_front : ℕ
-log_front = 8192
-
--- so many bytes at the stream's front are all FF
-unfoldable pub begins_with_ff : Content → ℕ → Stream → ℕ → Bool
-begins_with_ff c per s count = list_all (λ b. b == 0xFF) (take count (stream_bytes c per s))
-
--- the stream is no shorter than two pages, and these are all FF
-unfoldable pub is_emptied : Content → ℕ → Stream → Bool
-is_emptied c per s = nat_le log_front (real_size s) && begins_with_ff c per s log_front
-
-abbrev pub is_emptied_log : Content → ℕ → Option Stream → Bool
-is_emptied_log c per None = false
-is_emptied_log c per (Some s) = is_emptied c per s
-
-abbrev pub has_empty_log : Content → ℕ → Option Record → Bool
-has_empty_log c per None = false
-has_empty_log c per (Some r) = is_emptied_log c per (data_stream r)
-
 -- record 2 where the boot sector says that the file table begins
 unfoldable pub log_record : Content → Geometry → Result (Option Record) Refusal
 log_record c g = refused_as map_refusal (judged 2 (piece_of (c (boot_block g 2))))
 
--- it has an emptied log, or what refuses it
-unfoldable pub log_in : Content → Geometry → Result (Unit {0}) Refusal
-log_in c g = log_record c g >>= λ file. needs (has_empty_log c g.per_cluster file) (Unbuilt 7)
+-- the unnamed data of a file, if there are both
+abbrev pub data_of : Option Record → Option Stream
+data_of (Some r) = data_stream r
+data_of None = None
+
+-- where the log lies, by record 2
+abbrev pub log_place : Geometry → ℕ → ℕ → Option Record → LogPlace
+log_place g clusters device file = place_of g.per_cluster clusters device (data_of file)
+
+-- the content that recovery by the log at this place makes, or what refuses the log
+unfoldable pub recovered_at : Content → LogPlace → Result Content Refusal
+recovered_at c place = refused_as log_refusal (recovery_in c place) >>= λ state. Ok (recovered c state.log)
+
+-- the same of a volume of so many clusters, on a device of so many sectors
+unfoldable pub recovered_in : Content → Geometry → ℕ → ℕ → Result Content Refusal
+recovered_in c g clusters device = log_record c g >>= λ file. recovered_at c (log_place g clusters device file)
 
 -- ---- the files
 
@@ -84,19 +79,27 @@ links_in c g = files_of c g >>= λ files. Ok (long_links files)
 
 -- ---- all
 
--- a volume with this boot sector, whose log is emptied
-unfoldable pub opened_by : Content → Boot → Result Opening Refusal
-opened_by c b = log_in c (geometry_of b) >>= λ _. Ok (record { geometry = geometry_of b; total = clusters b })
+-- a volume that was opened: where its file table lies, its clusters, and its recovered content
+pub record Opened : Type 0 where
+  pub geometry : Geometry
+  pub total : ℕ
+  pub content : Content
 
--- where a volume's file table lies, and its clusters, on a device of so many sectors; or what refuses its boot sector or its log
-unfoldable pub opened_in : Content → ℕ → Result Opening Refusal
-opened_in c sectors = boot_on c sectors >>= opened_by c
+-- a volume with this boot sector
+unfoldable pub opened_by : Content → ℕ → Boot → Result Opened Refusal
+opened_by c sectors b =
+    recovered_in c (geometry_of b) (clusters b) sectors >>= λ content. Ok (record { geometry = geometry_of b; total = clusters b; content = content })
+
+-- the volume on a device of so many sectors, or what refuses its boot sector or its log
+unfoldable pub opened_in : Content → ℕ → Result Opened Refusal
+opened_in c sectors = boot_on c sectors >>= opened_by c sectors
 
 -- the links of a content on a device of so many sectors
 unfoldable pub scan_in : Content → ℕ → Result (List Link) Refusal
-scan_in c sectors = opened_in c sectors >>= λ o. links_in c o.geometry
+scan_in c sectors = opened_in c sectors >>= λ o. links_in o.content o.geometry
 
 -- The long names of the volume on these sectors, by the numbers of their files and then as they stand in the records; or
--- the first refusal that applies: by the boot sector, by record 2 and the log, and by the records of the file table.
+-- the first refusal that applies: by the boot sector, by record 2 and the log, and by the records of the file table, which are
+-- those of the recovered content.
 unfoldable pub scan_of : List (List ℕ) → Result (List Link) Refusal
 scan_of disk = needs (nat_lt 0 (length disk)) (Short 1 0) >>= λ _. scan_in (content_of (sector_of disk)) (length disk)

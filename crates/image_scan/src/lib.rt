@@ -9,6 +9,7 @@
 mod boot;
 mod log;
 mod opening;
+mod place;
 mod refusal;
 mod scan;
 

@@ -5,25 +5,29 @@ ghost use Rattle.host_base.specs.Causes.{Rose};
 ghost use Rattle.boot_sector.specs.BootSectors.{IsInProfile, clusters};
 ghost use Rattle.volume_map.specs.Views.{KeepsView};
 ghost use Rattle.image_scan.specs.Errors.{scan_cause};
-ghost use Rattle.image_scan.specs.Openings.{IsOpening};
+ghost use Rattle.image_scan.specs.Openings.{IsOpening, opened_as};
 ghost use Rattle.image_scan.specs.Scans.{geometry_of, opened_by, opened_in};
 
 use crate::boot::boot_on;
-use crate::log::check_log;
+use crate::log::recovered_in;
 use crate::refusal::ScanError;
 use block_view::View;
 use boot_sector::Boot;
 use disk_model::Body;
+use log_recovery::RecoveredBlock;
 use state_model::Geometry;
 use std::alloc::Global;
 
-/// What the boot sector of a volume says of it.
-#[derive(Clone, Copy, Debug, PartialEq, Eq)]
+/// A volume that was opened.
+#[derive(Debug, Drop)]
 pub struct Opening {
     /// The sectors of a cluster, and the cluster at which the file table begins.
     pub geometry: Geometry,
     /// The volume's clusters.
     pub total: u64,
+    /// The blocks that recovery by the volume's log makes, with which a `RecoveredView` is the volume's
+    /// recovered content.
+    pub bodies: Vec<RecoveredBlock>,
 }
 
 // The sectors of a cluster, and the cluster at which the file table begins.
@@ -53,40 +57,45 @@ fn clusters_of(boot: &Boot) -> u64
 fn open_boot<V: View>(
     alloc: Global,
     view: &mut V,
+    sectors: u64,
     boot: &Boot,
     body: &mut Body,
 ) -> Result<Opening, ScanError>
     requires profile { IsInProfile boot.now }
-    ensures answer { IfSome (V.content view.old) (λ c. GivesOrFails (λ o. o) scan_cause result (opened_by c boot.now)) }
+    ensures answer { IfSome (V.content view.old) (λ c. GivesOrFails (opened_as c) scan_cause result (opened_by c sectors boot.now)) }
     ensures opening { IfOk result IsOpening }
     ensures kept { KeepsView V.content V.kept V.faults view.old view.new }
     ensures fault { IsErrOf result ScanError.Device → Rose (V.faults view.old) (V.faults view.new) }
 {
     let geometry = geometry_of(boot);
-    check_log(alloc, view, geometry, body)?;
+    let total = clusters_of(boot);
+    let bodies = recovered_in(alloc, view, geometry, total, sectors, body)?;
     Ok(Opening {
         geometry,
-        total: clusters_of(boot),
+        total,
+        bodies,
     })
 }
 
-/// Where the file table of the volume that a view shows lies, and how many clusters the volume has
-/// (Linux-NTFS documentation, "$Boot", "$LogFile"), on a device of so many sectors of 512 bytes. It
-/// reads the boot sector, record 2 where this says that the file table begins, and the first two pages
-/// of the log.
+/// Opens the volume that a view shows on a device of so many sectors of 512 bytes (Linux-NTFS
+/// documentation, "$Boot", "$LogFile"): where its file table lies, how many clusters it has, and the
+/// blocks that recovery by its log makes, with which its content is the recovered one. It reads the
+/// boot sector, record 2 where this says that the file table begins, and the log. Nothing is written.
 ///
 /// - [`ScanError::Refused`]: the refusal of the boot sector, or `Short` with the sectors of the volume
-///   and of the device, where the device has fewer; then that of record 2, by its rules 1 to 8, or of a
-///   log that isn't emptied.
+///   and of the device, where the device has fewer; then that of record 2, by its rules 1 to 8; then
+///   that of the log.
 /// - [`ScanError::Device`]: the view failed.
 /// - [`ScanError::Memory`]: want of memory.
+///
+/// Time is linear in the log's pages on the device, and near-linear in the bytes of its entries.
 pub fn open_volume<V: View>(alloc: Global, view: &mut V, sectors: u64) -> Result<Opening, ScanError>
-    ensures answer { IfSome (V.content view.old) (λ c. GivesOrFails (λ o. o) scan_cause result (opened_in c sectors)) }
+    ensures answer { IfSome (V.content view.old) (λ c. GivesOrFails (opened_as c) scan_cause result (opened_in c sectors)) }
     ensures opening { IfOk result IsOpening }
     ensures kept { KeepsView V.content V.kept V.faults view.old view.new }
     ensures fault { IsErrOf result ScanError.Device → Rose (V.faults view.old) (V.faults view.new) }
 {
     let mut body = Body::empty(alloc)?;
     let boot = boot_on(view, sectors, &mut body)?;
-    open_boot(alloc, view, &boot, &mut body)
+    open_boot(alloc, view, sectors, &boot, &mut body)
 }

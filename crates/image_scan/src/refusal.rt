@@ -1,6 +1,7 @@
 use block_view::ViewFault;
 use boot_sector::BootFault;
 use host_base::Failed;
+use log_recovery::RecoveryFault;
 use state_model::MapRefusal;
 use std::alloc::{AllocError, AllocFailed};
 use thiserror::Error;
@@ -37,6 +38,16 @@ pub enum Refusal {
     /// The volume information isn't 3.1.
     #[error("version {major}.{minor} isn't 3.1")]
     Version { major: u8, minor: u8 },
+    /// The log's restart page is of another major version than 1.
+    #[error("log of version {major}.{minor}")]
+    LogVersion { major: u16, minor: u16 },
+    /// No restart page of the log is whole, and neither of its first two pages is all FF.
+    #[error("no restart page")]
+    NoRestart,
+    /// The log isn't clean and isn't this host's, or its entry with this LSN, the block that it
+    /// updates, or its lap is refused.
+    #[error("foreign log at {lsn}")]
+    ForeignLog { lsn: u64 },
     /// There is no change journal whose records can be read: `$Extend` has no `$UsnJrnl` (1), its
     /// file has an attribute list (2), or a stream of it is missing or out of shape (3).
     #[error("there is no journal: {why}")]
@@ -44,10 +55,9 @@ pub enum Refusal {
     /// The records stand for no tree: this rule is broken, first at this record.
     #[error("the volume breaks rule {rule} at {number}")]
     BadVolume { rule: u32, number: u64 },
-    /// The image is of a kind that isn't handled yet. A scan refuses a log whose first two pages
-    /// aren't all FF (rule 7). A run refuses a geometry (rule 1), the place of a file table (rule
-    /// 2), a log (rule 3), a record with clusters or an attribute list (rule 4), and a directory's
-    /// index with blocks (rule 5).
+    /// The image is of a kind that isn't handled yet. A run refuses a geometry (rule 1), the place
+    /// of a file table (rule 2), a log (rule 3), a record with clusters or an attribute list (rule
+    /// 4), and a directory's index with blocks (rule 5).
     #[error("not handled yet: rule {rule}")]
     Unbuilt { rule: u32 },
 }
@@ -164,6 +174,25 @@ impl From<MapFault> for ScanError {
             MapFault::Refused(refusal) => ScanError::Refused(Refusal::from(refusal)),
             MapFault::View => ScanError::Device,
             MapFault::Memory => ScanError::Memory,
+        }
+    }
+}
+
+impl From<RecoveryFault> for ScanError {
+    ghost use Rattle.std.specs.Prelude.{◌≡◌};
+    ghost use Rattle.image_scan.specs.Errors.{error_of_log};
+
+    ghost from_gives = { λ fault e. e ≡ error_of_log fault };
+
+    fn from(fault: RecoveryFault) -> Self {
+        match fault {
+            RecoveryFault::LogVersion { major, minor } => {
+                ScanError::Refused(Refusal::LogVersion { major, minor })
+            }
+            RecoveryFault::NoRestart => ScanError::Refused(Refusal::NoRestart),
+            RecoveryFault::ForeignLog { lsn } => ScanError::Refused(Refusal::ForeignLog { lsn }),
+            RecoveryFault::Fault => ScanError::Device,
+            RecoveryFault::Memory => ScanError::Memory,
         }
     }
 }

@@ -7,12 +7,14 @@ ghost use Rattle.disk_model.specs.Content.{content_of};
 ghost use Rattle.device_view.specs.Devices.{KeepsDevice};
 ghost use Rattle.volume_map.specs.Views.{KeepsView};
 ghost use Rattle.image_scan.specs.Errors.{scan_cause};
+ghost use Rattle.image_scan.specs.Openings.{IsOpening, content_after};
 ghost use Rattle.image_scan.specs.Scans.{links_in, scan_in, scan_of};
 
-use crate::opening::open_volume;
+use crate::opening::{Opening, open_volume};
 use crate::refusal::{Refusal, ScanError};
 use block_view::View;
 use device_view::{DeviceView, piece_room};
+use log_recovery::{RecoveredView, places_of};
 use sector_device::Device;
 use state_model::Geometry;
 use std::alloc::Global;
@@ -35,6 +37,18 @@ fn links_in<V: View>(
     Ok(load_links(alloc, view, geometry)?)
 }
 
+// The links of a volume that was opened.
+fn links_of<V: View>(alloc: Global, view: &mut V, opening: &Opening) -> Result<Vec<Link>, ScanError>
+    requires opening { IsOpening opening.now }
+    ensures answer { IfSome (V.content view.old) (λ c. GivesOrFails (λ links. links.items) scan_cause result (links_in (content_after opening.now c) opening.now.geometry)) }
+    ensures kept { KeepsView V.content V.kept V.faults view.old view.new }
+    ensures fault { IsErrOf result ScanError.Device → Rose (V.faults view.old) (V.faults view.new) }
+{
+    let places = places_of(alloc, &opening.bodies)?;
+    let mut recovered = RecoveredView::new(view, &opening.bodies, &places);
+    links_in(alloc, &mut recovered, opening.geometry)
+}
+
 // The links of a view of so many sectors.
 fn scan_view<V: View>(alloc: Global, view: &mut V, sectors: u64) -> Result<Vec<Link>, ScanError>
     ensures answer { IfSome (V.content view.old) (λ c. GivesOrFails (λ links. links.items) scan_cause result (scan_in c sectors)) }
@@ -42,7 +56,7 @@ fn scan_view<V: View>(alloc: Global, view: &mut V, sectors: u64) -> Result<Vec<L
     ensures fault { IsErrOf result ScanError.Device → Rose (V.faults view.old) (V.faults view.new) }
 {
     let opening = open_volume(alloc, view, sectors)?;
-    links_in(alloc, view, opening.geometry)
+    links_of(alloc, view, &opening)
 }
 
 // The links of a device of so many sectors.
@@ -63,8 +77,8 @@ fn scan_device<D: Device>(
 /// The long names of the volume on the device, by the numbers of their files and then as they stand
 /// in the file records.
 ///
-/// It reads the boot sector, record 2 and the first two pages of the log, and then goes over the
-/// file table, in reads of 64 KiB where its records lie one behind the other: once, and keeping only
+/// It reads the boot sector, record 2 and the log, and then goes over the file table, as recovery by
+/// the log would leave it, in reads of 64 KiB where its records lie one behind the other: once, and keeping only
 /// the names, as long as no file has an attribute list. At the first file that has one it begins again
 /// and keeps all records. Time is linear in the file table, and in its runs for each record; memory is
 /// linear in the names, or in the file table where a file has an attribute list.
@@ -72,7 +86,7 @@ fn scan_device<D: Device>(
 /// - [`ScanError::Refused`]: the first refusal that applies. First [`Refusal::Short`] of 1 and 0
 ///   where the device has no sectors; then those of the boot sector; then `Short` with the sectors
 ///   of the volume and of the device, where the device has fewer; then record 2, by the rules 1 to
-///   8, and a log whose first two pages aren't all FF; then record 0, and all records.
+///   8, and the log; then record 0, and all records.
 /// - [`ScanError::Device`]: the device failed.
 /// - [`ScanError::Memory`]: want of memory.
 pub fn scan_image<D: Device>(alloc: Global, device: &mut D) -> Result<Vec<Link>, ScanError>

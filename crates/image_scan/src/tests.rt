@@ -66,7 +66,7 @@ fn refuses_a_boot_sector(rt: HostRuntime) -> Result<(), Fail> {
                 device: 63,
             },
         ),
-        (whole, 64, Refusal::Unbuilt { rule: 7 }),
+        (whole, 64, Refusal::NoRestart),
     ];
     for (boot, sectors, refusal) in cases {
         let mut device = device(alloc, &boot, sectors, &[])?;

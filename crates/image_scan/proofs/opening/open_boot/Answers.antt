@@ -1,16 +1,17 @@
 use Rattle.std.proofs.Common.{Ok}
 use Rattle.std.proofs.lemmas.Result.{err_from_is_err_and}
+use Rattle.disk_model.specs.Content.{Content}
 use Rattle.boot_sector.specs.BootSectors.{clusters}
-use Rattle.image_scan.specs.declared.opening.Opening.{Opening}
-use Rattle.image_scan.specs.Scans.{geometry_of, log_in, opened_by}
+use Rattle.image_scan.specs.Scans.{geometry_of, recovered_in, Opened, opened_by}
 use Rattle.image_scan.proofs.Steps.{fails_first, opened}
 use Rattle.image_scan.proofs.opening.open_boot.Goals as goal
 
-pub returns-in_err-check_log-clause-answer : goal.returns-in_err-check_log-clause-answer
+pub returns-in_err-bodies-clause-answer : goal.returns-in_err-bodies-clause-answer
 unfolding opened_by
-returns-in_err-check_log-clause-answer g c =
+returns-in_err-bodies-clause-answer g c =
     let p = err_from_is_err_and c.from_residual.result c.from_residual.ensures.1 in
-    rw (p.1, p.2) (fails_first _ (λ (x : Unit {0}). x) (λ (o : Opening). o) _ (λ content. log_in content (geometry_of c.args.boot.now)) (λ content _. Ok (record { geometry = geometry_of c.args.boot.now; total = clusters c.args.boot.now })) (rw c.geometry_of-geometry.ensures.value at c.in_err-check_log.ensures.answer))
+    rw (p.1, p.2) (fails_first _ (λ (content : Content). content) (λ (o : Opened). o) _ (λ content. recovered_in content (geometry_of c.args.boot.now) (clusters c.args.boot.now) c.args.sectors)
+    (λ _ content. Ok (record { geometry = geometry_of c.args.boot.now; total = clusters c.args.boot.now; content = content })) (rw (c.geometry_of-geometry.ensures.value, c.clusters_of-total.ensures.value) at c.in_err-bodies.ensures.answer))
 
 pub returns-clause-answer : goal.returns-clause-answer
-returns-clause-answer g c = opened _ _ _ c.args.boot.now c.geometry_of-geometry.ensures.value c.clusters_of.ensures.value c.in_ok-check_log.ensures.answer
+returns-clause-answer g c = opened _ (record { geometry = c.geometry_of-geometry.result; total = c.clusters_of-total.result; bodies = c.in_ok-bodies.bodies }) c.args.boot.now c.args.sectors c.geometry_of-geometry.ensures.value c.clusters_of-total.ensures.value c.in_ok-bodies.ensures.answer
