@@ -44,9 +44,9 @@ loaded_tree c g total = volume_on c g total >>= λ v. volume_tree c v
 
 -- the tree of a content on a device of so many sectors
 unfoldable pub check_in : Content → ℕ → Result Tree Refusal
-check_in c sectors = opened_in c sectors >>= λ o. loaded_tree c o.geometry o.total
+check_in c sectors = opened_in c sectors >>= λ o. loaded_tree o.content o.geometry o.total
 
--- The tree that the volume on these sectors stands for, without the bytes of its nodes and the records of its journal; or
+-- The tree that the volume on these sectors stands for once it is recovered, without the bytes of its nodes and the records of its journal; or
 -- the first refusal that applies: by the boot sector, by record 2 and the log, by the records of the file table, by the
 -- version, and by the nine rules of a volume.
 unfoldable pub check_of : List (List ℕ) → Result Tree Refusal

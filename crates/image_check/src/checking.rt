@@ -8,12 +8,14 @@ ghost use Rattle.device_view.specs.Devices.{KeepsDevice};
 ghost use Rattle.volume_map.specs.Maps.{IsMap, volume_in};
 ghost use Rattle.volume_map.specs.Views.{KeepsView};
 ghost use Rattle.image_scan.specs.Errors.{scan_cause};
+ghost use Rattle.image_scan.specs.Openings.{IsOpening, content_after};
 ghost use Rattle.image_check.specs.Errors.{error_of_check};
 ghost use Rattle.image_check.specs.Checks.{judged_version, has_version, tree_on, volume_on, volume_tree, loaded_tree, check_in, check_of};
 
 use block_view::View;
 use device_view::{DeviceView, piece_room};
-use image_scan::{Refusal, ScanError, open_volume};
+use image_scan::{Opening, Refusal, ScanError, open_volume};
+use log_recovery::{RecoveredView, places_of};
 use record_model::VolumeInfo;
 use sector_device::Device;
 use state_model::Geometry;
@@ -111,7 +113,7 @@ pub fn volume_on<V: View>(
     Ok(load_volume(alloc, view, geometry, total)?)
 }
 
-// The tree of a volume whose log is emptied.
+// The tree of a volume of this geometry and so many clusters.
 fn loaded_tree<V: View>(
     alloc: Global,
     view: &mut V,
@@ -129,6 +131,18 @@ fn loaded_tree<V: View>(
     volume_tree(alloc, view, &map)
 }
 
+// The tree of a volume that was opened.
+fn opened_tree<V: View>(alloc: Global, view: &mut V, opening: &Opening) -> Result<Tree, ScanError>
+    requires opening { IsOpening opening.now }
+    ensures answer { IfSome (V.content view.old) (λ c. GivesOrFails (λ tree. tree) scan_cause result (loaded_tree (content_after opening.now c) opening.now.geometry opening.now.total)) }
+    ensures kept { KeepsView V.content V.kept V.faults view.old view.new }
+    ensures fault { IsErrOf result ScanError.Device → Rose (V.faults view.old) (V.faults view.new) }
+{
+    let places = places_of(alloc, &opening.bodies)?;
+    let mut recovered = RecoveredView::new(view, &opening.bodies, &places);
+    loaded_tree(alloc, &mut recovered, opening.geometry, opening.total)
+}
+
 // The tree of a view of so many sectors.
 fn check_view<V: View>(alloc: Global, view: &mut V, sectors: u64) -> Result<Tree, ScanError>
     ensures answer { IfSome (V.content view.old) (λ c. GivesOrFails (λ tree. tree) scan_cause result (check_in c sectors)) }
@@ -136,7 +150,7 @@ fn check_view<V: View>(alloc: Global, view: &mut V, sectors: u64) -> Result<Tree
     ensures fault { IsErrOf result ScanError.Device → Rose (V.faults view.old) (V.faults view.new) }
 {
     let opening = open_volume(alloc, view, sectors)?;
-    loaded_tree(alloc, view, opening.geometry, opening.total)
+    opened_tree(alloc, view, &opening)
 }
 
 // The tree of a device of so many sectors.
@@ -161,7 +175,7 @@ fn check_device<D: Device>(alloc: Global, device: &mut D, sectors: u64) -> Resul
 /// - [`ScanError::Refused`]: the first refusal that applies. First [`Refusal::Short`] of 1 and 0
 ///   where the device has no sectors; then those of the boot sector; then `Short` with the sectors
 ///   of the volume and of the device, where the device has fewer; then record 2, by the rules 1 to
-///   8, and a log whose first two pages aren't all FF; then record 0, and all records; then
+///   8, and the log; then record 0, and all records, as recovery by the log would leave them; then
 ///   [`Refusal::Version`], where the volume information (Linux-NTFS documentation,
 ///   "$VOLUME_INFORMATION") isn't 3.1, with version 0.0 where there is none; then
 ///   [`Refusal::BadVolume`] with the first of the nine rules that is broken, and the least number at

@@ -48,7 +48,7 @@ fn answers_what_comes_before_the_rules(rt: HostRuntime) -> Result<(), Fail> {
                 device: 63,
             }),
         ),
-        (64, 0, ScanError::Refused(Refusal::Unbuilt { rule: 7 })),
+        (64, 0, ScanError::Refused(Refusal::NoRestart)),
         (64, 1, ScanError::Device),
     ] {
         let mut device = device(alloc, sectors, &[failing])?;

@@ -18,7 +18,7 @@ use Rattle.image_scan.specs.declared.refusal.Refusal.TheVariants.{NoJournal}
 use Rattle.image_scan.specs.declared.refusal.ScanError.{ScanError}
 use Rattle.image_scan.specs.declared.refusal.ScanError.TheVariants as errors
 use Rattle.image_scan.specs.Errors.{scan_cause, refused_as}
-use Rattle.image_scan.proofs.Steps.{gives_or_fails, okay, okay_is}
+use Rattle.image_scan.proofs.Steps.{gives_or_fails, okay}
 use Rattle.image_journal.specs.Records.{place_on}
 use Rattle.image_journal.proofs.Begins.{all_read}
 
@@ -53,6 +53,9 @@ entries_are c per e first most pulled is =
 
 abbrev AreFew : ℕ → Result (List Usn) ScanError → Type 0
 AreFew most result = IfOk result (λ (kept : List Usn). length kept < most)
+
+okay_is : {A : Type 0} (x y : A) → okay x ≡ okay y → x ≡ y
+okay_is x y e = cc
 
 given : (c : Content) (per : ℕ) (e : Extents) (first most : ℕ) (pulled : Pulled) (result : Result (List Usn) ScanError) → first ≡ journal_first per e → pulled_of c per e first most ≡ Ok pulled
     → Gives (λ (l : List Usn). l) scan_cause result (okay pulled.entries) → AreFew most result → GivesOrFails (λ (l : List Usn). l) scan_cause result (okay (read_entries (journal_entries c per e)))

@@ -45,9 +45,9 @@ loaded_records c g total = volume_on c g total >>= λ v. volume_records c v
 
 -- the records of a content on a device of so many sectors
 unfoldable pub journal_in : Content → ℕ → Result ReadJournal Refusal
-journal_in c sectors = opened_in c sectors >>= λ o. loaded_records c o.geometry o.total
+journal_in c sectors = opened_in c sectors >>= λ o. loaded_records o.content o.geometry o.total
 
--- The records of the change journal of the volume on these sectors, and where it begins and ends; or the first refusal that
+-- The records of the change journal of the volume on these sectors once it is recovered, and where it begins and ends; or the first refusal that
 -- applies: by the boot sector, by record 2 and the log, by the records of the file table, by the version, by the journal
 -- that there isn't, and by the nine rules of a volume.
 unfoldable pub journal_of : List (List ℕ) → Result ReadJournal Refusal

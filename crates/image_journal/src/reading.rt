@@ -12,6 +12,7 @@ ghost use Rattle.volume_model.specs.Volumes.{upper_of};
 ghost use Rattle.volume_state.specs.Journals.{journal_first, journal_entries};
 ghost use Rattle.volume_journal.specs.Places.{journal_place};
 ghost use Rattle.image_scan.specs.Errors.{scan_cause};
+ghost use Rattle.image_scan.specs.Openings.{IsOpening, content_after};
 ghost use Rattle.image_journal.specs.Records.{place_on, records_in, records_by, placed_records, volume_records, loaded_records, journal_in, journal_of};
 
 use crate::records::{all_entries, place_on};
@@ -19,7 +20,8 @@ use block_view::View;
 use device_view::{DeviceView, piece_room};
 use disk_model::Body;
 use image_check::{check_version, tree_on, volume_on};
-use image_scan::{Refusal, ScanError, open_volume};
+use image_scan::{Opening, Refusal, ScanError, open_volume};
+use log_recovery::{RecoveredView, places_of};
 use sector_device::Device;
 use state_model::{Extents, Geometry};
 use std::alloc::Global;
@@ -134,6 +136,22 @@ fn loaded_records<V: View>(
     volume_records(alloc, view, &map)
 }
 
+// The records of a volume that was opened.
+fn opened_records<V: View>(
+    alloc: Global,
+    view: &mut V,
+    opening: &Opening,
+) -> Result<ReadJournal, ScanError>
+    requires opening { IsOpening opening.now }
+    ensures answer { IfSome (V.content view.old) (λ c. GivesOrFails (λ j. j) scan_cause result (loaded_records (content_after opening.now c) opening.now.geometry opening.now.total)) }
+    ensures kept { KeepsView V.content V.kept V.faults view.old view.new }
+    ensures fault { IsErrOf result ScanError.Device → Rose (V.faults view.old) (V.faults view.new) }
+{
+    let places = places_of(alloc, &opening.bodies)?;
+    let mut recovered = RecoveredView::new(view, &opening.bodies, &places);
+    loaded_records(alloc, &mut recovered, opening.geometry, opening.total)
+}
+
 // The records of a view of so many sectors.
 fn read_view<V: View>(alloc: Global, view: &mut V, sectors: u64) -> Result<ReadJournal, ScanError>
     ensures answer { IfSome (V.content view.old) (λ c. GivesOrFails (λ j. j) scan_cause result (journal_in c sectors)) }
@@ -141,7 +159,7 @@ fn read_view<V: View>(alloc: Global, view: &mut V, sectors: u64) -> Result<ReadJ
     ensures fault { IsErrOf result ScanError.Device → Rose (V.faults view.old) (V.faults view.new) }
 {
     let opening = open_volume(alloc, view, sectors)?;
-    loaded_records(alloc, view, opening.geometry, opening.total)
+    opened_records(alloc, view, &opening)
 }
 
 // The records of a device of so many sectors.

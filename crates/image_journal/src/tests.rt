@@ -40,7 +40,7 @@ fn answers_what_comes_before_the_journal(rt: HostRuntime) -> Result<(), Fail> {
                 device: 0,
             }),
         ),
-        (64, 0, ScanError::Refused(Refusal::Unbuilt { rule: 7 })),
+        (64, 0, ScanError::Refused(Refusal::NoRestart)),
         (64, 1, ScanError::Device),
     ] {
         let mut device = device(alloc, sectors, &[failing])?;
