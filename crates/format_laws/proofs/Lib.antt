@@ -4,4 +4,6 @@ pub mod Ordering
 pub mod Indexing
 pub mod Nodes
 pub mod Checking
+pub mod EmptyLog
+pub mod NewLog
 pub mod Opening

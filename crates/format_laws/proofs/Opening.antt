@@ -1,20 +1,19 @@
 -- The image of a new volume is opened and loaded, and stands for its tree.
-use Rattle.std.specs.Prelude.{◌==◌, replicate}
-use Rattle.std.proofs.Common.{◌≡◌, ℕ, zero, suc, ◌*◌, ◌^◌, ◌<◌, ◌≤◌, Bool, true, leb, ltb, List, length, take, Some, Ok, refl, ap, ◌∙◌, arith}
-use Rattle.std.specs.List.{list_all}
-use Rattle.std.proofs.lemmas.Bool.{and_from, le-leb, lt-ltb}
-use Rattle.std.proofs.lemmas.List.{take_all}
-use Rattle.host_base.specs.Answers.{◌>>=◌, needs}
+use Rattle.std.proofs.Common.{◌≡◌, ℕ, ◌+◌, ◌*◌, ◌^◌, ◌<◌, ◌≤◌, true, leb, ltb, List, length, Result, Some, Ok, refl, ap, ◌∙◌, arith}
+use Rattle.std.proofs.lemmas.Bool.{le-leb, lt-ltb}
+use Rattle.host_base.specs.Answers.{◌>>=◌}
 use Rattle.disk_model.specs.declared.block.Body.{Body}
+use Rattle.disk_model.specs.declared.block.BlockKind.TheVariants.{Plain}
 use Rattle.disk_model.specs.Bytes.{zeros}
-use Rattle.disk_model.specs.Sectors.{sector_of}
-use Rattle.disk_model.specs.Content.{Content, content_of}
+use Rattle.disk_model.specs.Sectors.{IsDisk, sector_of, sectors, raw_from}
+use Rattle.disk_model.specs.Content.{Content, HasSizes, content_of}
+use Rattle.disk_model.proofs.Sectors.{length-raw_from, length-body_of}
+use Rattle.sector_device.specs.Sectors.{sector_in}
 use Rattle.record_model.specs.declared.values.VolumeInfo.{VolumeInfo}
 use Rattle.record_model.specs.StdValues.{volume_info_of, volume_info_over}
 use Rattle.record_model.proofs.FixedValues.{volume_info_read, volume_info_spelled}
 use Rattle.record_model.proofs.UnitBytes.{length-zeros}
 use Rattle.state_model.specs.declared.stream.Stream.TheVariants.{Placed}
-use Rattle.state_model.specs.Streams.{extent_bytes}
 use Rattle.state_model.specs.Loads.{Piece, piece_of, judged, data_stream}
 use Rattle.boot_sector.specs.declared.boot.Boot.{Boot}
 use Rattle.boot_sector.specs.BootSectors.{clusters, boot_of as read_boot, boot_spelling, FitsBoot}
@@ -22,17 +21,20 @@ use Rattle.boot_sector.proofs.Tables.{table_is_read, size_from_test}
 use Rattle.boot_sector.proofs.Spelling.{boot_spells}
 use Rattle.volume_model.specs.Volumes.{volume_of}
 use Rattle.volume_state.specs.Versions.{info_or_none, file_info, volume_info}
-use Rattle.image_scan.specs.declared.opening.Opening.{Opening}
-use Rattle.image_scan.specs.declared.refusal.Refusal.TheVariants.{Short, Unbuilt}
-use Rattle.image_scan.specs.Errors.{boot_refusal, map_refusal, refused_as}
-use Rattle.image_scan.specs.Scans.{boot_in, sized_on, boot_on, geometry_of, begins_with_ff, is_emptied, is_emptied_log, has_empty_log, log_record, log_in, opened_by, opened_in}
+use Rattle.log_model.specs.Logs.{recovered}
+use Rattle.log_reading.specs.declared.fault.RecoveryFault.{RecoveryFault}
+use Rattle.log_recovery.specs.LogStates.{LogState, recovery_in}
+use Rattle.image_scan.specs.declared.refusal.Refusal.TheVariants.{Short}
+use Rattle.image_scan.specs.Errors.{boot_refusal, map_refusal, log_refusal, refused_as}
+use Rattle.image_scan.specs.LogPlaces.{place_of}
+use Rattle.image_scan.specs.Scans.{Opened, boot_in, sized_on, boot_on, geometry_of, log_record, log_place, recovered_at, recovered_in, opened_by, opened_in}
 use Rattle.image_check.specs.Errors.{broken_refusal}
 use Rattle.image_check.specs.Checks.{volume_on, judged_version, has_version, tree_on, volume_tree, loaded_tree, check_in, check_of}
 use Rattle.volume_format.specs.declared.layout.Layout.{Layout}
 use Rattle.volume_format.specs.Layouts.{IsLayout, layout_of}
 use Rattle.volume_format.specs.Files.{system_data, standard, named as name_attr, system_attrs, other_streams, volume_streams, system_record, record_of}
 use Rattle.volume_format.specs.Images.{boot_of, log_bytes, formatted}
-use Rattle.format_blocks.specs.Blocks.{HasBlocks}
+use Rattle.format_blocks.specs.Blocks.{block, HasBlocks}
 use Rattle.format_files.specs.Volumes.{extents_at, new_geometry}
 use Rattle.format_laws.specs.Trees.{new_tree}
 use Rattle.format_laws.specs.Images.{FormattedStands}
@@ -43,21 +45,11 @@ use Rattle.format_files.proofs.Streams.{data_is}
 use Rattle.format_files.proofs.Loading.{passes, goes_on}
 use Rattle.format_files.proofs.Tabling.{used, volume_loaded}
 use Rattle.format_files.proofs.Linking.{vol, system_here}
-use Rattle.format_files.proofs.Bytes.{extent_is}
 use Rattle.format_laws.proofs.Checking.{checked_here}
+use Rattle.format_laws.proofs.EmptyLog.{filler, filler_part, empty_state, same_content}
+use Rattle.format_laws.proofs.NewLog.{new_place, new_recovery}
 
--- ---- the log
-
-all_ff : (k n : ℕ) → list_all (λ b. b == 0xFF) (take k (replicate n 0xFF)) ≡ true
-all_ff zero n = refl
-all_ff (suc k) zero = refl
-all_ff (suc k) (suc n) = all_ff k n
-
-log_ff : (v : Layout) (k : ℕ) → list_all (λ b. b == 0xFF) (take k (log_bytes v)) ≡ true
-unfolding log_bytes
-log_ff v k = all_ff k (4096 * v.log_pages)
-
-module _ (v : Layout) (layout : IsLayout v) (seed time : ℕ) (seed_fits : seed < 2 ^ 64) (small : time < 2 ^ 64) (c : Content) (has : HasBlocks v seed time c) (device : ℕ) (room : v.sectors ≤ device) where
+module _ (v : Layout) (layout : IsLayout v) (seed time : ℕ) (seed_fits : seed < 2 ^ 64) (small : time < 2 ^ 64) (c : Content) (has : HasBlocks v seed time c) (device : ℕ) (room : v.sectors ≤ device) (sized : HasSizes c) where
   abbrev boot : Boot
   boot = boot_of v seed
 
@@ -88,18 +80,21 @@ module _ (v : Layout) (layout : IsLayout v) (seed time : ℕ) (seed_fits : seed 
   unfolding record_of system_data
   log_stream = data_is v layout time 2 (omega arith)
 
-  log_read : extent_bytes c 8 (extents_at 52 v.log_pages (4096 * v.log_pages)) ≡ log_bytes v
-  log_read = extent_is c 52 v.log_pages (4096 * v.log_pages) (log_bytes v) has.log (length-log v) (omega arith) ∙ take_all (4096 * v.log_pages) (log_bytes v) (omega (arith, length-log v))
+  filled : (s : ℕ) → s < 8 * v.log_pages → (c (block (416 + s) Plain)).bytes ≡ filler 512
+  unfolding log_bytes sector_in filler
+  filled s inside = ap (λ (b : Body). b.bytes) (has.log s (omega (arith, length-log v))) ∙ filler_part (512 * s) 512 (4096 * v.log_pages) (omega arith)
 
-  emptied : is_emptied c 8 (Placed (extents_at 52 v.log_pages (4096 * v.log_pages))) ≡ true
-  unfolding is_emptied begins_with_ff
-  emptied =
-      and_from (leb 8192 (4096 * v.log_pages)) (list_all (λ b. b == 0xFF) (take 8192 (extent_bytes c 8 (extents_at 52 v.log_pages (4096 * v.log_pages)))))
-      (le-leb 8192 (4096 * v.log_pages) (omega (arith, layout.log_some)))
-      (ap (λ (bytes : List ℕ). list_all (λ b. b == 0xFF) (take 8192 bytes)) log_read ∙ log_ff v 8192)
+  log_state : recovery_in c (new_place (clusters boot) device v.log_pages) ≡ Ok empty_state
+  log_state =
+      let count = layout.clusters in
+      let inside = layout.inside in
+      new_recovery (clusters boot) device v.log_pages (omega arith) layout.log_some layout.log_small c filled
 
-  empty_log : has_empty_log c 8 (Some (record_of v time 2)) ≡ true
-  empty_log = ap (is_emptied_log c 8) log_stream ∙ emptied
+  log_recovered : recovered_at c (new_place (clusters boot) device v.log_pages) ≡ Ok c
+  unfolding recovered_at empty_state
+  log_recovered =
+      ap (λ (r : Result LogState RecoveryFault). refused_as log_refusal r >>= λ state. Ok (recovered c state.log)) log_state
+      ∙ ap (λ (d : Content). Ok d) (same_content c sized)
 
   log_record_read : log_record c new_geometry ≡ Ok (Some (record_of v time 2))
   unfolding log_record
@@ -107,13 +102,23 @@ module _ (v : Layout) (layout : IsLayout v) (seed time : ℕ) (seed_fits : seed 
       ap (λ (b : Body). refused_as map_refusal (judged 2 (piece_of b))) (has.table 2 (omega arith))
       ∙ ap (λ (p : Piece). refused_as map_refusal (judged 2 p)) (used v layout time small 2 (omega arith))
 
-  log_here : log_in c new_geometry ≡ Ok tt
-  unfolding log_in
-  log_here = goes_on _ (Some (record_of v time 2)) (λ file. needs (has_empty_log c 8 file) (Unbuilt 7)) log_record_read ∙ ap (λ (b : Bool). needs b (Unbuilt 7)) empty_log
+  place_here : log_place new_geometry (clusters boot) device (Some (record_of v time 2)) ≡ new_place (clusters boot) device v.log_pages
+  unfolding new_place
+  place_here = ap (place_of 8 (clusters boot) device) log_stream
 
-  opened_here : opened_in c device ≡ Ok (record { geometry = new_geometry; total = clusters boot })
-  unfolding opened_in opened_by geometry_of
-  opened_here = goes_on _ boot (opened_by c) boot_here ∙ goes_on _ tt (λ _. Ok (record { geometry = new_geometry; total = clusters boot })) log_here
+  recovered_here : recovered_in c new_geometry (clusters boot) device ≡ Ok c
+  unfolding recovered_in
+  recovered_here =
+      goes_on _ (Some (record_of v time 2)) (λ file. recovered_at c (log_place new_geometry (clusters boot) device file)) log_record_read
+      ∙ ap (recovered_at c) place_here
+      ∙ log_recovered
+
+  opening : Content → Opened
+  opening content = record { geometry = new_geometry; total = clusters boot; content = content }
+
+  opened_here : opened_in c device ≡ Ok (opening c)
+  unfolding opened_in opened_by geometry_of opening
+  opened_here = goes_on _ boot (opened_by c device) boot_here ∙ goes_on _ c (λ content. Ok (opening content)) recovered_here
 
   -- ---- the version
 
@@ -148,8 +153,11 @@ module _ (v : Layout) (layout : IsLayout v) (seed time : ℕ) (seed_fits : seed 
       ∙ tree_here
 
   pub check_here : check_in c device ≡ Ok (new_tree v time)
-  unfolding check_in
-  check_here = goes_on _ (record { geometry = new_geometry; total = clusters boot }) (λ (o : Opening). loaded_tree c o.geometry o.total) opened_here ∙ loaded_here
+  unfolding check_in opening
+  check_here = goes_on _ (opening c) (λ (o : Opened). loaded_tree o.content o.geometry o.total) opened_here ∙ loaded_here
+
+body_sizes : (disk : List (List ℕ)) → IsDisk disk → HasSizes (content_of (sector_of disk))
+body_sizes disk whole = λ b. length-body_of b.kind (raw_from (sector_of disk) b.first (sectors b.kind)) ∙ length-raw_from (sector_of disk) b.first (sectors b.kind) whole
 
 device_sectors : (device : ℕ) → (layout_of device).sectors ≤ device
 unfolding layout_of
@@ -159,11 +167,12 @@ pub formatted_stands : FormattedStands
 unfolding check_of
 formatted_stands = λ old seed time can.
     let disk = formatted old seed time in
-    let count = (regions_stand old seed time can).counted in
+    let stands = regions_stand old seed time can in
+    let count = stands.counted in
     let some : ltb 0 (length (formatted old seed time)) ≡ true = lt-ltb 0 (length (formatted old seed time)) (omega (arith, count, can.least)) in
     let v = layout_of (length old) in
     let layout = layout_fits (length old) can.small can.least in
     let has = blocks_read old seed time can in
     passes (ltb 0 (length disk)) (Short 1 0) (check_in (content_of (sector_of disk)) (length disk)) some
     ∙ ap (check_in (content_of (sector_of disk))) count
-    ∙ check_here v layout seed time can.seed_fits can.time_fits (content_of (sector_of disk)) has (length old) (device_sectors (length old))
+    ∙ check_here v layout seed time can.seed_fits can.time_fits (content_of (sector_of disk)) has (length old) (device_sectors (length old)) (body_sizes disk stands.whole)
