@@ -22,7 +22,7 @@ fn the_boot_sector_is_refused(rt: HostRuntime) -> Result<(), Fail> {
         (0x44, 1, b"refused 2 Geometry 68 1\n".as_slice()),
         (0x2b, 1, b"refused 3 VolumeLarge 16777280\n".as_slice()),
         (0x28, 66, b"refused 4 Short 66 65\n".as_slice()),
-        (0x30, 57, b"refused 17 Unbuilt 7\n".as_slice()),
+        (0x30, 57, b"refused 11 NoRestart\n".as_slice()),
     ] {
         scan(&rt, &changed(rt.alloc(), at, &[byte])?, 3, text)?;
     }
@@ -67,10 +67,11 @@ fn torn_records_come_before_broken_rules(rt: HostRuntime) -> Result<(), Fail> {
     scan(&rt, &image, 3, b"refused 5 BadFixup 5\n")
 }
 
-// A log that isn't all FF, and record 0 torn.
+// A log with no restart page and no page that is all FF, and record 0 torn.
 #[test]
 fn the_log_is_refused_before_record_0(rt: HostRuntime) -> Result<(), Fail> {
     let mut image = changed(rt.alloc(), 20480, &[0])?;
+    put(&mut image, 24576, &[0]);
     put(&mut image, 512 * 9 + 510, &[9]);
-    scan(&rt, &image, 3, b"refused 17 Unbuilt 7\n")
+    scan(&rt, &image, 3, b"refused 11 NoRestart\n")
 }

@@ -143,11 +143,11 @@ fn lists_and_clusters_are_not_handled_by_a_run(rt: HostRuntime) -> Result<(), Fa
     is_answered(&rt, &image, b"", 3, b"refused 6 BadRecord 7 3\n")
 }
 
-// Bytes of the image: in the boot sector; the length and cluster of record 2's run; the log; the same of record 0, and its real
-// size. What answers a scan, with its status, and what answers a run.
+// Bytes of the image: in the boot sector; the length and cluster of record 2's run, which leaves one page of FF or none; one of
+// the log's two pages; the same of record 0, and its real size. What answers a scan, with its status, and what answers a run.
 #[test]
 fn logs_and_tables_are_answered(rt: HostRuntime) -> Result<(), Fail> {
-    let log = b"refused 17 Unbuilt 7\n".as_slice();
+    let log = b"refused 11 NoRestart\n".as_slice();
     let boots = b"refused 17 Unbuilt 1\n".as_slice();
     let tables = b"refused 17 Unbuilt 2\n".as_slice();
     let logs = b"refused 17 Unbuilt 3\n".as_slice();
@@ -162,9 +162,9 @@ fn logs_and_tables_are_answered(rt: HostRuntime) -> Result<(), Fail> {
             logs,
         ),
         (6144 + 0xea, [49, 0], 3, log, logs),
-        (6144 + 0xea, [39, 0], 3, log, logs),
-        (20480, [0, 0xff], 3, log, logs),
-        (28670, [0xff, 0xfe], 3, log, logs),
+        (6144 + 0xea, [39, 0], 0, TINY_TEXT, logs),
+        (20480, [0, 0xff], 0, TINY_TEXT, logs),
+        (28670, [0xff, 0xfe], 0, TINY_TEXT, logs),
         (
             4096 + 0xe1,
             [57, 8],

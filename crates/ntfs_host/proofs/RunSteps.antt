@@ -3,7 +3,7 @@ use Rattle.std.proofs.Common.{◌≡◌, ℕ, zero, suc, ◌+◌, ◌<◌, ◌�
 use Rattle.std.specs.Prelude.{◌≢◌, filter, slice_get, ◌==◌, ◌&&◌}
 use Rattle.std.proofs.lemmas.Bool.Decides.{nat_tests}
 use Rattle.std.proofs.lemmas.List.{append-nil, length-append}
-use Rattle.std.proofs.lemmas.List.Elements.{filter-append}
+use Rattle.std.proofs.lemmas.List.Elements.{filter-append, All-nil, All-push}
 use Rattle.std.proofs.lemmas.List.Filters.{length-filter_more}
 use Rattle.host_base.specs.declared.file_ref.FileRef.{FileRef}
 use Rattle.tree_model.specs.declared.node.Node.{Node}
@@ -156,6 +156,7 @@ follows_by upper nodes links script moment faults i d turns new (Operation o) lt
       each = λ client. each_push script i d turns t o client lt what it.client (so_far.each client);
       time = rw (last_moment_push 0 turns t) (omega (arith, it.time));
       fault = λ client. fault_push faults client turns t (so_far.fault client) it.after;
+      counted = All-push (λ (u : Turn). u.faults_after ≤ faults) turns t so_far.counted (omega (arith, it.after));
     })
 follows_by upper nodes links script moment faults i d turns new (Find name) lt what so_far follows =
     rw follows (record {
@@ -163,6 +164,7 @@ follows_by upper nodes links script moment faults i d turns new (Find name) lt w
       each = λ client. each_kept script i d turns name client lt what (so_far.each client);
       time = so_far.time;
       fault = so_far.fault;
+      counted = so_far.counted;
     })
 
 -- one command more
@@ -180,4 +182,5 @@ none_yet upper nodes links script moment faults = record {
   each = λ client. refl;
   time = omega arith;
   fault = λ client. omega arith;
+  counted = All-nil (λ (u : Turn). u.faults_after ≤ faults);
 }

@@ -11,16 +11,18 @@ use Rattle.tree_model.specs.declared.script.Command.{Command}
 use Rattle.tree_model.specs.declared.reply.Reply.TheVariants.{Fault, Memory}
 use Rattle.tree_model.specs.Steps.{Replies}
 use Rattle.run_model.specs.declared.turn.Turn.{Turn}
-use Rattle.run_model.specs.Runs.{SerialRun, IsWhole, own, turn_commands, last_moment, last_faults}
+use Rattle.run_model.specs.Runs.{SerialRun, IsWhole, IsCounted, own, turn_commands, last_moment, last_faults}
 
 -- a tree with these nodes and links and no journal, whatever numbers and clusters are free
 abbrev pub tree_with : List Node → List Link → List FileRef → ℕ → ℕ → Tree
 tree_with nodes links spare count room = record { nodes = nodes; links = links; spare = spare; count = count; journal = None; room = room }
 
--- The turns are a serial run of the script from such a tree, in which each command has its turn.
+-- The turns are a serial run of the script from such a tree, in which each command has its turn, and no turn has counted more faults than
+-- the device; so none is answered by a fault.
 pub record IsRunOf (upper : List ℕ) (nodes : List Node) (links : List Link) (script : List Command) (faults : ℕ) (turns : List Turn) : Type 0 where
   pub run : (spare : List FileRef) (count room : ℕ) → SerialRun (record { upper = upper; script = script; base = 0; faults = faults }) turns (tree_with nodes links spare count room) (tree_with nodes links spare count room)
   pub all : IsWhole script turns
+  pub counted : IsCounted faults turns
 
 -- the turn of a command's operation on a tree with these nodes and links, at this moment and count of faults of the device
 pub record IsTurnOf (upper : List ℕ) (nodes : List Node) (links : List Link) (moment faults serial : ℕ) (c : Command) (op : Op) (t : Turn) : Type 0 where
@@ -46,3 +48,4 @@ pub record IsRunSoFar (upper : List ℕ) (nodes : List Node) (links : List Link)
   pub each : (client : ℕ) → length (own turns client) ≡ length (turn_commands (take i script) client)
   pub time : last_moment 0 turns ≤ moment
   pub fault : (client : ℕ) → last_faults faults (own turns client) ≤ faults
+  pub counted : IsCounted faults turns

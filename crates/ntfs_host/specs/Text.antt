@@ -3,7 +3,7 @@ use Rattle.std.specs.Prelude.{ℕ, List, [], ◌∷◌, ◌++◌, codes, Result,
 use Rattle.std.specs.Fmt.{decimal}
 use Rattle.volume_format.specs.declared.fault.Formatted.{Formatted}
 use Rattle.image_scan.specs.declared.refusal.Refusal.{Refusal}
-use Rattle.image_scan.specs.declared.refusal.Refusal.TheVariants.{NotNtfs, Geometry, VolumeLarge, Short, BadFixup, BadRecord, MftList, MftLarge, Version, NoJournal, BadVolume, Unbuilt}
+use Rattle.image_scan.specs.declared.refusal.Refusal.TheVariants.{NotNtfs, Geometry, VolumeLarge, Short, BadFixup, BadRecord, MftList, MftLarge, Version, LogVersion, NoRestart, ForeignLog, NoJournal, BadVolume, Unbuilt}
 use Rattle.image_dump.specs.Texts.{line}
 
 -- the line of a refusal: its number, its name and its values
@@ -17,6 +17,9 @@ refusal_line (BadRecord number rule) = codes "refused 6 BadRecord " ++ (decimal 
 refusal_line MftList = codes "refused 7 MftList\n"
 refusal_line (MftLarge records) = codes "refused 8 MftLarge " ++ decimal records ++ 10 ∷ []
 refusal_line (Version major minor) = codes "refused 9 Version " ++ (decimal major ++ (32 ∷ (decimal minor ++ 10 ∷ [])))
+refusal_line (LogVersion major minor) = codes "refused 10 LogVersion " ++ (decimal major ++ (32 ∷ (decimal minor ++ 10 ∷ [])))
+refusal_line NoRestart = codes "refused 11 NoRestart\n"
+refusal_line (ForeignLog lsn) = codes "refused 12 ForeignLog " ++ decimal lsn ++ 10 ∷ []
 refusal_line (NoJournal why) = codes "refused 14 NoJournal " ++ decimal why ++ 10 ∷ []
 refusal_line (BadVolume rule number) = codes "refused 15 BadVolume " ++ (decimal rule ++ (32 ∷ (decimal number ++ 10 ∷ [])))
 refusal_line (Unbuilt rule) = codes "refused 17 Unbuilt " ++ decimal rule ++ 10 ∷ []

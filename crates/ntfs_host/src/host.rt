@@ -72,6 +72,8 @@ fn answer_into<K: Sink, D: Device>(
     ensures leaves { result ≡ 0 → Leaves command.now (D.gives device.old) (D.gives device.new) }
     ensures kept { result ≡ 3 → D.gives device.new ≡ D.gives device.old }
     ensures left { result ≡ 7 → Leaves command.now (D.gives device.old) (D.gives device.new) ⊎ (D.gives device.new ≡ D.gives device.old) }
+    ensures left_done { result ≡ 7 → IfSome (D.gives device.old) (λ disk. IsOk (answer_of command.now disk) → Leaves command.now (D.gives device.old) (D.gives device.new)) }
+    ensures left_refused { result ≡ 7 → IfSome (D.gives device.old) (λ disk. IsErr (answer_of command.now disk) → D.gives device.new ≡ D.gives device.old) }
     ensures reads { IsReader command.now → D.gives device.new ≡ D.gives device.old }
 {
     match answer(alloc, command, device) {
@@ -88,11 +90,12 @@ fn answer_into<K: Sink, D: Device>(
 /// `Scan` prints a line for each long name of a file record in use, `N S P Q NAME` with the number
 /// and sequence of the file and of its directory, by file number, directory number and raw units,
 /// and then `links K`. It takes each volume whose boot sector is in the profile, wherever its file
-/// table lies, and attribute lists. It reads the boot sector, record 2 and the first pages of the
-/// log, and then goes over the file table, in reads of 64 KiB where its records lie one behind the
-/// other: once, or twice where a file has an attribute list. Its time is linear in the file table,
-/// and in its runs for each record, and near linear in the links, which it sorts; its memory grows
-/// with the links, or with the file table where a file has an attribute list, and has room for the
+/// table lies, and attribute lists. It reads the boot sector, record 2 and the log, by which it recovers the
+/// volume in memory, and then goes over the file table, in reads of 64 KiB where its records lie one
+/// behind the other: once, or twice where a file has an attribute list. Its time is linear in the log's
+/// pages on the device and near linear in its entries, linear in the file table, and in its runs for
+/// each record, and near linear in the links, which it sorts; its memory grows with the entries of the
+/// log and the links, or with the file table where a file has an attribute list, and has room for the
 /// text twice.
 ///
 /// `Dump` prints the tree that the volume stands for: by number a line for each node, `node N S KIND
@@ -147,6 +150,8 @@ pub fn quiet_command<K: Sink, D: Device>(
     ensures kept { result.status ≡ 3 → D.gives result.device ≡ D.gives device }
     ensures leaves { result.status ≡ 0 → Leaves command.now (D.gives device) (D.gives result.device) }
     ensures left { result.status ≡ 7 → Leaves command.now (D.gives device) (D.gives result.device) ⊎ (D.gives result.device ≡ D.gives device) }
+    ensures left_done { result.status ≡ 7 → IfSome (D.gives device) (λ disk. IsOk (answer_of command.now disk) → Leaves command.now (D.gives device) (D.gives result.device)) }
+    ensures left_refused { result.status ≡ 7 → IfSome (D.gives device) (λ disk. IsErr (answer_of command.now disk) → D.gives result.device ≡ D.gives device) }
 
     // With no refusal and no fault the command is done, or memory is wanting.
     ensures complete { IsSomeAnd (D.gives device) (λ disk. IsOk (answer_of command.now disk)) → ¬ Rose (K.faults sink.old) (K.faults sink.new) → ¬ HasFailed (D.fault_count device) (D.fault_count result.device) (D.moment_of result.device) → (result.status ≡ 0) ⊎ (result.status ≡ 6) }
@@ -262,6 +267,8 @@ pub fn ntfs_host<R: Threads + Wait + Sync, S: Source, K: Sink, D: Device + Send,
     ensures kept { result.status ≡ 3 → D.gives result.device ≡ D.gives device }
     ensures leaves { IfSome (quiet_in words.now) (λ command. result.status ≡ 0 → Leaves command (D.gives device) (D.gives result.device)) }
     ensures left { IfSome (quiet_in words.now) (λ command. result.status ≡ 7 → Leaves command (D.gives device) (D.gives result.device) ⊎ (D.gives result.device ≡ D.gives device)) }
+    ensures left_done { IfSome (quiet_in words.now) (λ command. result.status ≡ 7 → IfSome (D.gives device) (λ disk. IsOk (answer_of command disk) → Leaves command (D.gives device) (D.gives result.device))) }
+    ensures left_refused { IfSome (quiet_in words.now) (λ command. result.status ≡ 7 → IfSome (D.gives device) (λ disk. IsErr (answer_of command disk) → D.gives result.device ≡ D.gives device)) }
 {
     let command = match command_in(alloc, words) {
         Ok(command) => command,

@@ -33,6 +33,11 @@ pub fn refusal_line(alloc: Global, refusal: Refusal) -> Result<String, AllocErro
         Refusal::Version { major, minor } => {
             format!(in alloc; "refused 9 Version {major} {minor}\n")
         }
+        Refusal::LogVersion { major, minor } => {
+            format!(in alloc; "refused 10 LogVersion {major} {minor}\n")
+        }
+        Refusal::NoRestart => String::from_str(alloc, "refused 11 NoRestart\n"),
+        Refusal::ForeignLog { lsn } => format!(in alloc; "refused 12 ForeignLog {lsn}\n"),
         Refusal::NoJournal { why } => format!(in alloc; "refused 14 NoJournal {why}\n"),
         Refusal::BadVolume { rule, number } => {
             format!(in alloc; "refused 15 BadVolume {rule} {number}\n")
