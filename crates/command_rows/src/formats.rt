@@ -2,7 +2,7 @@ use crate::runs::{answers, blank, run};
 use sector_device::Device;
 use std::test::Fail;
 
-const SCAN_TEXT: &[u8] = b"0 1 5 5 $MFT
+pub const SCAN_TEXT: &[u8] = b"0 1 5 5 $MFT
 1 1 5 5 $MFTMirr
 2 2 5 5 $LogFile
 3 3 5 5 $Volume

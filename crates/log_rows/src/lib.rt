@@ -1,0 +1,16 @@
+//! Rows of inputs and answers of a volume's log: what recovery by it makes, what a scan then shows, and
+//! what refuses it. The crate has tests and the builders of log pages, and no more.
+#![tactic(auto)]
+
+mod pages;
+
+pub use pages::{EntryPage, changed_body, record_update, restart_page};
+
+#[cfg(test)]
+mod fronts;
+#[cfg(test)]
+mod recovering;
+#[cfg(test)]
+mod scans;
+#[cfg(test)]
+mod volume;
