@@ -13,6 +13,12 @@ def run(*words, cwd=None):
     return subprocess.run([str(word) for word in words], cwd=cwd, capture_output=True)
 
 
+def built():
+    """The program as the gate left it in this checkout; None where it isn't there."""
+    program = TOP / "crates" / "ntfshost" / "out" / "ntfshost"
+    return program if program.exists() else None
+
+
 def build():
     """The program, built by rt; None where that fails."""
     crate = TOP / "crates" / "ntfshost"
