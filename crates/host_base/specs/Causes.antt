@@ -15,11 +15,11 @@ pub record HasCause {T E : Type 0} (before now : ℕ) (result : Result T E) : Ty
 abbrev pub last_moment : ℕ
 last_moment = 2 ^ 62
 
--- a device's faults rose, or its last moment has come
+-- a device's faults rose in a call, or its last moment has come by the call's return
 abbrev pub HasFailed : ℕ → ℕ → ℕ → Type 0
 HasFailed faults_before faults_now moment_now = Rose faults_before faults_now ⊎ (last_moment ≤ moment_now)
 
--- a device's count of faults did not fall, and a failure has its cause
+-- a device's count of faults did not fall, and a failure has its cause; the moment is that of the call's return
 pub record FailsByCause {T E : Type 0} (faults_before faults_now moment_now : ℕ) (result : Result T E) : Type 0 where
   pub later : faults_before ≤ faults_now
   pub failed : OnErr result (HasFailed faults_before faults_now moment_now)

@@ -1,7 +1,21 @@
-ghost use Rattle.std.specs.Prelude.{◌≡◌, ◌<◌, ◌≤◌, [], ◌++◌, length, take, drop, Some, vec_len};
+ghost use Rattle.std.specs.Prelude.{◌≡◌, ◌<◌, ◌≤◌, ◌↔◌, [], ◌++◌, length, take, drop, Some, vec_len, IfOk, IsErr, IsTrue};
+ghost use Rattle.std.specs.Io.{ReadsAtMost, WritesAtMost};
+ghost use Rattle.std.specs.Io.KnownBytes.{ReadConsumes, WriteAppends};
+ghost use Rattle.host_base.specs.Calls.{next_call, IsDue};
+ghost use Rattle.host_base.specs.Causes.{HasCause};
 
 use crate::outside::{Failed, Sink, Source};
 use std::alloc::Global;
+
+// Counts a call, and says whether its number is among those that are to fail.
+fn count_call(failing: &[u64], calls: &mut u64) -> bool
+    ensures calls { calls.new ≡ next_call calls.old }
+    ensures due { IsTrue result ↔ IsDue failing.now calls.old }
+{
+    let call = calls.saturating_add(1);
+    *calls = call;
+    failing.contains(&call)
+}
 
 // Copies as many bytes as both have, and says how many.
 fn copy_front(bytes: &[u8], buf: &mut [u8]) -> usize
@@ -18,7 +32,7 @@ fn copy_front(bytes: &[u8], buf: &mut [u8]) -> usize
 }
 
 /// Bytes in memory to be read, with the numbers of the calls that are to fail; the first call
-/// has the number 1.
+/// has the number 1. A call takes time linear in its buffer and in those numbers.
 #[derive(Drop)]
 pub struct MemorySource {
     bytes: Vec<u8>,
@@ -30,10 +44,13 @@ pub struct MemorySource {
 }
 
 impl MemorySource {
-    ghost use Rattle.host_base.specs.Memory.{bytes_left};
-
+    /// A source of these bytes, whose calls with the numbers in `failing` fail; no call and no
+    /// fault so far. It keeps both lists and takes no memory.
     pub fn new(bytes: Vec<u8>, failing: Vec<u64>) -> Self
-        ensures { bytes_left result ≡ bytes.items }
+        ensures left { ⟦<MemorySource as Source>⟧.left result ≡ Some bytes.items }
+        ensures faults { ⟦<MemorySource as Source>⟧.faults result ≡ 0 }
+        ensures failing { result.failing.items ≡ failing.items }
+        ensures calls { result.calls ≡ 0 }
     {
         MemorySource {
             bytes,
@@ -50,10 +67,17 @@ impl Source for MemorySource {
 
     ghost faults = { λ s. s.faults };
 
-    fn read(&mut self, buf: &mut [u8]) -> Result<usize, Failed> {
-        let call = self.calls.saturating_add(1);
-        self.calls = call;
-        if self.failing.contains(&call) {
+    /// Fails exactly where the call's number is among those that are to fail; no byte is taken
+    /// then. Linear in the buffer and in those numbers.
+    fn read(&mut self, buf: &mut [u8]) -> Result<usize, Failed>
+        ensures bound { ReadsAtMost result buf.new }
+        ensures bytes { ReadConsumes (⟦<MemorySource as Source>⟧.left self.old) (⟦<MemorySource as Source>⟧.left self.new) result buf.new }
+        ensures cause { HasCause (⟦<MemorySource as Source>⟧.faults self.old) (⟦<MemorySource as Source>⟧.faults self.new) result }
+        ensures due { IsErr result ↔ IsDue self.old.failing.items self.old.calls }
+        ensures failing { self.new.failing.items ≡ self.old.failing.items }
+        ensures calls { self.new.calls ≡ next_call self.old.calls }
+    {
+        if count_call(&self.failing, &mut self.calls) {
             self.faults = self.faults.saturating_add(1);
             return Err(Failed);
         }
@@ -63,8 +87,8 @@ impl Source for MemorySource {
     }
 }
 
-/// Bytes that were written, with the numbers of the calls that are to fail; the first call
-/// has the number 1.
+/// Bytes in memory that were written, with the numbers of the calls that are to fail; the first
+/// call has the number 1.
 #[derive(Drop)]
 pub struct MemorySink {
     bytes: Vec<u8>,
@@ -74,10 +98,13 @@ pub struct MemorySink {
 }
 
 impl MemorySink {
-    ghost use Rattle.host_base.specs.Memory.{bytes_taken};
-
+    /// A sink that holds no byte, whose calls with the numbers in `failing` fail; no call and no
+    /// fault so far. Making it takes no memory: its calls take theirs from `alloc`.
     pub fn new(alloc: Global, failing: Vec<u64>) -> Self
-        ensures { bytes_taken result ≡ [] }
+        ensures taken { ⟦<MemorySink as Sink>⟧.taken result ≡ Some [] }
+        ensures faults { ⟦<MemorySink as Sink>⟧.faults result ≡ 0 }
+        ensures failing { result.failing.items ≡ failing.items }
+        ensures calls { result.calls ≡ 0 }
     {
         MemorySink {
             bytes: Vec::new(alloc),
@@ -87,8 +114,9 @@ impl MemorySink {
         }
     }
 
+    /// The bytes that were written, in order.
     pub fn bytes(&self) -> &[u8]
-        ensures { result.now ≡ bytes_taken self.now }
+        ensures { ⟦<MemorySink as Sink>⟧.taken self.now ≡ Some result.now }
     {
         &self.bytes
     }
@@ -99,10 +127,22 @@ impl Sink for MemorySink {
 
     ghost faults = { λ s. s.faults };
 
-    fn write(&mut self, bytes: &[u8]) -> Result<usize, Failed> {
-        let call = self.calls.saturating_add(1);
-        self.calls = call;
-        if self.failing.contains(&call) || self.bytes.extend_from_slice(bytes).is_err() {
+    /// Takes the whole piece. Fails where the call's number is among those that are to fail, and
+    /// for want of memory; nothing is taken then. Linear in the piece and in those numbers, and
+    /// where the room grows in the bytes held.
+    fn write(&mut self, bytes: &[u8]) -> Result<usize, Failed>
+        ensures bound { WritesAtMost result bytes.now }
+        ensures some { 0 < length bytes.now → IfOk result (λ n. 0 < n) }
+        ensures bytes { WriteAppends (⟦<MemorySink as Sink>⟧.taken self.old) (⟦<MemorySink as Sink>⟧.taken self.new) result bytes.now }
+        ensures cause { HasCause (⟦<MemorySink as Sink>⟧.faults self.old) (⟦<MemorySink as Sink>⟧.faults self.new) result }
+        ensures all { IfOk result (λ n. n ≡ length bytes.now) }
+        ensures due { IsDue self.old.failing.items self.old.calls → IsErr result }
+        ensures failing { self.new.failing.items ≡ self.old.failing.items }
+        ensures calls { self.new.calls ≡ next_call self.old.calls }
+    {
+        if count_call(&self.failing, &mut self.calls)
+            || self.bytes.extend_from_slice(bytes).is_err()
+        {
             self.faults = self.faults.saturating_add(1);
             return Err(Failed);
         }

@@ -7,7 +7,8 @@ use std::alloc::AllocError;
 use thiserror::Error;
 
 /// A call of the outside failed: its object's count of faults rose in this call, or stood at its
-/// type's end.
+/// type's end; or its object is a device whose last moment has come, from which on it counts no
+/// fault.
 #[derive(Clone, Copy, Debug, PartialEq, Eq, Error)]
 #[error("a call of the outside failed")]
 pub struct Failed;
@@ -30,9 +31,14 @@ pub trait Source {
     /// The bytes that are left, where they are known.
     ghost left: { Self → Option (List ℕ) };
 
+    /// How often it has failed; this never falls, and stops at `u64::MAX`.
     ghost faults: { Self → ℕ };
 
-    /// An `Ok` of 0 for a buffer that is not empty is the end.
+    /// Takes bytes into the front of the buffer, and says how many. An `Ok` of 0 for a buffer that
+    /// is not empty is the end.
+    ///
+    /// - [`Failed`]: only where the count of faults rose, or stood at its type's end. No byte was
+    ///   taken then, and any bytes may stand in the buffer.
     fn read(&mut self, buf: &mut [u8]) -> Result<usize, Failed>
         ensures bound { ReadsAtMost result buf.new }
         ensures bytes { ReadConsumes (left self.old) (left self.new) result buf.new }
@@ -44,9 +50,14 @@ pub trait Sink {
     /// The bytes that were written, where they are known.
     ghost taken: { Self → Option (List ℕ) };
 
+    /// How often it has failed; this never falls, and stops at `u64::MAX`.
     ghost faults: { Self → ℕ };
 
-    /// Takes at least one byte of a piece that is not empty.
+    /// Takes bytes of the piece's front, at least one of a piece that is not empty, and says how
+    /// many.
+    ///
+    /// - [`Failed`]: only where the count of faults rose, or stood at its type's end. No byte was
+    ///   taken then.
     fn write(&mut self, bytes: &[u8]) -> Result<usize, Failed>
         ensures bound { WritesAtMost result bytes.now }
         ensures some { 0 < length bytes.now → IfOk result (λ n. 0 < n) }
@@ -55,6 +66,8 @@ pub trait Sink {
 }
 
 /// Writes all the bytes, in as many calls as it takes.
+///
+/// - [`Failed`]: the sink failed. A front of the bytes was written then.
 pub fn write_all<K: Sink>(sink: &mut K, bytes: &[u8]) -> Result<(), Failed>
     ensures ok { OnOk result (Appends (K.taken sink.old) (K.taken sink.new) bytes.now) }
     ensures err { OnErr result (AppendsPart (K.taken sink.old) (K.taken sink.new) bytes.now) }
