@@ -17,8 +17,9 @@ pub const LAST_MOMENT: u64 = 1 << 62;
 /// A list of 512-byte sectors.
 ///
 /// Each read, write and sync begins a moment, and its return begins another. From `LAST_MOMENT`
-/// on each of the three answers `Failed`, does nothing else and begins no moment. Before it each
-/// answers `Failed` only where the count of faults rose in this call, or stood at its end.
+/// on each of the three answers `Failed`, does nothing else and begins no moment. A call that
+/// returns before it answers `Failed` only where the count of faults rose in this call, or stood
+/// at its end; the one call that returns at `LAST_MOMENT` may fail without that.
 pub trait Device {
     /// The sectors that reads give, where they are known.
     ghost gives: { Self → Option (List (List ℕ)) };
@@ -45,7 +46,8 @@ pub trait Device {
         ensures { result ≡ fault_count self.now };
 
     /// Fills the buffer, a whole number of sectors, from the sector with the number `first` on.
-    /// After `Failed` any bytes may stand in it.
+    /// After `Failed` any bytes may stand in it, and those of before where the call was begun from
+    /// `LAST_MOMENT` on.
     fn read(&mut self, first: u64, out: &mut [u8]) -> Result<(), Failed>
         requires whole { length out.old % 512 ≡ 0 }
         requires within { 512 * first + length out.old ≤ 512 * sector_count self.old }
@@ -54,7 +56,8 @@ pub trait Device {
         ensures sectors { sector_count self.new ≡ sector_count self.old }
         ensures moment { moment_of self.new ≡ moment_after (moment_of self.old) }
         ensures cause { FailsByCause (fault_count self.old) (fault_count self.new) (moment_of self.new) result }
-        ensures ended { last_moment ≤ moment_of self.old → DoesNothing (gives self.old) (gives self.new) (fault_count self.old) (fault_count self.new) result };
+        ensures ended { last_moment ≤ moment_of self.old → DoesNothing (gives self.old) (gives self.new) (fault_count self.old) (fault_count self.new) result }
+        ensures untouched { last_moment ≤ moment_of self.old → out.new ≡ out.old };
 
     /// Writes the bytes, a whole number of sectors, from the sector with the number `first` on.
     /// After `Failed` each of those sectors, by itself, has its old bytes or the new ones.

@@ -1,9 +1,11 @@
-ghost use Rattle.std.specs.Prelude.{◌≡◌, ◌+◌, ◌*◌, ◌/◌, ◌%◌, ◌^◌, ◌<◌, ◌≤◌, ◌↔◌, ◌⊎◌, Some, length, nat_lt, if◌then◌else◌, IsErr};
+ghost use Rattle.std.specs.Prelude.{◌≡◌, ◌+◌, ◌*◌, ◌/◌, ◌%◌, ◌^◌, ◌<◌, ◌≤◌, ◌↔◌, Some, length, IsErr, OnOk, OnErr, IfSome};
+ghost use Rattle.std.specs.Option.{option_map};
 ghost use Rattle.std.proofs.Common.{arith};
 ghost use Rattle.disk_model.specs.Bytes.{part, written};
+ghost use Rattle.disk_model.specs.Sectors.{sector_of, raw_from};
 ghost use Rattle.host_base.specs.Causes.{FailsByCause, last_moment};
-ghost use Rattle.sector_device.specs.Moments.{moment_after};
-ghost use Rattle.sector_device.specs.Sectors.{sectors_of};
+ghost use Rattle.sector_device.specs.Moments.{moment_after, DoesNothing};
+ghost use Rattle.sector_device.specs.Sectors.{sectors_of, IsTornBy};
 ghost use Rattle.sector_device.specs.WholeSectors.{IsDiskOf-sectors_of};
 
 use crate::device::{Device, LAST_MOMENT, SECTOR_BYTES};
@@ -40,15 +42,18 @@ pub struct MemoryDevice {
 }
 
 impl MemoryDevice {
-    ghost use Rattle.sector_device.specs.Memory.{next_call, IsDue};
+    ghost use Rattle.sector_device.specs.Memory.{calls_after, FailsNext};
 
-    /// A device of these bytes, with no moment and no fault so far.
+    /// A device of these bytes, whose calls with the numbers in `failing` fail; no call, no moment
+    /// and no fault so far. It keeps both lists and takes no memory.
     pub fn new(bytes: Vec<u8>, failing: Vec<u64>) -> Self
         requires { length bytes.items % 512 ≡ 0 }
         ensures gives { ⟦<MemoryDevice as Device>⟧.gives result ≡ Some (sectors_of bytes.items) }
         ensures sectors { ⟦<MemoryDevice as Device>⟧.sector_count result ≡ length bytes.items / 512 }
         ensures moment { ⟦<MemoryDevice as Device>⟧.moment_of result ≡ 0 }
         ensures faults { ⟦<MemoryDevice as Device>⟧.fault_count result ≡ 0 }
+        ensures failing { result.failing.items ≡ failing.items }
+        ensures calls { result.calls ≡ 0 }
     {
         MemoryDevice {
             bytes,
@@ -66,8 +71,8 @@ impl MemoryDevice {
         ensures moment { self.new.moment ≡ moment_after self.old.moment }
         ensures cause { FailsByCause self.old.faults self.new.faults self.new.moment result }
         ensures failing { self.new.failing.items ≡ self.old.failing.items }
-        ensures calls { self.new.calls ≡ (if nat_lt self.old.moment last_moment then next_call self.old else self.old.calls) }
-        ensures due { IsErr result ↔ ((last_moment ≤ self.old.moment) ⊎ IsDue self.old) }
+        ensures calls { self.new.calls ≡ calls_after self.old }
+        ensures due { IsErr result ↔ FailsNext self.old }
         ensures ended { last_moment ≤ self.old.moment → self.new.faults ≡ self.old.faults }
     {
         if self.moment >= LAST_MOMENT {
@@ -85,6 +90,8 @@ impl MemoryDevice {
 }
 
 impl Device for MemoryDevice {
+    ghost use Rattle.sector_device.specs.Memory.{calls_after, FailsNext};
+
     ghost gives = { λ d. Some (sectors_of d.bytes.items) };
 
     ghost sector_count = { λ d. length d.bytes.items / 512 };
@@ -105,19 +112,62 @@ impl Device for MemoryDevice {
         self.faults
     }
 
-    fn read(&mut self, first: u64, out: &mut [u8]) -> Result<(), Failed> {
+    /// Fails exactly from `LAST_MOMENT` on, and where the call's number is among those that are to
+    /// fail.
+    fn read(&mut self, first: u64, out: &mut [u8]) -> Result<(), Failed>
+        requires whole { length out.old % 512 ≡ 0 }
+        requires within { 512 * first + length out.old ≤ 512 * ⟦<MemoryDevice as Device>⟧.sector_count self.old }
+        ensures bytes { OnOk result (IfSome (⟦<MemoryDevice as Device>⟧.gives self.old) (λ disk. out.new ≡ raw_from (sector_of disk) first (length out.old / 512))) }
+        ensures gives { ⟦<MemoryDevice as Device>⟧.gives self.new ≡ ⟦<MemoryDevice as Device>⟧.gives self.old }
+        ensures sectors { ⟦<MemoryDevice as Device>⟧.sector_count self.new ≡ ⟦<MemoryDevice as Device>⟧.sector_count self.old }
+        ensures moment { ⟦<MemoryDevice as Device>⟧.moment_of self.new ≡ moment_after (⟦<MemoryDevice as Device>⟧.moment_of self.old) }
+        ensures cause { FailsByCause (⟦<MemoryDevice as Device>⟧.fault_count self.old) (⟦<MemoryDevice as Device>⟧.fault_count self.new) (⟦<MemoryDevice as Device>⟧.moment_of self.new) result }
+        ensures ended { last_moment ≤ ⟦<MemoryDevice as Device>⟧.moment_of self.old → DoesNothing (⟦<MemoryDevice as Device>⟧.gives self.old) (⟦<MemoryDevice as Device>⟧.gives self.new) (⟦<MemoryDevice as Device>⟧.fault_count self.old) (⟦<MemoryDevice as Device>⟧.fault_count self.new) result }
+        ensures untouched { last_moment ≤ ⟦<MemoryDevice as Device>⟧.moment_of self.old → out.new ≡ out.old }
+        ensures due { IsErr result ↔ FailsNext self.old }
+        ensures failing { self.new.failing.items ≡ self.old.failing.items }
+        ensures calls { self.new.calls ≡ calls_after self.old }
+    {
         self.begin()?;
         get(&self.bytes, SECTOR_BYTES * first as usize, out);
         Ok(())
     }
 
-    fn write(&mut self, first: u64, bytes: &[u8]) -> Result<(), Failed> {
+    /// Fails exactly from `LAST_MOMENT` on, and where the call's number is among those that are to
+    /// fail; then nothing is written.
+    fn write(&mut self, first: u64, bytes: &[u8]) -> Result<(), Failed>
+        requires whole { length bytes.now % 512 ≡ 0 }
+        requires within { 512 * first + length bytes.now ≤ 512 * ⟦<MemoryDevice as Device>⟧.sector_count self.old }
+        ensures written { OnOk result (⟦<MemoryDevice as Device>⟧.gives self.new ≡ option_map (written first (sectors_of bytes.now)) (⟦<MemoryDevice as Device>⟧.gives self.old)) }
+        ensures torn { OnErr result (IsTornBy first (sectors_of bytes.now) (⟦<MemoryDevice as Device>⟧.gives self.old) (⟦<MemoryDevice as Device>⟧.gives self.new)) }
+        ensures sectors { ⟦<MemoryDevice as Device>⟧.sector_count self.new ≡ ⟦<MemoryDevice as Device>⟧.sector_count self.old }
+        ensures moment { ⟦<MemoryDevice as Device>⟧.moment_of self.new ≡ moment_after (⟦<MemoryDevice as Device>⟧.moment_of self.old) }
+        ensures cause { FailsByCause (⟦<MemoryDevice as Device>⟧.fault_count self.old) (⟦<MemoryDevice as Device>⟧.fault_count self.new) (⟦<MemoryDevice as Device>⟧.moment_of self.new) result }
+        ensures ended { last_moment ≤ ⟦<MemoryDevice as Device>⟧.moment_of self.old → DoesNothing (⟦<MemoryDevice as Device>⟧.gives self.old) (⟦<MemoryDevice as Device>⟧.gives self.new) (⟦<MemoryDevice as Device>⟧.fault_count self.old) (⟦<MemoryDevice as Device>⟧.fault_count self.new) result }
+        ensures nothing { OnErr result (⟦<MemoryDevice as Device>⟧.gives self.new ≡ ⟦<MemoryDevice as Device>⟧.gives self.old) }
+        ensures due { IsErr result ↔ FailsNext self.old }
+        ensures failing { self.new.failing.items ≡ self.old.failing.items }
+        ensures calls { self.new.calls ≡ calls_after self.old }
+    {
+        // A failing write writes nothing.
         self.begin()?;
         put(&mut self.bytes, SECTOR_BYTES * first as usize, bytes);
         Ok(())
     }
 
-    fn sync(&mut self) -> Result<(), Failed> {
+    /// Fails exactly from `LAST_MOMENT` on, and where the call's number is among those that are to
+    /// fail.
+    fn sync(&mut self) -> Result<(), Failed>
+        ensures gives { ⟦<MemoryDevice as Device>⟧.gives self.new ≡ ⟦<MemoryDevice as Device>⟧.gives self.old }
+        ensures sectors { ⟦<MemoryDevice as Device>⟧.sector_count self.new ≡ ⟦<MemoryDevice as Device>⟧.sector_count self.old }
+        ensures moment { ⟦<MemoryDevice as Device>⟧.moment_of self.new ≡ moment_after (⟦<MemoryDevice as Device>⟧.moment_of self.old) }
+        ensures cause { FailsByCause (⟦<MemoryDevice as Device>⟧.fault_count self.old) (⟦<MemoryDevice as Device>⟧.fault_count self.new) (⟦<MemoryDevice as Device>⟧.moment_of self.new) result }
+        ensures ended { last_moment ≤ ⟦<MemoryDevice as Device>⟧.moment_of self.old → DoesNothing (⟦<MemoryDevice as Device>⟧.gives self.old) (⟦<MemoryDevice as Device>⟧.gives self.new) (⟦<MemoryDevice as Device>⟧.fault_count self.old) (⟦<MemoryDevice as Device>⟧.fault_count self.new) result }
+        ensures due { IsErr result ↔ FailsNext self.old }
+        ensures failing { self.new.failing.items ≡ self.old.failing.items }
+        ensures calls { self.new.calls ≡ calls_after self.old }
+    {
+        // What was written stands there already.
         self.begin()
     }
 
