@@ -1,5 +1,5 @@
 ghost use Rattle.std.specs.Prelude.{◌≡◌, Some};
-ghost use Rattle.block_view.specs.Memory.{held_content, content_of_memory};
+ghost use Rattle.block_view.specs.Memory.{held_content};
 ghost use Rattle.block_view.specs.Sizes.{sized_held};
 
 use super::fault::ViewFault;
@@ -18,9 +18,11 @@ pub struct MemoryView {
 }
 
 impl MemoryView {
-    /// These bodies, and the numbers of the calls that are to fail.
+    /// A view of these bodies, whose calls with the numbers in `failing` fail; no call and no fault
+    /// so far. It keeps both lists and takes no memory.
     pub fn new(held: Vec<Held>, failing: Vec<u64>) -> Self
-        ensures { content_of_memory result ≡ held_content held.items }
+        ensures content { ⟦<MemoryView as View>⟧.content result ≡ Some (held_content held.items) }
+        ensures faults { ⟦<MemoryView as View>⟧.faults result ≡ 0 }
     {
         MemoryView {
             held,

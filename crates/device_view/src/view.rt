@@ -20,7 +20,9 @@ const PIECE_SECTORS: u64 = 128;
 /// The blocks of a device, which is read ahead in pieces of 128 sectors, so that a walk over
 /// blocks that lie one behind the other makes a call for each 64 KiB.
 ///
-/// Its failures are those of the device. While it lives, what the device gives and the number of
+/// Its failures are those of the device. Where a piece can't be read, as for one bad sector in it,
+/// each block that lies in it fails, and each call tries again; only a block that goes past a
+/// piece's end is read by itself. While the view lives, what the device gives and the number of
 /// its sectors stay, and its count of faults never falls.
 #[derive(Drop)]
 pub struct DeviceView<'a, D: Device> {
