@@ -1,5 +1,5 @@
 ghost use Rattle.std.specs.Prelude.{◌≡◌, ◌≤◌, true, length, IsTrue};
-ghost use Rattle.record_model.specs.Attributes.{is_mapped, is_thin, has_held, header_length, has_length, is_name_inside, is_value_inside, is_inside, head_of, held_of, sizes_of};
+ghost use Rattle.record_model.specs.Attributes.{is_mapped, is_compressed_or_sparse, has_held, header_length, has_length, is_name_inside, is_value_inside, is_inside, head_of, held_of, sizes_of};
 
 use disk_model::{u8_at, u16_at, u32_at, u64_at};
 use record_model::{AttributeFlags, Head, Sizes};
@@ -16,8 +16,8 @@ pub fn is_mapped(a: &[u8]) -> bool
 }
 
 // Whether the flags say compressed or sparse.
-fn is_thin(flags: u16) -> bool
-    ensures { result ≡ is_thin flags }
+fn is_compressed_or_sparse(flags: u16) -> bool
+    ensures { result ≡ is_compressed_or_sparse flags }
 {
     AttributeFlags::has_compressed(flags) || AttributeFlags::has_sparse(flags)
 }
@@ -27,7 +27,7 @@ fn has_held(a: &[u8]) -> bool
     requires { 0x18 ≤ length a.now }
     ensures { result ≡ has_held a.now }
 {
-    is_thin(u16_at(a, 0x0c)) && u64_at(a, 0x10) == 0
+    is_compressed_or_sparse(u16_at(a, 0x0c)) && u64_at(a, 0x10) == 0
 }
 
 // The bytes of the header.

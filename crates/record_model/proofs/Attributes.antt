@@ -11,7 +11,7 @@ use Rattle.record_model.specs.declared.attribute.Sizes.{Sizes}
 use Rattle.record_model.specs.declared.attribute.OwnForm.{OwnForm}
 use Rattle.record_model.specs.declared.attribute.OwnForm.TheVariants.{Resident, Mapped}
 use Rattle.record_model.specs.declared.attribute.Attr.{Attr}
-use Rattle.record_model.specs.Attributes.{units_at, is_mapped, is_thin, has_held, header_length, has_length, is_name_inside, is_value_inside, is_inside, head_of, held_of, sizes_of, name_units, form_of, attr_of, SpellsHeld, SpellsMapped, SpellsForm, SpellsAttr}
+use Rattle.record_model.specs.Attributes.{units_at, is_mapped, is_compressed_or_sparse, has_held, header_length, has_length, is_name_inside, is_value_inside, is_inside, head_of, held_of, sizes_of, name_units, form_of, attr_of, SpellsHeld, SpellsMapped, SpellsForm, SpellsAttr}
 
 pub length-units_at : (at count : ℕ) (bytes : List ℕ) → length (units_at at count bytes) ≡ count
 unfolding units_at
@@ -67,7 +67,7 @@ unfolding header_length
 header_resident s mapped = ap (λ (b : Bool). cond b (cond (has_held s) 0x48 0x40) 0x18) mapped
 
 header_from : ℕ → ℕ → ℕ → ℕ
-header_from byte flags first = header_by (not (eqb byte 0)) (is_thin flags && eqb first 0)
+header_from byte flags first = header_by (not (eqb byte 0)) (is_compressed_or_sparse flags && eqb first 0)
 
 -- the header's length is read from its first 18 bytes (hexadecimal)
 header_same : (s t : List ℕ) → field 0x08 1 s ≡ field 0x08 1 t → field 0x0C 2 s ≡ field 0x0C 2 t → field 0x10 8 s ≡ field 0x10 8 t → header_length s ≡ header_length t

@@ -8,7 +8,7 @@ use Rattle.disk_model.proofs.Fields.{length-spell}
 use Rattle.record_model.specs.declared.attribute.Sizes.{Sizes}
 use Rattle.record_model.specs.declared.attribute.OwnForm.TheVariants.{Mapped}
 use Rattle.record_model.specs.declared.attribute.Attr.{Attr}
-use Rattle.record_model.specs.Attributes.{units_at, unit_bytes, filled, is_thin, has_held, front_spelling, sizes_spelling, mapped_spelling, held_bytes, SpellsHeld, SpellsMapped, SpellsForm, SpellsAttr, FitsHeld, FitsMapped, FitsAttr}
+use Rattle.record_model.specs.Attributes.{units_at, unit_bytes, filled, is_compressed_or_sparse, has_held, front_spelling, sizes_spelling, mapped_spelling, held_bytes, SpellsHeld, SpellsMapped, SpellsForm, SpellsAttr, FitsHeld, FitsMapped, FitsAttr}
 use Rattle.record_model.proofs.UnitBytes.{field_here, byte_here, filled_eights, body_placed, whole_size, name_placed}
 
 length-held : (held : Option ℕ) → length (held_bytes held) ≤ 8
@@ -20,7 +20,7 @@ held_eights None = omega arith
 held_eights (Some held) = omega (arith, length-spell 8 held)
 
 held_by : ℕ → ℕ → Bool
-held_by flags first = is_thin flags && eqb first 0
+held_by flags first = is_compressed_or_sparse flags && eqb first 0
 
 held_same : (s : List ℕ) (flags first : ℕ) → field 0x0C 2 s ≡ flags → field 0x10 8 s ≡ first → has_held s ≡ held_by flags first
 unfolding held_by

@@ -9,11 +9,11 @@ use Rattle.disk_model.specs.Numbers.{field}
 use Rattle.disk_model.specs.Content.{is_signed}
 use Rattle.record_model.specs.declared.entry.Entry.{Entry}
 use Rattle.record_model.specs.Records.{Pieces, with_piece}
-use Rattle.record_model.specs.Nodes.{Node, children_flag, has_node_header, entry_bytes, is_last, has_entry, entry_of, cut_entries, most_entries, has_flag, node_entries, node_at}
-use Rattle.record_model.specs.NodeLaws.{IsInner, EntriesBefore, BeginsWithLast, IsTooShort, HasEntryFault, LeastBrokenRule, wrong_header, wrong_entry, no_last_entry, wrong_flag}
+use Rattle.record_model.specs.Nodes.{Node, children_flag, has_node_header, entry_bytes, is_last, has_entry, entry_of, cut_entries, most_entries, has_flag, node_entries, node_at, has_root_header, root_at}
+use Rattle.record_model.specs.NodeLaws.{IsInner, EntriesBefore, BeginsWithLast, IsTooShort, HasEntryFault, BeginsRoot, LeastBrokenRule, wrong_header, wrong_entry, no_last_entry, wrong_flag}
 use Rattle.record_model.proofs.Pieces.{cut_into}
 use Rattle.record_model.proofs.NodePieces.{IsEntryBytes, own_from_entry, entry_from_own, own_bytes_front, bytes_behind_front, cut_last, cut_short, cut_entries_next, cut_entry_front}
-use Rattle.record_model.proofs.NodeTables.{make_node, flags_tested}
+use Rattle.record_model.proofs.NodeTables.{make_node, flags_tested, root_parts, root_from_parts}
 
 -- ---- an entry's own bytes
 
@@ -207,3 +207,25 @@ body_least body rule signed e = least_from_err (drop 0x18 body) rule (err_behind
 
 pub body_err : (body : List ℕ) (rule : ℕ) → is_signed Index body ≡ true → LeastBrokenRule (drop 0x18 body) rule → node_at body ≡ Err rule
 body_err body rule signed least = behind_signature body signed ∙ ap (blocked body) (err_from_least (drop 0x18 body) rule least)
+
+-- ---- index roots
+
+root_by : (value : List ℕ) (test : Bool) → has_root_header value ≡ test → root_at value ≡ (needs test 3 >>= λ _. node_entries (drop 0x10 value))
+unfolding root_at
+root_by value test e = ap (λ (b : Bool). needs b 3 >>= λ _. node_entries (drop 0x10 value)) e
+
+refused_by : (value : List ℕ) (test : Bool) → has_root_header value ≡ test → (BeginsRoot value → ⊥) → root_at value ≡ Err 3
+refused_by value true e other = absurd (other (root_parts value e))
+refused_by value false e other = root_by value false e
+
+pub root_refused : (value : List ℕ) → (BeginsRoot value → ⊥) → root_at value ≡ Err 3
+root_refused value other = refused_by value (has_root_header value) refl other
+
+behind_begin : (value : List ℕ) → BeginsRoot value → root_at value ≡ node_entries (drop 0x10 value)
+behind_begin value begins = root_by value true (root_from_parts value begins)
+
+pub root_least : (value : List ℕ) (rule : ℕ) → BeginsRoot value → root_at value ≡ Err rule → LeastBrokenRule (drop 0x10 value) rule
+root_least value rule begins e = least_from_err (drop 0x10 value) rule (sym (behind_begin value begins) ∙ e)
+
+pub root_err : (value : List ℕ) (rule : ℕ) → BeginsRoot value → LeastBrokenRule (drop 0x10 value) rule → root_at value ≡ Err rule
+root_err value rule begins least = behind_begin value begins ∙ err_from_least (drop 0x10 value) rule least

@@ -16,6 +16,7 @@ use Rattle.record_model.specs.declared.entry.Entry.{Entry}
 use Rattle.record_model.specs.Values.{is_file_name}
 use Rattle.record_model.specs.Records.{Pieces}
 use Rattle.record_model.specs.Nodes.{Node, first_entry, used_end, allocated_end, children_flag, has_node_header, entry_bytes, child_flag, is_last, no_file, down_of, entry_of, cut_entries, most_entries, has_flag, node_entries, node_at, has_root_header, root_at, SpellsDown, SpellsEntry, SpellsLast, SpellEntries, down_flag, HoldsEntries, IsNode, IsRoot}
+use Rattle.record_model.specs.NodeLaws.{BeginsRoot}
 use Rattle.record_model.proofs.Answering.{steps_from_ok, needs_from_ok}
 use Rattle.record_model.proofs.Pieces.{cut_into}
 use Rattle.record_model.proofs.NodePieces.{IsEntryBytes, front_key, key_from_last, key_from_front, AreEntries, entries_from_ok, entries_joined, entries_long}
@@ -276,28 +277,38 @@ ok_from_node body n t =
 pub one_node : (body : List ℕ) (n m : Node) → IsNode body n → IsNode body m → n ≡ m
 one_node body n m t u = same_node n m (sym (ok_from_node body n t) ∙ ok_from_node body m u)
 
-pub root_from_ok : (value : List ℕ) (entries : List Entry) → root_at value ≡ Ok entries → IsRoot value entries
-unfolding root_at has_root_header
-root_from_ok value entries e =
+pub root_parts : (value : List ℕ) → has_root_header value ≡ true → BeginsRoot value
+unfolding has_root_header
+root_parts value h =
     let a = leb 0x10 (length value) in
     let b = eqb (field 0x00 4 value) 0x30 in
     let c = eqb (field 0x04 4 value) 1 in
-    let header = needs_from_ok (has_root_header value) 3 (λ _. node_entries (drop 0x10 value)) entries e in
-    let p = and_parts (a && b && c) (eqb (field 0x08 4 value) 4096) header.0 in
+    let p = and_parts (a && b && c) (eqb (field 0x08 4 value) 4096) h in
     let q = and_parts (a && b) c p.0 in
     let r = and_parts a b q.0 in
+    (leb-true _ _ r.0, eqb-true _ _ r.1, eqb-true _ _ q.1, eqb-true _ _ p.1)
+
+pub root_from_parts : (value : List ℕ) → BeginsRoot value → has_root_header value ≡ true
+unfolding has_root_header
+root_from_parts value begins = and_from _ _ (and_from _ _ (and_from _ _ (le-leb _ _ begins.0) (eq-eqb _ _ begins.1)) (eq-eqb _ _ begins.2)) (eq-eqb _ _ begins.3)
+
+pub root_from_ok : (value : List ℕ) (entries : List Entry) → root_at value ≡ Ok entries → IsRoot value entries
+unfolding root_at
+root_from_ok value entries e =
+    let header = needs_from_ok (has_root_header value) 3 (λ _. node_entries (drop 0x10 value)) entries e in
+    let begins = root_parts value header.0 in
     record {
-      size = leb-true _ _ r.0;
-      kind = eqb-true _ _ r.1;
-      collation = eqb-true _ _ q.1;
-      block_bytes = eqb-true _ _ p.1;
+      size = begins.0;
+      kind = begins.1;
+      collation = begins.2;
+      block_bytes = begins.3;
       holds = holds_from_ok (drop 0x10 value) entries header.1;
     }
 
 pub ok_from_root : (value : List ℕ) (entries : List Entry) → IsRoot value entries → root_at value ≡ Ok entries
-unfolding root_at has_root_header
+unfolding root_at
 ok_from_root value entries t =
-    let header : has_root_header value ≡ true = and_from _ _ (and_from _ _ (and_from _ _ (le-leb _ _ t.size) (eq-eqb _ _ t.kind)) (eq-eqb _ _ t.collation)) (eq-eqb _ _ t.block_bytes) in
+    let header = root_from_parts value (t.size, t.kind, t.collation, t.block_bytes) in
     ap (λ (b : Bool). needs b 3 >>= λ _. node_entries (drop 0x10 value)) header ∙ ok_from_holds (drop 0x10 value) entries t.holds
 
 pub one_root : (value : List ℕ) (entries others : List Entry) → IsRoot value entries → IsRoot value others → entries ≡ others

@@ -20,12 +20,12 @@ abbrev pub is_mapped : List ℕ → Bool
 is_mapped a = not (field 0x08 1 a == 0)
 
 -- the flags say compressed or sparse
-abbrev pub is_thin : ℕ → Bool
-is_thin flags = flags % 2 == 1 || flags / 0x8000 % 2 == 1
+abbrev pub is_compressed_or_sparse : ℕ → Bool
+is_compressed_or_sparse flags = flags % 2 == 1 || flags / 0x8000 % 2 == 1
 
 -- the field at 40 is there: compressed or sparse, and the first piece
 abbrev pub has_held : List ℕ → Bool
-has_held a = is_thin (field 0x0C 2 a) && field 0x10 8 a == 0
+has_held a = is_compressed_or_sparse (field 0x0C 2 a) && field 0x10 8 a == 0
 
 -- the bytes of the header
 unfoldable pub header_length : List ℕ → ℕ
@@ -155,8 +155,8 @@ spelling a = form_spelling a a.form
 
 -- the held size is there exactly where the table has its field
 abbrev pub FitsHeld : ℕ → ℕ → Option ℕ → Type 0
-FitsHeld flags first (Some held) = (held < 2 ^ 64) × ((is_thin flags && first == 0) ≡ true)
-FitsHeld flags first None = (is_thin flags && first == 0) ≡ false
+FitsHeld flags first (Some held) = (held < 2 ^ 64) × ((is_compressed_or_sparse flags && first == 0) ≡ true)
+FitsHeld flags first None = (is_compressed_or_sparse flags && first == 0) ≡ false
 
 pub record FitsMapped (flags : ℕ) (sizes : Sizes) (pairs : List ℕ) : Type 0 where
   pub first : sizes.first < 2 ^ 64

@@ -73,8 +73,16 @@ pub data LeastBrokenRule (node : List ℕ) : ℕ → Type 0 where
   no_last_entry : has_node_header node ≡ true → (pieces : List (List ℕ)) (rest : List ℕ) → EntriesBefore rest pieces (entry_bytes node) → IsTooShort rest → LeastBrokenRule node 5
   wrong_flag : has_node_header node ≡ true → (pieces : List (List ℕ)) (rest : List ℕ) → EntriesBefore rest pieces (entry_bytes node) → BeginsWithLast rest → list_all (has_flag (children_flag node)) (pieces ++ take (field 0x08 2 rest) rest ∷ []) ≡ false → LeastBrokenRule node 6
 
--- a refusal of a node's entries is the least rule that is broken, and the signature of a block comes before it
+-- the value of an index root has at least 10 bytes (hexadecimal), the type of file names, the collation of names and blocks
+-- of 4,096 bytes
+abbrev pub BeginsRoot : List ℕ → Type 0
+BeginsRoot value = (0x10 ≤ length value) × (field 0x00 4 value ≡ 0x30) × (field 0x04 4 value ≡ 1) × (field 0x08 4 value ≡ 4096)
+
+-- A refusal of a node's entries is the least rule that is broken. The signature of a block comes before it as rule 1, and
+-- what an index root begins with as rule 3.
 pub record NodeRuleIsLeast : Type 0 where
   pub entries : (node : List ℕ) (rule : ℕ) → (node_entries node ≡ Err rule) ↔ LeastBrokenRule node rule
   pub signature : (body : List ℕ) → is_signed Index body ≡ false → node_at body ≡ Err 1
   pub body : (body : List ℕ) (rule : ℕ) → is_signed Index body ≡ true → (node_at body ≡ Err rule) ↔ LeastBrokenRule (drop 0x18 body) rule
+  pub root_header : (value : List ℕ) → (BeginsRoot value → ⊥) → root_at value ≡ Err 3
+  pub root : (value : List ℕ) (rule : ℕ) → BeginsRoot value → (root_at value ≡ Err rule) ↔ LeastBrokenRule (drop 0x10 value) rule

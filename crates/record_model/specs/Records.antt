@@ -105,10 +105,11 @@ shaped_at body =
 unfoldable pub has_lawful_values : Record → Bool
 has_lawful_values r = list_all has_lawful_value r.attrs
 
--- a record is in use where the flag 1 is set, and a base record where its base reference is zero
-unfoldable pub is_in_use : List ℕ → Bool
-is_in_use body = field 0x16 2 body % 2 == 1
+-- its flags have the bit 1, which says that the record is in use
+unfoldable pub has_in_use_flag : List ℕ → Bool
+has_in_use_flag body = field 0x16 2 body % 2 == 1
 
+-- its base reference is zero: it holds no attributes of another record
 unfoldable pub is_base : List ℕ → Bool
 is_base body = field 0x20 8 body == 0
 
@@ -121,7 +122,7 @@ SpellEach [] (a ∷ attrs) = ⊥
 SpellEach (s ∷ spellings) [] = ⊥
 SpellEach (s ∷ spellings) (a ∷ attrs) = SpellsAttr s a × SpellEach spellings attrs
 
--- no attribute's type is FFFFFFFF, and types don't fall
+-- types don't fall
 abbrev pub TypesRise : List Attr → Type 0
 TypesRise [] = Unit {0}
 TypesRise (a ∷ []) = Unit {0}
@@ -145,11 +146,12 @@ pub record IsFileRecord (body : List ℕ) (r : Record) : Type 0 where
 
 -- ---- the spelling that is written
 
--- the used bytes of a record with these attributes, the end mark with 8 bytes among them
+-- the bytes of these attributes' spellings together
 abbrev pub spelled_bytes : List Attr → ℕ
 spelled_bytes [] = 0
 spelled_bytes (a ∷ attrs) = length (spelling a) + spelled_bytes attrs
 
+-- the used bytes of a record with these attributes, the end mark with 8 bytes among them
 abbrev pub used_of : List Attr → ℕ
 used_of attrs = 0x38 + spelled_bytes attrs + 8
 

@@ -37,7 +37,8 @@ pub fn written_no_longer()
     ensures { WrittenNoLonger }
 {}
 
-/// Law: a refusal is the least rule that a node's bytes break.
+/// Law: a refusal is the least rule that a node's bytes break, behind the signature of a block (1)
+/// or the type, the collation and the bytes of a block with which an index root begins (3).
 pub fn node_rule_is_least()
     ensures { NodeRuleIsLeast }
 {}

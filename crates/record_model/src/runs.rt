@@ -13,7 +13,7 @@ pub struct Run {
     pub len: u64,
 }
 
-/// Runs by rising virtual cluster, which contracts see as a list.
+/// Runs in their order, which contracts see as a list.
 #[derive(Debug, Drop)]
 pub struct Runs {
     items: Vec<Run>,

@@ -16,7 +16,7 @@ use Rattle.record_model.specs.declared.runs.Run.{Run}
 use Rattle.record_model.specs.declared.runs.PairsFault.{PairsFault}
 use Rattle.record_model.specs.Pairs.{runs_of}
 use Rattle.record_model.specs.Values.{attribute_list, data_type}
-use Rattle.record_model.specs.Records.{Record, record_at, shaped_at, has_lawful_values, is_in_use}
+use Rattle.record_model.specs.Records.{Record, record_at, shaped_at, has_lawful_values, has_in_use_flag}
 use Rattle.record_model.specs.ListEntries.{ReadEntries, list_entries}
 use Rattle.state_model.specs.declared.geometry.Geometry.{Geometry}
 use Rattle.state_model.specs.declared.geometry.MapRefusal.{MapRefusal}
@@ -69,7 +69,7 @@ piece_in (Err rule) = Broken rule
 
 -- a record in use begins FILE and has the flag in use
 abbrev pub is_used : List ℕ → Bool
-is_used bytes = is_signed FileRec bytes && is_in_use bytes
+is_used bytes = is_signed FileRec bytes && has_in_use_flag bytes
 
 -- what a body is, by a reader of records in use
 abbrev pub piece_by : (List ℕ → Result Record ℕ) → Body → Piece
