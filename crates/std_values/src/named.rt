@@ -37,7 +37,8 @@ pub trait NamedValue: Sized {
         ensures { Gives (λ fields. fields) value_cause result (fields_of value.now) };
 
     /// Sets the bytes of the fields, the name among them, and leaves the others. The parent's
-    /// number is below 2^48, and the value has 42 (hexadecimal) bytes and those of the name.
+    /// number is below 2^48, the namespace is at most 3, and the value has 42 (hexadecimal) bytes
+    /// and those of the name; then `read` gives the fields again.
     fn write(&self, out: &mut [u8])
         requires fits { fits self.now }
         requires size { has_size self.now out.old }
@@ -126,11 +127,11 @@ fn write_head(fields: &FileNameValue, out: &mut [u8])
 
 impl NamedValue for FileNameValue {
     ghost use Rattle.record_model.specs.declared.values.FileNameValue.{FileNameValue};
-    ghost use Rattle.record_model.specs.StdValues.{file_name_of, file_name_over};
+    ghost use Rattle.record_model.specs.StdValues.{FitsFileName, file_name_of, file_name_over};
 
     ghost has_size = { λ f value. length value ≡ 0x42 + 2 * length f.name };
 
-    ghost fits = { λ f. f.parent.number < 2 ^ 48 };
+    ghost fits = { FitsFileName };
 
     ghost fields_of = { file_name_of };
 
