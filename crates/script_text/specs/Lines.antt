@@ -6,9 +6,12 @@ use Rattle.tree_model.specs.declared.script.What.{What}
 use Rattle.script_text.specs.declared.fault.ScriptFault.{ScriptFault}
 use Rattle.script_text.specs.declared.fault.ScriptFault.TheVariants.{Line, TooManyClients}
 use Rattle.script_text.specs.declared.line.Request.{Request}
-use Rattle.script_text.specs.declared.line.TheConstants.{CLIENTS}
 use Rattle.script_text.specs.Numbers.{number_of}
 use Rattle.script_text.specs.Commands.{what_of}
+
+-- the clients of a script are 1 to this one, so far
+abbrev pub most_clients : ℕ
+most_clients = 1
 
 -- the words of a line, with one space between them
 abbrev pub words_of : List ℕ → List (List ℕ)
@@ -25,7 +28,7 @@ client_in (Some client) = if client == 0 then None else Some client
 
 -- the client of a request is one of those that a script may have
 abbrev pub IsWithin : Request → Type 0
-IsWithin request = (0 < request.client) × (request.client ≤ CLIENTS)
+IsWithin request = (0 < request.client) × (request.client ≤ most_clients)
 
 -- what a client asks for at this line, or the rule that it breaks
 abbrev pub asked : ℕ → ℕ → Result What ℕ → Result (Option Request) ScriptFault
@@ -35,7 +38,7 @@ asked number client (Err rule) = Err (Line number rule)
 -- what a command asks for, where its client is within the bound
 unfoldable pub asked_by : ℕ → Option ℕ → List (List ℕ) → Result (Option Request) ScriptFault
 asked_by number None words = Err (Line number 4)
-asked_by number (Some client) words = if nat_lt CLIENTS client then Err (TooManyClients client) else asked number client (what_of words)
+asked_by number (Some client) words = if nat_lt most_clients client then Err (TooManyClients client) else asked number client (what_of words)
 
 -- what words ask for: first the client, then the command
 unfoldable pub request_by : ℕ → List (List ℕ) → Result (Option Request) ScriptFault

@@ -6,8 +6,14 @@ use Rattle.tree_model.specs.declared.script.Command.{Command}
 use Rattle.script_text.specs.declared.fault.ScriptFault.{ScriptFault}
 use Rattle.script_text.specs.declared.fault.ScriptFault.TheVariants.{TooLarge, Line, TooManyCommands}
 use Rattle.script_text.specs.declared.line.Request.{Request}
-use Rattle.script_text.specs.declared.reading.TheConstants.{LARGEST, COMMANDS}
 use Rattle.script_text.specs.Lines.{request_of}
+
+-- the most bytes and commands of a script
+abbrev pub most_bytes : ℕ
+most_bytes = 16777216
+
+abbrev pub most_commands : ℕ
+most_commands = 16384
 
 -- how many commands a client has so far
 abbrev pub commands_of : ℕ → List Command → ℕ
@@ -24,7 +30,7 @@ next_command commands request = record { client = request.client; number = comma
 -- the commands, and one more where a line asks for something; a script has 16,384 at most
 unfoldable pub with_request : List Command → Option Request → Result (List Command) ScriptFault
 with_request commands None = Ok commands
-with_request commands (Some request) = if nat_lt (length commands) COMMANDS then Ok (commands ++ next_command commands request ∷ []) else Err TooManyCommands
+with_request commands (Some request) = if nat_lt (length commands) most_commands then Ok (commands ++ next_command commands request ∷ []) else Err TooManyCommands
 
 -- the commands after a line
 unfoldable pub with_line : ℕ → List Command → List ℕ → Result (List Command) ScriptFault
@@ -34,7 +40,7 @@ with_line number commands line = request_of number line >>= with_request command
 abbrev pub last_line : ℕ → List Command → List ℕ → Result (List Command) ScriptFault
 last_line number commands line = if length line == 0 then Ok commands else Err (Line number 1)
 
--- the commands, and those of the lines from this number on, of which the last has no LF behind it
+-- the commands, and those of the lines from this number on, of which the last has no LF after it
 abbrev pub commands_from : ℕ → List Command → List (List ℕ) → Result (List Command) ScriptFault
 commands_from number commands [] = Ok commands
 commands_from number commands (line ∷ []) = last_line number commands line
@@ -46,4 +52,4 @@ commands_in bytes = commands_from 1 [] (slice_split (λ b. b == 10) bytes)
 
 -- the commands of a script, or what refuses it: its size, else its first line at fault
 abbrev pub script_of : List ℕ → Result (List Command) ScriptFault
-script_of bytes = if nat_lt LARGEST (length bytes) then Err TooLarge else commands_in bytes
+script_of bytes = if nat_lt most_bytes (length bytes) then Err TooLarge else commands_in bytes

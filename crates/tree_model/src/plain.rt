@@ -1,4 +1,4 @@
-ghost use Rattle.std.specs.Prelude.{◌≡◌, IfOk, OnOk, find, map};
+ghost use Rattle.std.specs.Prelude.{◌≡◌, IfOk, OnOk, OnErr, find, map};
 ghost use Rattle.std.specs.List.Sorted.{IsPermutation, IsSortedBy};
 ghost use Rattle.std.specs.Option.{option_copied, option_map, option_or};
 ghost use Rattle.tree_model.specs.declared.link.Link.{Link as the_link};
@@ -113,9 +113,11 @@ fn compare(upper: &[u16], a: &Link, b: &Link) -> Ordering
     compare_names(upper, a.name.units(), b.name.units())
 }
 
-/// Puts links into the order of their names, in near-linear time. The error is want of memory.
+/// Puts links into the order of their names, in near-linear time. The error is want of memory, and
+/// leaves the links.
 pub fn sort_links(upper: &[u16], links: &mut Vec<Link>) -> Result<(), AllocError>
     ensures value { OnOk result (IsPermutation links.old.items links.new.items × IsSortedBy (stands_before upper.now) links.new.items) }
+    ensures err { OnErr result (links.new.items ≡ links.old.items) }
 {
     links.sort_by(|a, b| compare(upper, a, b))
 }

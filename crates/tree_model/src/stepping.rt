@@ -168,8 +168,8 @@ fn list<L: Lookup>(alloc: Global, tree: &L, path: &Path) -> Reply
 }
 
 /// What is answered to an operation that changes nothing: the first refusal that applies, else
-/// what it asks for; or `Memory` for want of memory. It asks the tree one question for each part
-/// of the path, and one or two more.
+/// what it asks for; or `Memory` for want of memory. It asks the tree two questions for each
+/// part of the path, and one or two more.
 pub fn answer<L: Lookup>(alloc: Global, tree: &L, op: &Op) -> Reply
     ensures value { result ≢ Reply.Memory → Replies (L.upper tree.now) (L.nodes tree.now) (L.links tree.now) op.now result }
     ensures fault { result ≢ Reply.Fault }

@@ -9,11 +9,10 @@ use Rattle.tree_model.specs.Trees.{stands_before}
 use Rattle.tree_model.proofs.NameOrders.{name_order_total}
 use Rattle.tree_model.proofs.plain.sort_links.Goals as goal
 
-pub returns : goal.returns
-returns c = record {
-  value = on_ok_weaker c.sort_by.result (λ sorted. (
-    c.sort_by.ensures.permutation,
-    sorted (stands_before c.args.upper.now) (ranks_by (on_total (λ (l : Link). l.name) (name_order_total c.args.upper.now)) (λ (l : Link). l)) (always_returns_same _ _ _ (λ a r k called. (ap is_lt (search rules), search rules))),
-  ))
-      c.sort_by.ensures.sorted;
-}
+pub returns-clause-value : goal.returns-clause-value
+returns-clause-value c =
+    on_ok_weaker c.sort_by.result (λ sorted. (
+      c.sort_by.ensures.permutation,
+      sorted (stands_before c.args.upper.now) (ranks_by (on_total (λ (l : Link). l.name) (name_order_total c.args.upper.now)) (λ (l : Link). l)) (always_returns_same _ _ _ (λ a r k called. (ap is_lt (search rules), search rules))),
+    ))
+    c.sort_by.ensures.sorted
