@@ -71,6 +71,6 @@ next_by bytes at f h =
 
 pub step_next : (known : Option Content) (per : ℕ) (stream : Stream) (at : ℕ) (found : Option FirstEntry) (f : FirstEntry) (n : ℕ) → found ≡ Some f → n ≡ f.length
     → IfSome known (λ c. found ≡ first_entry (bytes_from per stream at c))
-    → IfSome known (λ c. list_entries (bytes_from per stream at c) ≡ with_entry f.entry (list_entries (bytes_from per stream (at + n) c)))
+    → IfSome known (λ c. (list_entries (bytes_from per stream at c) ≡ with_entry f.entry (list_entries (bytes_from per stream (at + n) c))) × (at + n ≡ at + field 4 2 (bytes_from per stream at c)))
 step_next known per stream at found f n is size tells =
-    one known _ _ (λ c p. rw size (next_by (stream_bytes c per stream) at f (sym is ∙ p))) tells
+    one known _ _ (λ c p. (rw size (next_by (stream_bytes c per stream) at f (sym is ∙ p)), ap (λ (k : ℕ). at + k) (size ∙ ap (λ (g : FirstEntry). g.length) (first_is (bytes_from per stream at c) f (sym is ∙ p)).1))) tells

@@ -1,19 +1,21 @@
 -- One step over the bytes of an attribute list.
-use Rattle.std.specs.Prelude.{◌≡◌, ⊤, ℕ, ◌<◌, ◌≤◌, true, false, List, [], drop, Result, IfErr}
+use Rattle.std.specs.Prelude.{◌≡◌, ⊤, ℕ, ◌+◌, ◌<◌, ◌≤◌, true, false, List, [], drop, Result, IfErr}
 use Rattle.host_base.specs.Causes.{Rose}
 use Rattle.block_view.specs.declared.fault.ViewFault.{ViewFault}
 use Rattle.block_view.specs.declared.fault.ViewFault.TheVariants as fault
+use Rattle.disk_model.specs.Numbers.{field}
 use Rattle.record_model.specs.ListEntries.{with_entry, list_entries}
 use Rattle.attribute_list.specs.declared.step.Step.{Step}
 use Rattle.attribute_list.specs.declared.step.Step.TheVariants.{End, Fault, Entry}
 
--- from one place to the next: what the entries from the first place on are, by those from the next place on
+-- from one place to the next: what the entries from the first place on are, by those from the next place on, which stands after
+-- the length that the entry says
 abbrev pub IsStep : List ℕ → ℕ → ℕ → Step → Type 0
 IsStep bytes before now End = list_entries (drop before bytes) ≡ record { entries = []; whole = true }
 IsStep bytes before now Fault = list_entries (drop before bytes) ≡ record { entries = []; whole = false }
-IsStep bytes before now (Entry entry) = list_entries (drop before bytes) ≡ with_entry entry (list_entries (drop now bytes))
+IsStep bytes before now (Entry entry) = (list_entries (drop before bytes) ≡ with_entry entry (list_entries (drop now bytes))) × (now ≡ before + field 4 2 (drop before bytes))
 
--- the places, in a list of so many bytes: it goes on behind an entry, and stands still at the end and at a fault
+-- the places, in a list of so many bytes: it goes on after an entry, and stands still at the end and at a fault
 abbrev pub Moves : ℕ → ℕ → ℕ → Step → Type 0
 Moves size before now End = (now ≡ before) × (now ≡ size)
 Moves size before now Fault = (now ≡ before) × (now < size)

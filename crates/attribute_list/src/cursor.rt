@@ -12,7 +12,7 @@ use stream_map::real_size;
 
 /// The next step over a stream that is an attribute list (Linux-NTFS documentation,
 /// "$ATTRIBUTE_LIST"), from the byte `at` on: the entry that begins there, and `at` then stands
-/// behind it; or the list's end or a fault, and `at` stays. A volume has `per` sectors a cluster;
+/// after it; or the list's end or a fault, and `at` stays. A volume has `per` sectors a cluster;
 /// `body` is room for a sector.
 ///
 /// It reads three blocks at most, with one pass over the runs each, and takes memory for the name of

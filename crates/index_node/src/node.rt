@@ -12,9 +12,9 @@ use crate::header::{has_root_header, node_entries};
 use crate::room::{named_length, node_used};
 use crate::writing::{children_of, put_block_head, put_entries, put_zeros};
 use disk_model::u64_at;
-use host_base::{Bytes, FileRef};
+use host_base::{Bytes, FileRef, Memory};
 use record_model::{Entry, EntryList};
-use std::alloc::{AllocError, Global};
+use std::alloc::Global;
 use std::marker::Model;
 
 // The bytes of a block from its node header on.
@@ -175,9 +175,9 @@ impl Node {
     /// Cuts the node in two at the entry at `at`, which is not the last one and goes up: it stands
     /// in neither half, so copy it before. The entries before it are answered as a node of their
     /// own, whose last entry has its child; that node has no block yet, and VCN and LSN 0. The
-    /// entries behind it stay in this node, under its VCN. The error is want of memory, and leaves
+    /// entries after it stay in this node, under its VCN. The error is want of memory, and leaves
     /// the node. Linear in the entries.
-    pub fn split(&mut self, at: u32) -> Result<Node, AllocError>
+    pub fn split(&mut self, at: u32) -> Result<Node, Memory>
         requires { at + 1 < length self.old.entries }
         ensures left { IfOk result (λ left. left ≡ left_half self.old at) }
         ensures right { OnOk result (self.new ≡ right_half self.old at) }
