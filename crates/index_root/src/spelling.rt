@@ -1,4 +1,4 @@
-ghost use Rattle.std.specs.Prelude.{◌≡◌, ◌+◌, ◌<◌, ◌≤◌, All, true, false, ◌^◌, length};
+ghost use Rattle.std.specs.Prelude.{◌≡◌, ◌↔◌, ◌+◌, ◌<◌, ◌≤◌, All, true, false, ◌^◌, length};
 ghost use Rattle.record_model.specs.declared.entry.Entry.{Entry as EntryOf};
 ghost use Rattle.record_model.specs.Values.{is_file_name};
 ghost use Rattle.record_model.specs.Nodes.{down_flag, children_of, entry_length, node_room, node_used, no_file, FitsDown, FitEntries, FitsEntry, FitsLast};
@@ -16,7 +16,7 @@ const NUMBERS: u64 = 0x1_0000_0000_0000;
 
 // Whether a file's number has a spelling.
 fn fits_file(file: FileRef) -> bool
-    ensures number { result ≡ true → file.number < 2 ^ 48 }
+    ensures number { (result ≡ true) ↔ (file.number < 2 ^ 48) }
     ensures seq { file.seq < 2 ^ 16 }
 {
     file.number < NUMBERS
@@ -24,7 +24,7 @@ fn fits_file(file: FileRef) -> bool
 
 // Whether an entry names no file.
 fn is_no_file(file: FileRef) -> bool
-    ensures { result ≡ true → no_file ≡ file }
+    ensures { (result ≡ true) ↔ (no_file ≡ file) }
 {
     if file.number != 0 {
         return false;
@@ -46,7 +46,7 @@ fn down_flag(down: Option<u64>) -> u8
 
 // Whether an entry before the last has a spelling.
 fn fits_entry(entry: &Entry) -> bool
-    ensures { result ≡ true → FitsEntry entry.now }
+    ensures { (result ≡ true) ↔ FitsEntry entry.now }
 {
     let _ = down_flag(entry.down);
     if !fits_file(entry.child) {
@@ -57,7 +57,7 @@ fn fits_entry(entry: &Entry) -> bool
 
 // Whether a last entry has one.
 fn fits_last(entry: &Entry) -> bool
-    ensures { result ≡ true → FitsLast entry.now }
+    ensures { (result ≡ true) ↔ FitsLast entry.now }
 {
     let _ = down_flag(entry.down);
     if !entry.key.is_empty() {
@@ -69,7 +69,7 @@ fn fits_last(entry: &Entry) -> bool
 // Whether each entry at its place has one.
 #[tactic(auto, using(crate::proofs::Places::fit_entries))]
 fn each_fits(entries: &[Entry]) -> bool
-    ensures { result ≡ true → FitEntries entries.now }
+    ensures { (result ≡ true) ↔ FitEntries entries.now }
 {
     for (i, entry) in entries.iter().enumerate() {
         if i + 1 == entries.len() {
@@ -95,7 +95,7 @@ pub fn children_of(entries: &[Entry]) -> u8
 
 // Whether all entries have children, or none has.
 fn are_alike(entries: &[Entry]) -> bool
-    ensures { result ≡ true → All (λ (e : EntryOf). down_flag e.down ≡ children_of entries.now) entries.now }
+    ensures { (result ≡ true) ↔ All (λ (e : EntryOf). down_flag e.down ≡ children_of entries.now) entries.now }
 {
     let flag = children_of(entries);
     for entry in entries {
@@ -122,7 +122,7 @@ fn entry_length(entry: &Entry) -> usize
 // Whether they have room in a block.
 #[tactic(auto, using(index_node::proofs::Sizes::sums), unfolding(record_model::specs::Nodes::node_used))]
 fn have_room(entries: &[Entry]) -> bool
-    ensures { result ≡ true → node_used entries.now ≤ node_room }
+    ensures { (result ≡ true) ↔ (node_used entries.now ≤ node_room) }
 {
     let mut left = ROOM;
     for entry in entries {
@@ -135,11 +135,11 @@ fn have_room(entries: &[Entry]) -> bool
     true
 }
 
-/// Whether entries have a spelling: each before the last has a file-name value as key, the last one
+/// Whether entries have a spelling, exactly: each before the last has a file-name value as key, the last one
 /// names no file and has no key, all have children or none has, and they have room in a block.
 /// Linear in the bytes.
 pub fn have_spelling(entries: &EntryList) -> bool
-    ensures { result ≡ true → HaveSpelling entries.now }
+    ensures { (result ≡ true) ↔ HaveSpelling entries.now }
 {
     let entries = entries.as_slice();
     if !are_alike(entries) || !have_room(entries) {
