@@ -396,3 +396,6 @@ few_of o p path n is same h =
 
 pub sized_of : (raws : List Raw) → HasKeys raws → fits_in 4056 raws ≡ true → Sized raws
 sized_of raws keys e = record { keys = keys; room = let b = bytes_is raws in let f = (fits_bytes 4056 raws).0 e in omega arith }
+
+pub sized_fits : (raws : List Raw) → Sized raws → fits_in 4056 raws ≡ true
+sized_fits raws sized = let b = bytes_is raws in let r = sized.room in (fits_bytes 4056 raws).1 (omega arith)

@@ -27,7 +27,7 @@ inserts reads goes new root room at path plan planned empty is_at is_path is t r
     ∙ ap (λ (i : ℕ). rooted room (raws_of t) i (rise path (record { pending = Some (raw new None); plan = plan }))) place_is
     ∙ ap (λ (l : List Spot). rooted room (raws_of t) (place (place_of goes t)) (rise l (record { pending = Some (raw new None); plan = plan }))) spots
     ∙ ap (λ (w : List Write). rooted room (raws_of t) (place (place_of goes t)) (rise (way (place_of goes t) t) (record { pending = Some (raw new None); plan = record { writes = w; fresh = fresh } }))) empty in
-    subst (λ (r : Rooted). NewTree (nodes_of reads) t fresh (put goes new (walk t)) (λ x. 0) (overfull room (raws_of t) (place (place_of goes t)) (inserted_by (place_of goes t) new fresh t)) r) (sym whole) (insert_law (nodes_of reads) goes new fresh t room st once rises low)
+    subst (λ (r : Rooted). NewTree (nodes_of reads) t fresh (put goes new (walk t)) (λ x. 0) room (overfull room (raws_of t) (place (place_of goes t)) (inserted_by (place_of goes t) new fresh t)) r) (sym whole) (insert_law (nodes_of reads) goes new fresh t room st once rises low)
 
 pub as_level : (reads : Reads) (goes : Key → Bool) (new : Key) (root : List Raw) (room at : ℕ) (path : List Spot) (plan : Plan) (P : Bool → Type 0) → plan.writes ≡ [] → at ≡ first_stop goes root → way_of reads goes root ≡ Ok path → P (overfull room root at (rise path (record { pending = Some (raw new None); plan = plan }))) → AsLevel (nodes_of reads) goes new plan.fresh root room P
 as_level reads goes new root room at path plan P empty is_at is_path full t root_is st low =

@@ -77,8 +77,8 @@ removes reads side root room height plan p planned freed empty is freed_is level
       before = law.0;
       behind = law.1;
       had = law.2;
-      new = subst (λ (r : Rooted). NewTree (nodes_of reads) t fresh (law.0 ++ law.1) (λ x. times x freed) more r) (sym same_plan)
-          (subst (λ (l : List ℕ). NewTree (nodes_of reads) t fresh (law.0 ++ law.1) (λ x. times x l) more (removed_at room (raws_of t) (place f.way_to) (way f.way_to t) (first_chain f.part) (record { writes = []; fresh = fresh }))) (sym same_freed) law.3);
+      new = subst (λ (r : Rooted). NewTree (nodes_of reads) t fresh (law.0 ++ law.1) (λ x. times x freed) room more r) (sym same_plan)
+          (subst (λ (l : List ℕ). NewTree (nodes_of reads) t fresh (law.0 ++ law.1) (λ x. times x l) room more (removed_at room (raws_of t) (place f.way_to) (way f.way_to t) (first_chain f.part) (record { writes = []; fresh = fresh }))) (sym same_freed) law.3);
       level = subst (λ (b : Bool). IsTrue b → height < 16) (full_is side room root t plan p f empty root_is) level;
     }
 

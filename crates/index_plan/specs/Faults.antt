@@ -1,5 +1,5 @@
 -- Why no plan is made.
-use Rattle.std.specs.Prelude.{ℕ, ◌≤◌, Result, IfErr, nat_eq, if◌then◌else◌}
+use Rattle.std.specs.Prelude.{◌≡◌, ℕ, ◌≤◌, Option, Some, None, Result, Ok, Err, IfErr, nat_eq, if◌then◌else◌}
 use Rattle.host_base.specs.Answers.{Cause, refused, no_memory, failed, never}
 use Rattle.host_base.specs.Causes.{Rose}
 use Rattle.index_plan.specs.declared.fault.PlanFault.{PlanFault}
@@ -28,12 +28,24 @@ told above v (reading.Rule rule) = Node (if nat_eq rule 7 then above else v) rul
 told above v reading.Failed = Failed
 told above v reading.Memory = Memory
 
-abbrev pub OnNode : PlanFault → (Broken → Type 0) → Type 0
-OnNode (Node vcn rule) P = P (record { vcn = vcn; rule = rule })
-OnNode Absent P = Unit {0}
-OnNode (Deep height) P = Unit {0}
-OnNode Failed P = Unit {0}
-OnNode Memory P = Unit {0}
+-- what a plan along a way answers: it is made, or needs a level too many, only where no node on the way breaks a rule; and the
+-- node that it names is the first one that does
+abbrev pub AlongWay : {T A : Type 0} → Result T PlanFault → Result A Broken → Type 0
+AlongWay {A = A} (Ok x) way = (spots : A) × (way ≡ Ok spots)
+AlongWay (Err (Node vcn rule)) way = way ≡ Err (record { vcn = vcn; rule = rule })
+AlongWay (Err Absent) way = ⊥
+AlongWay {A = A} (Err (Deep height)) way = (spots : A) × (way ≡ Ok spots)
+AlongWay (Err Failed) way = Unit {0}
+AlongWay (Err Memory) way = Unit {0}
+
+-- the same of a plan after a search, which says that the key is absent exactly where the search finds none
+abbrev pub AfterSearch : {T A : Type 0} → Result T PlanFault → Result (Option A) Broken → Type 0
+AfterSearch {A = A} (Ok x) found = (p : A) × (found ≡ Ok (Some p))
+AfterSearch (Err (Node vcn rule)) found = found ≡ Err (record { vcn = vcn; rule = rule })
+AfterSearch (Err Absent) found = found ≡ Ok None
+AfterSearch {A = A} (Err (Deep height)) found = (p : A) × (found ≡ Ok (Some p))
+AfterSearch (Err Failed) found = Unit {0}
+AfterSearch (Err Memory) found = Unit {0}
 
 abbrev pub OnAbsent : PlanFault → Type 0 → Type 0
 OnAbsent Absent P = P

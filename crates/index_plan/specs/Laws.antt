@@ -1,11 +1,11 @@
 -- Laws of index trees.
-use Rattle.std.specs.Prelude.{◌≡◌, ℕ, ◌+◌, ◌≤◌, ◌<◌, Bool, List, [], ◌∷◌, ◌++◌, Option, Some, None, IsTrue, length, Ok, true}
+use Rattle.std.specs.Prelude.{◌≡◌, ◌⊎◌, ℕ, ◌+◌, ◌≤◌, ◌<◌, Bool, List, [], ◌∷◌, ◌++◌, Option, Some, None, IsTrue, length, Ok, true, false}
 use Rattle.index_model.specs.declared.key.Key.{Key}
 use Rattle.record_model.specs.declared.entry.Entry.{Entry as Raw}
 use Rattle.index_plan.specs.declared.plan.Rooted.{Rooted}
-use Rattle.index_model.specs.Trees.{Tree, raw, walk, times, held, levels, one_if, raws_of, Stands}
+use Rattle.index_model.specs.Trees.{Tree, raw, last_raw, walk, times, held, levels, one_if, raws_of, Stands}
 use Rattle.index_plan.specs.Paths.{over, written_vcns, Path, subtree, graft}
-use Rattle.index_plan.specs.Growth.{Grown, regrown}
+use Rattle.index_plan.specs.Growth.{Grown, regrown, fits_in}
 use Rattle.index_plan.specs.Search.{place_of, put, Rises}
 use Rattle.index_plan.specs.Takings.{drawn, none_drawn, plan_with, key_of, removed, too_full, StartsWith, first_chain}
 use Rattle.index_plan.specs.declared.side.Side.{Side}
@@ -27,9 +27,10 @@ RegrownWalk = (p : Path) (start : Grown) (t : Tree) → walk (regrown p start t)
 abbrev pub RegrownNumbers : Type 0
 RegrownNumbers = (p : Path) (start : Grown) (t : Tree) (x : ℕ) → held x (regrown p start t).tree + times x (regrown p start t).fresh ≡ held x (graft p start.tree t) + times x start.fresh
 
--- what an index is after a plan: the tree of the root's new entries and the nodes after the writes; each written node is one of
--- the tree, and written once
-pub record NewTree (nodes : ℕ → Option (List Raw)) (t : Tree) (fresh : List ℕ) (keys : List Key) (freed : ℕ → ℕ) (more : Bool) (r : Rooted) : Type 0 where
+-- What an index is after a plan: the tree of the root's new entries and the nodes after the writes; each written node is one of
+-- the tree, and written once. Without a level more, the root has room for its entries, or they are those from before; with one,
+-- it has one entry alone, below which the others stand.
+pub record NewTree (nodes : ℕ → Option (List Raw)) (t : Tree) (fresh : List ℕ) (keys : List Key) (freed : ℕ → ℕ) (room : ℕ) (more : Bool) (r : Rooted) : Type 0 where
   pub tree : Tree
   pub root : r.root ≡ raws_of tree
   pub stands : Stands (over nodes r.plan.writes) tree
@@ -37,6 +38,8 @@ pub record NewTree (nodes : ℕ → Option (List Raw)) (t : Tree) (fresh : List 
   pub numbers : (x : ℕ) → held x tree + times x r.plan.fresh + freed x ≡ held x t + times x fresh
   pub placed : (x : ℕ) → times x (written_vcns r.plan.writes) ≤ held x tree
   pub height : levels tree ≤ levels t + one_if more
+  pub has_room : more ≡ false → (fits_in room r.root ≡ true) ⊎ (r.root ≡ raws_of t)
+  pub one_entry : more ≡ true → 17 ≤ length fresh → (f : ℕ) × (r.root ≡ last_raw (Some f) ∷ [])
   pub written : length r.plan.writes ≤ 33
   pub taken : length fresh ≤ length r.plan.fresh + 17
 
@@ -52,7 +55,7 @@ InsertLaw = (nodes : ℕ → Option (List Raw)) (goes : Key → Bool) (new : Key
     → Stands nodes t → Once t fresh → Rises goes (walk t) → levels t ≤ 16
     → let p = place_of goes t in
     let r = inserted_by p new fresh t in
-    NewTree nodes t fresh (put goes new (walk t)) (λ x. 0) (overfull room (raws_of t) (place p) r) (rooted room (raws_of t) (place p) r)
+    NewTree nodes t fresh (put goes new (walk t)) (λ x. 0) room (overfull room (raws_of t) (place p) r) (rooted room (raws_of t) (place p) r)
 
 -- a removal takes one key out of the list
 abbrev pub RemoveLaw : Type 0
@@ -61,12 +64,12 @@ RemoveLaw = (nodes : ℕ → Option (List Raw)) (k : Key) (fresh : List ℕ) (p 
     → let d = drawn none_drawn (first_chain s) in
     let plan = plan_with (record { writes = []; fresh = fresh }) d.taken in
     (before : List Key) × (behind : List Key) × (walk t ≡ before ++ k ∷ behind)
-    × NewTree nodes t fresh (before ++ behind) (λ x. times x d.freed) (too_full room (raws_of t) (place p) (way p t) (key_of d.taken) plan) (removed room (raws_of t) (place p) (way p t) (key_of d.taken) plan)
+    × NewTree nodes t fresh (before ++ behind) (λ x. times x d.freed) room (too_full room (raws_of t) (place p) (way p t) (key_of d.taken) plan) (removed room (raws_of t) (place p) (way p t) (key_of d.taken) plan)
 
 -- of each index that the nodes stand for, the plan makes the index with one key more
 abbrev pub InsertsInto : (ℕ → Option (List Raw)) → (Key → Bool) → Key → List ℕ → List Raw → ℕ → Rooted → Type 0
 InsertsInto nodes goes new fresh root room planned = (t : Tree) → root ≡ raws_of t → Stands nodes t → Once t fresh → Rises goes (walk t) → levels t ≤ 16
-    → NewTree nodes t fresh (put goes new (walk t)) (λ x. 0) (overfull room (raws_of t) (place (place_of goes t)) (inserted_by (place_of goes t) new fresh t)) planned
+    → NewTree nodes t fresh (put goes new (walk t)) (λ x. 0) room (overfull room (raws_of t) (place (place_of goes t)) (inserted_by (place_of goes t) new fresh t)) planned
 
 -- what follows of each index that the nodes stand for from whether one key more needs a level
 abbrev pub AsLevel : (ℕ → Option (List Raw)) → (Key → Bool) → Key → List ℕ → List Raw → ℕ → (Bool → Type 0) → Type 0
@@ -108,7 +111,7 @@ pub record TakesOut (nodes : ℕ → Option (List Raw)) (side : Key → Side) (f
   pub before : List Key
   pub behind : List Key
   pub had : walk t ≡ before ++ sought.key ∷ behind
-  pub new : NewTree nodes t fresh (before ++ behind) (λ x. times x freed) (full_without room t sought.way_to sought.part fresh) planned
+  pub new : NewTree nodes t fresh (before ++ behind) (λ x. times x freed) room (full_without room t sought.way_to sought.part fresh) planned
   pub level : IsTrue (full_without room t sought.way_to sought.part fresh) → height < 16
 
 -- of each index that the nodes stand for, the plan makes the index without one key

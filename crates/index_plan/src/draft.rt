@@ -63,7 +63,7 @@ impl Draft {
 
     /// Gives a node its new entries: the node is written, or cut in two; then the node above takes an entry.
     #[tactic(auto, unfolding(crate::specs::Lists::settle))]
-    pub fn settle(
+    pub(crate) fn settle(
         &mut self,
         alloc: Global,
         vcn: u64,
@@ -113,7 +113,7 @@ impl Draft {
     }
 
     /// Takes what is pending up the way below the root.
-    pub fn climb(
+    pub(crate) fn climb(
         &mut self,
         alloc: Global,
         path: Vec<Frame>,
@@ -130,7 +130,7 @@ impl Draft {
     }
 
     /// Pulls the last key out of a chain of nodes, each of which hangs below the last entry of the one before it.
-    pub fn pull(
+    pub(crate) fn pull(
         &mut self,
         alloc: Global,
         chain: Vec<Write>,

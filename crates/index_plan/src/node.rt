@@ -1,4 +1,4 @@
-ghost use Rattle.std.specs.Prelude.{true, false, ◌≡◌, ◌+◌, ◌<◌, ◌≤◌, ◌∷◌, [], OnOk, IfOk, length, drop};
+ghost use Rattle.std.specs.Prelude.{true, false, ◌≡◌, ◌↔◌, ◌+◌, ◌<◌, ◌≤◌, ◌∷◌, [], OnOk, IfOk, length, drop};
 ghost use Rattle.record_model.specs.Nodes.{entry_length};
 ghost use Rattle.index_model.specs.Trees.{last_raw};
 ghost use Rattle.index_plan.specs.Growth.{fits, fits_in, middle, within};
@@ -139,6 +139,7 @@ pub fn put_instead(node: &mut EntryList, at: usize, key: Option<Key>)
 fn has_key(entry: &Entry, last: bool) -> bool
     ensures short { result ≡ true → IsShort entry.now }
     ensures some { result ≡ true → last ≡ false → 0 < length entry.now.key }
+    ensures both { IsShort entry.now → (last ≡ false → 0 < length entry.now.key) → result ≡ true }
 {
     let key = entry.key.len();
     key <= 576 && (last || 0 < key)
@@ -146,7 +147,7 @@ fn has_key(entry: &Entry, last: bool) -> bool
 
 // Whether each key is short, and each before the last is there.
 fn has_keys(entries: &[Entry]) -> bool
-    ensures { result ≡ true → HasKeys entries.now }
+    ensures { (result ≡ true) ↔ HasKeys entries.now }
 {
     for (i, entry) in entries.iter().enumerate() {
         let last = i == entries.len() - 1;
@@ -160,7 +161,7 @@ fn has_keys(entries: &[Entry]) -> bool
 /// Whether the entries may be those of a block: each key has at most 576 bytes, each before the last
 /// has some, and all entries lie in the 4,056 bytes behind the node header. Linear in the entries.
 pub fn is_sized(node: &EntryList) -> bool
-    ensures { result ≡ true → Sized node.now }
+    ensures { (result ≡ true) ↔ Sized node.now }
 {
     has_keys(node.as_slice()) && fits_room(node.as_slice(), 4056)
 }

@@ -1,4 +1,4 @@
-ghost use Rattle.std.specs.Prelude.{◌≡◌, ◌∷◌, [], OnOk, reverse};
+ghost use Rattle.std.specs.Prelude.{◌≡◌, ◌∷◌, [], OnOk, OnErr, reverse};
 
 use std::alloc::{AllocError, Global};
 use std::marker::Model;
@@ -27,9 +27,10 @@ impl Numbers {
         }
     }
 
-    /// One number more, before the others. The error is want of memory.
+    /// One number more, before the others. The error is want of memory, and nothing changes then.
     pub fn put(&mut self, number: u64) -> Result<(), AllocError>
-        ensures { OnOk result (self.new ≡ number ∷ self.old) }
+        ensures put { OnOk result (self.new ≡ number ∷ self.old) }
+        ensures err { OnErr result (self.new ≡ self.old) }
     {
         self.items.push(number)?;
         Ok(())

@@ -1,5 +1,5 @@
-ghost use Rattle.std.specs.Prelude.{◌≡◌, ◌<◌, ◌≤◌, [], Err, IfOk, IfErr, IfSome, length};
-ghost use Rattle.index_plan.specs.Faults.{Fails, OnAbsent, OnDeep, OnNode};
+ghost use Rattle.std.specs.Prelude.{◌≡◌, ◌<◌, ◌≤◌, [], IfOk, IfErr, IfSome, length};
+ghost use Rattle.index_plan.specs.Faults.{AfterSearch, Fails, OnAbsent, OnDeep};
 ghost use Rattle.index_plan.specs.Laws.{HasNone, NeedsLevelWithout, RemovesFrom, TakesFewOut};
 ghost use Rattle.index_plan.specs.Reading.{nodes_of};
 ghost use Rattle.index_plan.specs.Room.{EachFits, RootSized};
@@ -17,8 +17,8 @@ use crate::side::Target;
 use record_model::EntryList;
 use std::alloc::Global;
 
-/// The plan of a removal: of each index that the nodes stand for, it makes the index without the
-/// first entry that has the key, and it answers the VCNs of the blocks that are no longer in use.
+/// The plan of a removal: of each index that the nodes stand for, it makes the index without one
+/// entry that has the key, and it answers the VCNs of the blocks that are no longer in use.
 /// `room` is how many bytes the root's entries may take, and `height` the number of levels of the
 /// whole index, as in an insertion. Reads the nodes on one way down, and those between entries of
 /// the same name.
@@ -43,7 +43,7 @@ pub fn plan_remove<N: Nodes, T: Target>(
     ensures fits { IfOk result (λ p. RootSized root → EachFits p.0.plan.writes) }
     ensures taken { IfOk result (λ p. IfSome (N.reads nodes.old) (λ reads. TakesFewOut reads (T.side target.now) draft root room p.0)) }
     ensures absent { IfErr result (λ e. OnAbsent e (IfSome (N.reads nodes.old) (λ reads. HasNone (nodes_of reads) (T.side target.now) root))) }
-    ensures node { IfErr result (λ e. OnNode e (λ broken. IfSome (N.reads nodes.old) (λ reads. seek_of reads (T.side target.now) root ≡ Err broken))) }
+    ensures sought { IfSome (N.reads nodes.old) (λ reads. AfterSearch result (seek_of reads (T.side target.now) root)) }
     ensures deep { IfErr result (λ e. OnDeep e (λ h. (h ≡ height) × (16 ≤ height) × IfSome (N.reads nodes.old) (λ reads. NeedsLevelWithout (nodes_of reads) (T.side target.now) draft.fresh root room))) }
     ensures unchanged { N.reads nodes.new ≡ N.reads nodes.old }
     ensures cause { Fails (N.faults nodes.old) (N.faults nodes.new) result }

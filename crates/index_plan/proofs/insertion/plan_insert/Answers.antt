@@ -1,11 +1,12 @@
 use Rattle.std.proofs.Common.{arith, ◌≡◌, ◌<◌, Ok, Some, None, IsTrue}
+use Rattle.std.proofs.lemmas.Result.{err_from_is_err_and}
 use Rattle.host_base.proofs.Known.{one}
 use Rattle.index_plan.specs.declared.plan.Rooted.{Rooted}
 use Rattle.index_model.specs.Trees.{raw}
 use Rattle.index_plan.specs.Lists.{rise, rooted}
 use Rattle.index_plan.specs.Laws.{InsertsInto, LevelFits, NeedsLevel, TakesFew}
 use Rattle.index_plan.specs.Reading.{nodes_of, way_of}
-use Rattle.index_plan.proofs.Steps.{weaker, on_ok, deeper}
+use Rattle.index_plan.proofs.Steps.{weaker, on_ok, deeper, way_failed, way_ended}
 use Rattle.index_plan.proofs.Fitting.{insertion_fits, insertion_left}
 use Rattle.index_plan.proofs.Inserting.{inserts, as_level, takes_few}
 use Rattle.index_plan.proofs.insertion.plan_insert.Goals as goal
@@ -52,3 +53,11 @@ returns-clause-taken g c =
     (λ reads w. takes_few reads goes c.args.root c.args.room c.stop-at.result c.in_ok-path.path.items c.args.key c.args.draft x c.stop-at.ensures.value w
     (insertion_left c.args.room c.args.root c.stop-at.result c.in_ok-path.path.items c.args.key c.args.draft x c.requires.unwritten c.in_ok-path.ensures.sized (let few = c.in_ok-path.ensures.few in let enough = c.requires.enough in omega arith) short is)) c.in_ok-path.ensures.way)
     c.plan_at.ensures.plan
+
+pub returns-in_err-path-clause-way : goal.returns-in_err-path-clause-way
+returns-in_err-path-clause-way g c =
+    let p = err_from_is_err_and c.from_residual.result c.from_residual.ensures.1 in
+    rw (p.1, p.2) (way_failed Rooted (g.N.Nodes.reads c.args.nodes.now) c.in_err-path.field-0.0 (λ reads. way_of reads (g.T.Test.goes c.args.test.now) c.args.root) c.in_err-path.ensures.only c.in_err-path.ensures.way)
+
+pub returns-clause-way : goal.returns-clause-way
+returns-clause-way g c = way_ended (g.N.Nodes.reads c.args.nodes.now) c.plan_at.result _ (λ reads. way_of reads (g.T.Test.goes c.args.test.now) c.args.root) c.in_ok-path.path.items c.plan_at.ensures.deep c.in_ok-path.ensures.way

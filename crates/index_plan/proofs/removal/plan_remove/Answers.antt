@@ -1,7 +1,9 @@
 use Rattle.std.proofs.Common.{refl, ◌≡◌, ◌≤◌, ℕ, List, length, arith}
+use Rattle.std.proofs.lemmas.Result.{err_from_is_err_and}
 use Rattle.index_plan.specs.declared.plan.Rooted.{Rooted}
 use Rattle.index_plan.proofs.Fitting.{few_of, removal_fits, removal_left}
-use Rattle.index_plan.proofs.Steps.{deeper, weaker}
+use Rattle.index_plan.proofs.Steps.{deeper, weaker, search_failed, search_none, search_some}
+use Rattle.index_plan.specs.Seeking.{seek_of}
 use Rattle.index_plan.proofs.Taking.{answer, answer_deep, answer_none, answer_few, removed_at}
 use Rattle.index_plan.proofs.removal.plan_remove.Goals as goal
 
@@ -37,3 +39,14 @@ returns-in-Some-clause-taken g c =
     (removal_left c.args.room c.args.root c.in-Some.place.at path c.into_parts-path.result.1.items c.args.draft x.0 c.requires.unwritten c.into_parts-path.ensures.path_sized c.into_parts-path.ensures.chain_sized (let enough = c.requires.enough in omega arith) is)
     c.in_ok-seek_in.ensures.place)
     c.plan_out.ensures.plan
+
+pub returns-in_err-seek_in-clause-sought : goal.returns-in_err-seek_in-clause-sought
+returns-in_err-seek_in-clause-sought g c =
+    let p = err_from_is_err_and c.from_residual.result c.from_residual.ensures.1 in
+    rw (p.1, p.2) (search_failed (Rooted × List ℕ) (g.N.Nodes.reads c.args.nodes.now) c.in_err-seek_in.field-0.0 (λ reads. seek_of reads (g.T.Target.side c.args.target.now) c.args.root) c.in_err-seek_in.ensures.only c.in_err-seek_in.ensures.place)
+
+pub returns-in-None-clause-sought : goal.returns-in-None-clause-sought
+returns-in-None-clause-sought g c = search_none (g.N.Nodes.reads c.args.nodes.now) (λ reads. seek_of reads (g.T.Target.side c.args.target.now) c.args.root) c.in_ok-seek_in.field-0 c.in-None.is c.in_ok-seek_in.ensures.place
+
+pub returns-in-Some-clause-sought : goal.returns-in-Some-clause-sought
+returns-in-Some-clause-sought g c = search_some (g.N.Nodes.reads c.args.nodes.now) c.plan_out.result _ (λ reads. seek_of reads (g.T.Target.side c.args.target.now) c.args.root) c.in_ok-seek_in.field-0 c.in-Some.place c.in-Some.is c.plan_out.ensures.deep c.in_ok-seek_in.ensures.place

@@ -24,7 +24,7 @@ returns-then-len-gt1-clause-freed c =
 pub loop-link-preserved : goal.loop-link-preserved
 loop-link-preserved c =
     let few : length c.in-Some.link.entries ≤ 1 = omega arith in
-    let put : c.put.new.self ≡ c.in-Some.link.vcn ∷ c.loop-link.freed = c.in_ok-put.ensures in
+    let put : c.put.new.self ≡ c.in-Some.link.vcn ∷ c.loop-link.freed = c.in_ok-put.ensures.put in
     record {
       drawn = ap (λ (l : List ℕ). drawn (begun l) c.pop.new.self.items) put ∙ sym (less c.loop-link.freed c.loop-link.chain.items c.pop.new.self.items c.in-Some.link few c.in-Some.ensures.items) ∙ c.loop-link.invariant.drawn;
       plan = c.loop-link.invariant.plan;
