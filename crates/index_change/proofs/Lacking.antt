@@ -71,3 +71,9 @@ pub only_link : (l : Link) (links : List Link) → length links < 2 → has_link
 only_link l [] few h = absurd cc
 only_link l (m ∷ []) few h = ap (λ (x : Link). x ∷ []) (one_is l m (is_same_link l m) refl h)
 only_link l (m ∷ n ∷ links) few h = absurd (omega arith)
+
+-- the key of the only link
+pub only_key : (l : Link) (keys : List Key) → AreNames keys → links_of keys ≡ l ∷ [] → (k : Key) × (keys ≡ k ∷ []) × (link_of k ≡ l)
+only_key l [] names e = absurd cc
+only_key l (k ∷ []) names e = (k, refl, let s : link_of k ∷ [] ≡ l ∷ [] = sym (links_here (key_link k) (link_of k) [] (key_link_is k names.0)) ∙ e in cc)
+only_key l (k ∷ m ∷ keys) names e = absurd (omega (arith, length_links (k ∷ m ∷ keys) names, ap length e))

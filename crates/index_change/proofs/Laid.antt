@@ -162,30 +162,35 @@ block_same : (b c : Block) → b ≡ c → same_block b c ≡ true
 block_same b c e = ap (same_block b) (sym e) ∙ same_block-self b
 
 -- a change is of a node's block exactly where it is of the node
-pub same_place : (p : Place) (v : ℕ) (b : Block) (w : Write) (c : Change) → IsLaidOut p → block_at p v ≡ Some b → PutsNode p w c → same_block b c.block ≡ nat_eq v w.vcn
-same_place p v b w c laid at put =
+pub same_place : (p : Place) (n : ℕ → ℕ) (v : ℕ) (b : Block) (w : Write) (c : Change) → IsLaidOut p n → 0 < n v → 0 < n w.vcn → block_at p v ≡ Some b → PutsNode p w c → same_block b c.block ≡ nat_eq v w.vcn
+same_place p n v b w c laid here there at put =
     elim (cases_eq v w.vcn) [
       | inl e ↦ block_same b c.block (some_block (block_at p v) b c.block at (ap (block_at p) e ∙ put.block)) ∙ sym (eq-eqb v w.vcn e)
       | inr ne ↦ other (same_block b c.block) refl ne ∙ sym (ne_eqb v w.vcn ne)
     ]
   where
     other : (s : Bool) → same_block b c.block ≡ s → (v ≡ w.vcn → ⊥) → same_block b c.block ≡ false
-    other true e ne = absurd (ne (laid.apart v w.vcn c.block (at ∙ ap (λ (x : Block). Some x) (same_block-is b c.block e)) put.block))
+    other true e ne = absurd (ne (laid.apart v w.vcn c.block here there (at ∙ ap (λ (x : Block). Some x) (same_block-is b c.block e)) put.block))
     other false e ne = e
 
-nodes_last : (p : Place) (v : ℕ) (b : Block) (writes : List Write) (changes : List Change) (x : BodyOf) → IsLaidOut p → block_at p v ≡ Some b → PutNodes p writes changes → some_entries (node_of_body v (last_body changes b x)) ≡ last_node writes v (some_entries (node_of_body v x))
-nodes_last p v b [] [] x laid at put = refl
-nodes_last p v b [] (c ∷ changes) x laid at put = absurd put
-nodes_last p v b (w ∷ writes) [] x laid at put = absurd put
-nodes_last p v b (w ∷ writes) (c ∷ changes) x laid at put =
-    nodes_last p v b writes changes (if same_block b c.block then record { bytes = c.new; torn = false } else x) laid at put.1
+-- each node that is written has a VCN that is used
+abbrev pub AreUsed : (ℕ → ℕ) → List Write → Type 0
+AreUsed n [] = Unit {0}
+AreUsed n (w ∷ writes) = (0 < n w.vcn) × AreUsed n writes
+
+nodes_last : (p : Place) (n : ℕ → ℕ) (v : ℕ) (b : Block) (writes : List Write) (changes : List Change) (x : BodyOf) → IsLaidOut p n → 0 < n v → AreUsed n writes → block_at p v ≡ Some b → PutNodes p writes changes → some_entries (node_of_body v (last_body changes b x)) ≡ last_node writes v (some_entries (node_of_body v x))
+nodes_last p n v b [] [] x laid here each at put = refl
+nodes_last p n v b [] (c ∷ changes) x laid here each at put = absurd put
+nodes_last p n v b (w ∷ writes) [] x laid here each at put = absurd put
+nodes_last p n v b (w ∷ writes) (c ∷ changes) x laid here each at put =
+    nodes_last p n v b writes changes (if same_block b c.block then record { bytes = c.new; torn = false } else x) laid here each.1 at put.1
     ∙ ap (last_node writes v) (choose (nat_eq v w.vcn) refl)
   where
     choose : (s : Bool) → nat_eq v w.vcn ≡ s → some_entries (node_of_body v (if same_block b c.block then record { bytes = c.new; torn = false } else x)) ≡ chosen s w.entries (some_entries (node_of_body v x))
     choose true e =
-        ap (λ (s : Bool). some_entries (node_of_body v (if s then record { bytes = c.new; torn = false } else x))) (same_place p v b w c laid at put.0 ∙ e)
+        ap (λ (s : Bool). some_entries (node_of_body v (if s then record { bytes = c.new; torn = false } else x))) (same_place p n v b w c laid here each.0 at put.0 ∙ e)
         ∙ change_node p v w c (eqb-true v w.vcn e) put.0
-    choose false e = ap (λ (s : Bool). some_entries (node_of_body v (if s then record { bytes = c.new; torn = false } else x))) (same_place p v b w c laid at put.0 ∙ e)
+    choose false e = ap (λ (s : Bool). some_entries (node_of_body v (if s then record { bytes = c.new; torn = false } else x))) (same_place p n v b w c laid here each.0 at put.0 ∙ e)
 
 nowhere : (p : Place) (v : ℕ) (writes : List Write) (changes : List Change) → block_at p v ≡ None → PutNodes p writes changes → last_node writes v None ≡ None
 nowhere p v [] [] at put = refl
@@ -195,13 +200,13 @@ nowhere p v (w ∷ writes) (c ∷ changes) at put =
     ap (λ (s : Bool). last_node writes v (chosen s w.entries None)) (ne_eqb v w.vcn (λ e. let g : ◌≡◌ {A = Option Block} None (Some c.block) = sym at ∙ ap (block_at p) e ∙ put.0.block in cc))
     ∙ nowhere p v writes changes at put.1
 
-nodes_at : (p : Place) (v : ℕ) (o : Option Block) (c : Content) (writes : List Write) (changes : List Change) → IsLaidOut p → HasSizes c → block_at p v ≡ o → PutNodes p writes changes → some_entries (node_of_part (content_after changes c) v o) ≡ last_node writes v (some_entries (node_of_part c v o))
-nodes_at p v None c writes changes laid sized at put = sym (nowhere p v writes changes at put)
-nodes_at p v (Some b) c writes changes laid sized at put =
-    let size : length (c b).bytes ≡ 4096 = sized b ∙ ap (λ k. 512 * sectors k) (laid.index v b at) in
-    ap (λ (x : BodyOf). some_entries (node_of_body v x)) (last_after p writes changes b (c b) put size) ∙ nodes_last p v b writes changes (c b) laid at put
+nodes_at : (p : Place) (n : ℕ → ℕ) (v : ℕ) (o : Option Block) (c : Content) (writes : List Write) (changes : List Change) → IsLaidOut p n → 0 < n v → AreUsed n writes → HasSizes c → block_at p v ≡ o → PutNodes p writes changes → some_entries (node_of_part (content_after changes c) v o) ≡ last_node writes v (some_entries (node_of_part c v o))
+nodes_at p n v None c writes changes laid here each sized at put = sym (nowhere p v writes changes at put)
+nodes_at p n v (Some b) c writes changes laid here each sized at put =
+    let size : length (c b).bytes ≡ 4096 = sized b ∙ ap (λ k. 512 * sectors k) (laid.index v b here at) in
+    ap (λ (x : BodyOf). some_entries (node_of_body v x)) (last_after p writes changes b (c b) put size) ∙ nodes_last p n v b writes changes (c b) laid here each at put
 
--- the nodes of a content after the changes are those after the writes
-pub nodes_after : (p : Place) (c : Content) (writes : List Write) (changes : List Change) → IsLaidOut p → HasSizes c → PutNodes p writes changes → (v : ℕ) → nodes_of (node_of_block (content_after changes c) p) v ≡ over (nodes_of (node_of_block c p)) (reverse writes) v
+-- the nodes of a content after the changes are those after the writes, at the VCNs that are used
+pub nodes_after : (p : Place) (n : ℕ → ℕ) (c : Content) (writes : List Write) (changes : List Change) → IsLaidOut p n → AreUsed n writes → HasSizes c → PutNodes p writes changes → (v : ℕ) → 0 < n v → nodes_of (node_of_block (content_after changes c) p) v ≡ over (nodes_of (node_of_block c p)) (reverse writes) v
 unfolding node_of_block
-nodes_after p c writes changes laid sized put v = nodes_at p v (block_at p v) c writes changes laid sized refl put ∙ sym (over_last (nodes_of (node_of_block c p)) writes v)
+nodes_after p n c writes changes laid each sized put v here = nodes_at p n v (block_at p v) c writes changes laid here each sized refl put ∙ sym (over_last (nodes_of (node_of_block c p)) writes v)

@@ -19,3 +19,4 @@ pub mod Fewer
 pub mod Sizing
 pub mod Tightening
 pub mod InOrders
+pub mod Searches

@@ -1,5 +1,5 @@
 -- Each block is changed once.
-use Rattle.std.proofs.Common.{◌≡◌, ℕ, ◌+◌, ◌≤◌, Bool, true, false, List, [], ◌∷◌, ◌++◌, Some, refl, ap, arith}
+use Rattle.std.proofs.Common.{◌≡◌, ℕ, ◌+◌, ◌<◌, ◌≤◌, Bool, true, false, List, [], ◌∷◌, ◌++◌, Some, refl, ap, arith}
 use Rattle.std.specs.Prelude.{reverse, nat_eq}
 use Rattle.std.proofs.lemmas.List.{reverse-append}
 use Rattle.disk_model.specs.declared.block.Block.{Block}
@@ -11,7 +11,7 @@ use Rattle.index_model.specs.Indexes.{Place, block_at}
 use Rattle.index_plan.specs.declared.write.Write.{Write}
 use Rattle.index_plan.specs.Paths.{written_vcns}
 use Rattle.index_change.specs.Changing.{IsLaidOut, PutNodes, changes_in}
-use Rattle.index_change.proofs.Laid.{same_place}
+use Rattle.index_change.proofs.Laid.{AreUsed, same_place}
 
 times-append : (x : ℕ) (xs ys : List Write) → times x (written_vcns (xs ++ ys)) ≡ times x (written_vcns xs) + times x (written_vcns ys)
 times-append x [] ys = omega arith
@@ -26,21 +26,21 @@ unfolding same
 one_is x y b e = ap one_if e
 
 -- the changes of a node's block are as many as its writes
-as_often : (p : Place) (v : ℕ) (b : Block) (writes : List Write) (changes : List Change) → IsLaidOut p → block_at p v ≡ Some b → PutNodes p writes changes → changes_in b changes ≡ times v (written_vcns writes)
-as_often p v b [] [] laid at put = refl
-as_often p v b [] (c ∷ changes) laid at put = absurd put
-as_often p v b (w ∷ writes) [] laid at put = absurd put
-as_often p v b (w ∷ writes) (c ∷ changes) laid at put = omega (arith, one_is v w.vcn (same_block b c.block) (same_place p v b w c laid at put.0), as_often p v b writes changes laid at put.1)
+as_often : (p : Place) (n : ℕ → ℕ) (v : ℕ) (b : Block) (writes : List Write) (changes : List Change) → IsLaidOut p n → 0 < n v → AreUsed n writes → block_at p v ≡ Some b → PutNodes p writes changes → changes_in b changes ≡ times v (written_vcns writes)
+as_often p n v b [] [] laid here each at put = refl
+as_often p n v b [] (c ∷ changes) laid here each at put = absurd put
+as_often p n v b (w ∷ writes) [] laid here each at put = absurd put
+as_often p n v b (w ∷ writes) (c ∷ changes) laid here each at put = omega (arith, one_is v w.vcn (same_block b c.block) (same_place p n v b w c laid here each.0 at put.0), as_often p n v b writes changes laid here each.1 at put.1)
 
-pub one_each : (p : Place) (writes : List Write) (changes : List Change) → IsLaidOut p → PutNodes p writes changes → ((v : ℕ) → times v (written_vcns writes) ≤ 1) → (b : Block) → changes_in b changes ≤ 1
-one_each p [] [] laid put once b = omega arith
-one_each p [] (c ∷ changes) laid put once b = absurd put
-one_each p (w ∷ writes) [] laid put once b = absurd put
-one_each p (w ∷ writes) (c ∷ changes) laid put once b = choose (one_each p writes changes laid put.1 (λ v. let o = once v in omega arith) b) (same_block b c.block) refl
+pub one_each : (p : Place) (n : ℕ → ℕ) (writes : List Write) (changes : List Change) → IsLaidOut p n → AreUsed n writes → PutNodes p writes changes → ((v : ℕ) → times v (written_vcns writes) ≤ 1) → (b : Block) → changes_in b changes ≤ 1
+one_each p n [] [] laid each put once b = omega arith
+one_each p n [] (c ∷ changes) laid each put once b = absurd put
+one_each p n (w ∷ writes) [] laid each put once b = absurd put
+one_each p n (w ∷ writes) (c ∷ changes) laid each put once b = choose (one_each p n writes changes laid each.1 put.1 (λ v. let o = once v in omega arith) b) (same_block b c.block) refl
   where
     choose : changes_in b changes ≤ 1 → (s : Bool) → same_block b c.block ≡ s → one_if (same_block b c.block) + changes_in b changes ≤ 1
     choose later true e =
         let is : b ≡ c.block = same_block-is b c.block e in
-        let all : changes_in c.block (c ∷ changes) ≡ times w.vcn (written_vcns (w ∷ writes)) = as_often p w.vcn c.block (w ∷ writes) (c ∷ changes) laid put.0.block put in
+        let all : changes_in c.block (c ∷ changes) ≡ times w.vcn (written_vcns (w ∷ writes)) = as_often p n w.vcn c.block (w ∷ writes) (c ∷ changes) laid each.0 each put.0.block put in
         omega (arith, ap (λ (x : Block). changes_in x (c ∷ changes)) is, all, once w.vcn)
     choose later false e = omega (arith, ap one_if e, later)

@@ -18,15 +18,18 @@ use Rattle.index_change.specs.declared.plan.DirPlan.{DirPlan}
 use Rattle.index_change.specs.Faults.{IsOfView}
 use Rattle.index_change.specs.Heights.{height_of}
 use Rattle.index_change.specs.Orders.{goes, link_of}
-use Rattle.index_change.specs.Plans.{root_room, seventeen, needs_level, IsMade, PutsNew}
+use Rattle.index_change.specs.Plans.{clusters_of, root_room, seventeen, needs_level, IsMade, PutsNew}
 use Rattle.index_change.proofs.NewIndexes.{inserted, as_plan}
 use Rattle.index_change.proofs.Sizing.{short_key}
 use Rattle.index_change.proofs.Tightening.{tight_if_higher, few_taken}
 use Rattle.index_change.proofs.Tall.{root_raws, index_height}
 
-module _ (p : Place) (upper value name : List ℕ) (used clusters : ℕ) (key : Key) (fresh : List ℕ) (root : List Raw) where
+module _ (p : Place) (upper value name : List ℕ) (used : ℕ) (key : Key) (fresh : List ℕ) (root : List Raw) where
   abbrev room : ℕ
   room = root_room used value
+
+  abbrev pub clusters : ℕ
+  clusters = clusters_of value
 
   -- of each index, the plan puts the key in
   abbrev pub PutsIn : Content → Rooted → Type 0
@@ -62,7 +65,7 @@ module _ (p : Place) (upper value name : List ℕ) (used clusters : ℕ) (key : 
       let st = as_plan (node_of_block c p) t h.is_index.stands in
       let low = low_enough (needs_level upper room key (seventeen fresh) t) (levels t) height (fits t (root_raws c p upper value root t read h) st h.is_index.height) h.is_index.height (judged c height t read h j) in
       let takes = subst (λ (n : List ℕ). TakesFew (node_of_block c p) (goes upper n) key (record { writes = []; fresh = seventeen fresh }) root room r) same (few (short_key key.value lawful)) in (
-        inserted c p upper value used clusters key fresh root r plan t sized read lawful into made h low once laid,
+        inserted c p upper value used key fresh root r plan t sized enough read lawful into made h low once laid,
         record {
           level = tight_if_higher c p upper value used fresh root t read h enough key lawful;
           taken = few_taken c p upper value used fresh root t read h enough clusters key r plan takes made;

@@ -4,6 +4,7 @@ use Rattle.std.specs.Prelude.{IfSome, IfOk, IfErr, IsTrue, reverse}
 use Rattle.std.specs.Option.{ForSome}
 use Rattle.std.specs.List.{filter}
 use Rattle.std.proofs.lemmas.List.{length-take}
+use Rattle.disk_model.specs.declared.block.Change.{Change}
 use Rattle.disk_model.specs.Content.{Content, HasSizes}
 use Rattle.block_view.specs.Changes.{content_after}
 use Rattle.record_model.specs.declared.entry.Entry.{Entry as Raw}
@@ -26,27 +27,31 @@ use Rattle.index_tree.specs.declared.fault.TreeFault.TheVariants.{Node, Present,
 use Rattle.index_tree.specs.Calls.{FindGives, is_sought}
 use Rattle.index_change.specs.declared.plan.DirPlan.{DirPlan}
 use Rattle.index_change.specs.Amounts.{keys_of, blocks_of}
-use Rattle.index_change.specs.Changing.{IsLaidOut, changes_in}
+use Rattle.index_change.specs.Changing.{IsLaidOut, uses, PutNodes, changes_in}
 use Rattle.index_change.specs.Faults.{IsOfView}
 use Rattle.index_change.specs.Heights.{height_of}
 use Rattle.index_change.specs.Orders.{stands, link_of, has_link, LacksOne}
-use Rattle.index_change.specs.Plans.{root_room, seventeen, NewIndex, IsMade}
+use Rattle.index_change.specs.Plans.{clusters_of, root_room, seventeen, NewIndex, IsMade}
 use Rattle.index_change.specs.Removals.{NeedsLevelWithout, WithoutLink, IsEmptied, TakesLittleOut, TakesLink, RemoveGives}
 use Rattle.index_change.proofs.Amounting.{index_keys, index_blocks}
 use Rattle.index_change.proofs.Counting.{once_fewer, times-back, times-take}
-use Rattle.index_change.proofs.Lacking.{rises_without, links_around, links_both, length_links, only_link}
+use Rattle.index_change.proofs.Lacking.{rises_without, links_around, links_both, length_links, only_link, only_key}
 use Rattle.index_change.proofs.Lawful.{AreNames, index_names}
 use Rattle.index_change.proofs.Lookups.{found_link, here_link}
 use Rattle.index_change.proofs.NewIndexes.{new_index, as_plan}
 use Rattle.index_change.proofs.Tightening.{tight_if_higher_without, few_taken_out}
+use Rattle.index_change.proofs.Sizing.{bare_fits}
 use Rattle.index_change.proofs.Tall.{root_raws, index_height}
 
 listed : List Link → Result (List Link) Broken
 listed links = Ok links
 
-module _ (p : Place) (upper value : List ℕ) (used clusters : ℕ) (l : Link) (fresh : List ℕ) (root : List Raw) where
+module _ (p : Place) (upper value : List ℕ) (used : ℕ) (l : Link) (fresh : List ℕ) (root : List Raw) where
   abbrev room : ℕ
   room = root_room used value
+
+  abbrev pub clusters : ℕ
+  clusters = clusters_of value
 
   -- of each index, the plan takes the link out
   abbrev pub Removes : ℕ → Rooted → List ℕ → Content → Type 0
@@ -78,7 +83,7 @@ module _ (p : Place) (upper value : List ℕ) (used clusters : ℕ) (l : Link) (
 
   -- the index without the link
   without_link : (c : Content) (r : Rooted) (gone freed : List ℕ) (plan : DirPlan) (height : ℕ) (t : Tree) → HasSizes c → 17 ≤ length fresh → root_at value ≡ Ok root → Removes height r freed c → reverse gone ≡ freed → IsMade p clusters (seventeen fresh) gone r plan
-      → HoldsIndex c p upper value t → (height ≡ 16) ⊎ (height ≡ levels t) → Once t fresh → IsLaidOut p → FewIn r c → WithoutLink c p upper value used l t fresh plan × TakesLittleOut upper room l (seventeen fresh) t plan
+      → HoldsIndex c p upper value t → (height ≡ 16) ⊎ (height ≡ levels t) → Once t fresh → IsLaidOut p (uses t fresh) → FewIn r c → WithoutLink c p upper value used l t fresh plan × TakesLittleOut upper room l (seventeen fresh) t plan
   without_link c r gone freed plan height t sized enough read removes back made h j once laid takes =
       let few : Once t (seventeen fresh) = once_fewer t 17 fresh once in
       let o = removes t (root_raws c p upper value root t read h) (as_plan (node_of_block c p) t h.is_index.stands) few h.is_index.height in
@@ -95,13 +100,18 @@ module _ (p : Place) (upper value : List ℕ) (used clusters : ℕ) (l : Link) (
             had = around ∙ ap (λ (m : Link). links_of o.before ++ m ∷ links_of o.behind) (here_link upper l o.sought.key o.sought.here);
             left_is = refl;
           };
+          key = o.sought.key;
+          before = o.before;
+          behind = o.behind;
+          had = o.had;
+          stands_for = here_link upper l o.sought.key o.sought.here;
           more = more;
           needed = λ m. record { sought = o.sought; full = m };
           tight = λ m. tight_if_higher_without c p upper value used fresh root t read h enough l (record { sought = o.sought; full = m });
           index =
-              new_index c p upper value t clusters fresh (seventeen fresh) gone r plan more left sized laid made few
-              o.new.tree o.new.root o.new.stands (ap links_of o.new.walked ∙ links_both o.before o.behind o.sought.key names) (rises_without upper (links_of o.before) (link_of o.sought.key) (links_of o.behind) (sym (ap (rises upper) around) ∙ h.is_index.ordered))
-              (λ x. omega (arith, o.new.numbers x, times-back x gone, ap (times x) back)) o.new.height low o.new.written o.new.placed (omega (arith, length-take 17 fresh)) (λ x. times-take x 17 fresh);
+              new_index c p upper value used t fresh (seventeen fresh) gone r plan more (o.before ++ o.behind) (λ x. times x freed) left sized laid made few
+              (omega (arith, enough, length-take 17 fresh)) (λ x. times-take x 17 fresh) o.new (λ x. omega (arith, times-back x gone, ap (times x) back)) low
+              (links_both o.before o.behind o.sought.key names) (rises_without upper (links_of o.before) (link_of o.sought.key) (links_of o.behind) (sym (ap (rises upper) around) ∙ h.is_index.ordered));
         },
         few_taken_out c p upper value used fresh root t read h enough clusters l gone r plan o.before o.sought.key o.behind o.sought.here o.had takes made,
       )
@@ -158,16 +168,23 @@ module _ (p : Place) (upper value : List ℕ) (used clusters : ℕ) (l : Link) (
     is_index = record { root_is = refl; stands = tt; once = λ v. omega arith; height = omega arith; ordered = refl };
   }
 
-  bare_index : (c : Content) (t : Tree) (plan : DirPlan) → IsEmptied clusters (vcns t) plan → (i : NewIndex c p upper t fresh false [] plan) × (i.tree ≡ Leaf)
+  bare_index : (c : Content) (t : Tree) (plan : DirPlan) → root_at value ≡ Ok root → IsEmptied clusters (vcns t) plan → (i : NewIndex c p upper value used t fresh false [] [] plan) × (i.tree ≡ Leaf)
   unfolding listed
-  bare_index c t plan made = (
+  bare_index c t plan read made = (
     record {
       tree = Leaf;
       holds = bare c t plan made;
+      root = made.root;
+      writes = [];
+      puts = subst (λ (changes : List Change). PutNodes p [] changes) (sym made.unchanged) tt;
+      placed = λ v. omega arith;
+      has_keys = refl;
       links = refl;
       walked = walk_passes (content_after plan.changes.items c) p upper plan.root Leaf (bare c t plan made);
       numbers = λ v. omega (arith, ap (times v) made.freed, ap (times v) made.none_taken, held_vcns v t);
       height = omega (arith, some_levels t);
+      has_room = λ m. inl (bare_fits used value root read);
+      one_entry = λ m. absurd cc;
       written = omega (arith, ap length made.unchanged);
       apart = λ b. omega (arith, ap (changes_in b) made.unchanged);
       few = omega (arith, ap length made.none_taken);
@@ -182,10 +199,16 @@ module _ (p : Place) (upper value : List ℕ) (used clusters : ℕ) (l : Link) (
       let all = length_links (walk t) (index_names c p upper value t h) in
       let one : links_of (walk t) ≡ l ∷ [] = only_link l (links_of (walk t)) (omega (arith, few, count, keys, all)) has in
       let emptied : IsEmptied clusters (vcns t) plan = subst (λ (b : List ℕ). IsEmptied clusters b plan) (are ∙ index_blocks c p upper value root t read h) made in
-      let i = bare_index c t plan emptied in (
+      let i = bare_index c t plan read emptied in
+      let only = only_key l (walk t) (index_names c p upper value t h) one in (
         record {
           left = [];
           lacks = record { before = []; behind = []; had = one; left_is = refl };
+          key = only.0;
+          before = [];
+          behind = [];
+          had = only.1;
+          stands_for = only.2;
           more = false;
           needed = λ m. absurd cc;
           tight = λ m. absurd cc;

@@ -19,7 +19,10 @@ use Rattle.record_model.proofs.Attributes.{length-units_at}
 use Rattle.record_model.proofs.FileNames.{lawful_parts}
 use Rattle.record_model.proofs.NodeTables.{node_from_ok, root_from_ok}
 use Rattle.index_model.specs.Indexes.{Place, block_at, entries_in, is_index_body, node_of_body, node_of_part, node_of_block}
+use Rattle.index_model.specs.Trees.{last_raw}
+use Rattle.index_plan.specs.Growth.{fits_in}
 use Rattle.index_plan.specs.Room.{IsShort, HasKeys, Sized}
+use Rattle.index_plan.proofs.Halves.{fits_bytes}
 use Rattle.index_change.specs.Plans.{root_room}
 
 -- ---- keys
@@ -141,3 +144,25 @@ tight_record used n value root e lt =
     let h = root_from_ok value root e in
     let inside = entries_inside (drop 0x10 value) root h.holds in
     omega (arith, inside, length-drop 0x10 value, h.size, lt)
+
+entry_some : (e : Raw) → 0x10 ≤ entry_length e
+unfolding entry_length
+entry_some e = omega arith
+
+some_long : (spellings : List (List ℕ)) (entries : List Raw) → SpellEntries spellings entries → 0x10 ≤ entries_length entries
+some_long [] entries h = absurd h
+some_long (s ∷ spellings) [] h = absurd h
+some_long (s ∷ spellings) (e ∷ entries) h = omega (arith, entry_some e, sum_by-cons entry_length e entries)
+
+bare_bytes : entry_length (last_raw None) ≡ 0x10
+unfolding entry_length
+bare_bytes = omega arith
+
+-- a root has room for its last entry alone
+pub bare_fits : (used : ℕ) (value : List ℕ) (root : List Raw) → root_at value ≡ Ok root → fits_in (root_room used value) (last_raw None ∷ []) ≡ true
+unfolding root_room
+bare_fits used value root e =
+    let h = root_from_ok value root e in
+    let inside = entries_inside (drop 0x10 value) root h.holds in
+    let some = some_long h.holds.spellings root h.holds.spelled in
+    (fits_bytes (root_room used value) (last_raw None ∷ [])).1 (omega (arith, bare_bytes, inside, some, length-drop 0x10 value, h.size))

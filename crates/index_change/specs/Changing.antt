@@ -1,5 +1,5 @@
 -- Changes that put nodes into their blocks.
-use Rattle.std.specs.Prelude.{◌≡◌, ◌*◌, ◌+◌, ◌≤◌, ℕ, List, [], ◌∷◌, length, Some}
+use Rattle.std.specs.Prelude.{◌≡◌, ◌*◌, ◌+◌, ◌<◌, ◌≤◌, ℕ, List, [], ◌∷◌, length, Some}
 use Rattle.disk_model.specs.declared.block.Block.{Block}
 use Rattle.disk_model.specs.declared.block.BlockKind.TheVariants.{Index}
 use Rattle.std.specs.List.{AllByRecursion}
@@ -7,15 +7,19 @@ use Rattle.disk_model.specs.declared.block.Change.{Change}
 use Rattle.disk_model.specs.Content.{Content}
 use Rattle.disk_model.specs.Sectors.{same_block, sectors}
 use Rattle.record_model.specs.Nodes.{node_spelling, FitsNode}
-use Rattle.index_model.specs.Trees.{one_if}
+use Rattle.index_model.specs.Trees.{Tree, held, times, one_if}
 use Rattle.index_model.specs.Indexes.{Place, block_at}
 use Rattle.index_root.specs.Roots.{new_node}
 use Rattle.index_plan.specs.declared.write.Write.{Write}
 
--- the blocks of a place are index blocks, and no two VCNs have the same one
-pub record IsLaidOut (p : Place) : Type 0 where
-  pub index : (v : ℕ) (b : Block) → block_at p v ≡ Some b → b.kind ≡ Index
-  pub apart : (v w : ℕ) (b : Block) → block_at p v ≡ Some b → block_at p w ≡ Some b → v ≡ w
+-- how often a VCN is that of a node of the tree, or a fresh one
+abbrev pub uses : Tree → List ℕ → ℕ → ℕ
+uses t fresh v = held v t + times v fresh
+
+-- the blocks of VCNs that are used are index blocks, and no two of these have the same one
+pub record IsLaidOut (p : Place) (count : ℕ → ℕ) : Type 0 where
+  pub index : (v : ℕ) (b : Block) → 0 < count v → block_at p v ≡ Some b → b.kind ≡ Index
+  pub apart : (v w : ℕ) (b : Block) → 0 < count v → 0 < count w → block_at p v ≡ Some b → block_at p w ≡ Some b → v ≡ w
 
 -- the change puts the node into its block as it is written, whole
 pub record PutsNode (p : Place) (w : Write) (c : Change) : Type 0 where

@@ -1,5 +1,5 @@
 -- What plans of an index are.
-use Rattle.std.specs.Prelude.{◌≡◌, ◌⊎◌, ◌+◌, ◌-◌, ◌<◌, ◌≤◌, ℕ, ⊤, Bool, false, true, IsTrue, List, ◌++◌, length, take, reverse, slice_index, if◌then◌else◌, None, Result, Ok, Err}
+use Rattle.std.specs.Prelude.{◌≡◌, ◌⊎◌, ◌+◌, ◌-◌, ◌<◌, ◌≤◌, ℕ, ⊤, Bool, false, true, IsTrue, List, [], ◌∷◌, ◌++◌, length, take, reverse, slice_index, if◌then◌else◌, Some, None, Result, Ok, Err}
 use Rattle.disk_model.specs.declared.block.Block.{Block}
 use Rattle.disk_model.specs.Bytes.{up8}
 use Rattle.disk_model.specs.Content.{Content}
@@ -7,7 +7,7 @@ use Rattle.block_view.specs.Changes.{content_after}
 use Rattle.tree_model.specs.declared.link.Link.{Link}
 use Rattle.index_model.specs.declared.key.Key.{Key}
 use Rattle.record_model.specs.Nodes.{entry_length}
-use Rattle.index_model.specs.Trees.{Tree, Leaf, Down, Entry, DownEntry, walk, held, times, levels, one_if, raw, raws_of}
+use Rattle.index_model.specs.Trees.{Tree, Leaf, Down, Entry, DownEntry, walk, held, times, levels, one_if, raw, last_raw, raws_of}
 use Rattle.index_model.specs.Indexes.{Place, links_of}
 use Rattle.index_model.specs.Walks.{Broken, walk_of}
 use Rattle.index_model.specs.Breaks.{BreaksWalk, BreaksSearch}
@@ -15,15 +15,17 @@ use Rattle.index_model.specs.Laws.{HoldsIndex}
 use Rattle.index_plan.specs.declared.plan.Rooted.{Rooted}
 use Rattle.index_plan.specs.declared.write.Write.{Write}
 use Rattle.index_plan.specs.Laws.{Once, inserted_by}
+use Rattle.index_plan.specs.Growth.{fits_in}
 use Rattle.index_plan.specs.Lists.{overfull, place, way}
+use Rattle.index_plan.specs.Paths.{written_vcns}
 use Rattle.index_plan.specs.Room.{tight_count}
-use Rattle.index_plan.specs.Search.{place_of}
+use Rattle.index_plan.specs.Search.{place_of, put}
 use Rattle.index_root.specs.Roots.{root_spelling, HaveSpelling}
 use Rattle.index_tree.specs.declared.fault.TreeFault.{TreeFault}
 use Rattle.index_tree.specs.declared.fault.TreeFault.TheVariants.{Node, Present, Absent, Deep, View}
 use Rattle.index_change.specs.declared.plan.DirPlan.{DirPlan}
 use Rattle.index_tree.specs.Calls.{HoldsNone}
-use Rattle.index_change.specs.Changing.{IsLaidOut, PutNodes, changes_in}
+use Rattle.index_change.specs.Changing.{IsLaidOut, uses, PutNodes, changes_in}
 use Rattle.index_change.specs.Orders.{goes, link_of, put_link, has_entry}
 
 -- how many bytes the root's entries may take, so that the record that holds the root has at most 1,024 used bytes: those that are
@@ -56,16 +58,26 @@ has_blocks (DownEntry v t key rest) = true
 abbrev pub bytes_more : Key → Tree → ℕ
 bytes_more key t = if has_blocks t then 600 else entry_length (raw key None)
 
--- What a directory is after a plan: the changes laid over the content hold an index below the new root, whose walk gives these
--- links; each VCN is used, is one of those that are taken, or is freed, once. At most 33 blocks are changed, each by one change,
--- and at most seventeen of the fresh VCNs are taken.
-pub record NewIndex (c : Content) (p : Place) (upper : List ℕ) (t : Tree) (fresh : List ℕ) (more : Bool) (meant : List Link) (plan : DirPlan) : Type 0 where
+-- What a directory is after a plan: the changes laid over the content hold an index below the new root, which has these keys, so
+-- that its walk gives these links. The root is the one spelling of its entries, and each change puts a node that is written into
+-- its block, whole; each such node is one of the index. Each VCN is used, is one of those that are taken, or is freed, once.
+-- Without a level more, the root has room for its entries or they are those from before; with one, it has one entry alone, and
+-- the index had fewer than sixteen levels. At most 33 blocks are changed, each by one change, and at most seventeen of the fresh
+-- VCNs are taken.
+pub record NewIndex (c : Content) (p : Place) (upper value : List ℕ) (used : ℕ) (t : Tree) (fresh : List ℕ) (more : Bool) (keys : List Key) (meant : List Link) (plan : DirPlan) : Type 0 where
   pub tree : Tree
   pub holds : HoldsIndex (content_after plan.changes.items c) p upper plan.root tree
-  pub links : links_of (walk tree) ≡ meant
+  pub root : plan.root ≡ root_spelling (clusters_of value) (raws_of tree)
+  pub writes : List Write
+  pub puts : PutNodes p writes plan.changes.items
+  pub placed : (v : ℕ) → times v (written_vcns writes) ≤ held v tree
+  pub has_keys : walk tree ≡ keys
+  pub links : links_of keys ≡ meant
   pub walked : walk_of (content_after plan.changes.items c) p upper plan.root ≡ Ok meant
   pub numbers : (v : ℕ) → held v tree + times v plan.freed.items ≡ held v t + times v plan.taken.items
   pub height : levels tree ≤ levels t + one_if more
+  pub has_room : more ≡ false → (fits_in (root_room used value) (raws_of tree) ≡ true) ⊎ (raws_of tree ≡ raws_of t)
+  pub one_entry : more ≡ true → (levels t < 16) × ((f : ℕ) × (raws_of tree ≡ last_raw (Some f) ∷ []))
   pub written : length plan.changes.items ≤ 33
   pub apart : (b : Block) → changes_in b plan.changes.items ≤ 1
   pub few : length plan.taken.items ≤ 17
@@ -93,11 +105,11 @@ pub record TakesLittle (upper value : List ℕ) (used : ℕ) (key : Key) (fresh 
 abbrev pub BreaksPlan : Content → Place → List ℕ → List ℕ → List ℕ → Broken → Type 0
 BreaksPlan c p upper name value b = (BreaksSearch c p upper name value b ⊎ BreaksWalk c p upper value b) × HoldsNone c p upper value
 
--- What a plan that puts a key in answers, of an index of this tree that hasn't the entry: the index with the key at its place;
+-- What a plan that puts a key in answers, of an index of this tree that hasn't the entry: the index with this key at its place;
 -- a level more comes only where the root has no room, and no block is taken without need.
 abbrev pub PutsNew : Content → Place → List ℕ → List ℕ → ℕ → Key → List ℕ → Result DirPlan TreeFault → Type 0
 PutsNew c p upper value used key fresh (Ok plan) =
-    (t : Tree) → HoldsIndex c p upper value t → Once t fresh → IsLaidOut p → NewIndex c p upper t fresh (needs_level upper (root_room used value) key (seventeen fresh) t) (put_link upper (link_of key) (links_of (walk t))) plan × TakesLittle upper value used key fresh t plan
+    (t : Tree) → HoldsIndex c p upper value t → Once t fresh → IsLaidOut p (uses t fresh) → NewIndex c p upper value used t fresh (needs_level upper (root_room used value) key (seventeen fresh) t) (put (goes upper (link_of key).name) key (walk t)) (put_link upper (link_of key) (links_of (walk t))) plan × TakesLittle upper value used key fresh t plan
 PutsNew c p upper value used key fresh (Err (Node vcn rule)) = BreaksPlan c p upper (link_of key).name value (record { vcn = vcn; rule = rule })
 PutsNew c p upper value used key fresh (Err Present) = ⊥
 PutsNew c p upper value used key fresh (Err Absent) = ⊥

@@ -1,7 +1,8 @@
 -- What plans that take a link out of an index are.
-use Rattle.std.specs.Prelude.{◌≡◌, ◌≤◌, ◌+◌, ◌<◌, ℕ, ⊤, Bool, true, false, IsTrue, List, [], ◌∷◌, length, None, Result, Ok, Err}
+use Rattle.std.specs.Prelude.{◌≡◌, ◌≤◌, ◌+◌, ◌<◌, ℕ, ⊤, Bool, true, false, IsTrue, List, [], ◌∷◌, ◌++◌, length, None, Result, Ok, Err}
 use Rattle.disk_model.specs.Content.{Content}
 use Rattle.tree_model.specs.declared.link.Link.{Link}
+use Rattle.index_model.specs.declared.key.Key.{Key}
 use Rattle.index_model.specs.Trees.{Tree, Leaf, walk, levels, one_if, last_raw}
 use Rattle.index_model.specs.Indexes.{Place, links_of}
 use Rattle.index_model.specs.Laws.{HoldsIndex}
@@ -12,8 +13,8 @@ use Rattle.index_root.specs.Roots.{root_spelling, HaveSpelling}
 use Rattle.index_tree.specs.declared.fault.TreeFault.{TreeFault}
 use Rattle.index_tree.specs.declared.fault.TreeFault.TheVariants.{Node, Present, Absent, Deep, View}
 use Rattle.index_change.specs.declared.plan.DirPlan.{DirPlan}
-use Rattle.index_change.specs.Changing.{IsLaidOut}
-use Rattle.index_change.specs.Orders.{stands, has_link, LacksOne}
+use Rattle.index_change.specs.Changing.{IsLaidOut, uses}
+use Rattle.index_change.specs.Orders.{stands, link_of, has_link, LacksOne}
 use Rattle.index_change.specs.Plans.{root_room, seventeen, NewIndex, BreaksPlan}
 
 -- the root has no room for its entries after a key of the link is taken out
@@ -21,15 +22,21 @@ pub record NeedsLevelWithout (upper : List ℕ) (room : ℕ) (l : Link) (fresh :
   pub sought : Sought (stands upper l) t
   pub full : IsTrue (full_without room t sought.way_to sought.part fresh)
 
--- The index after a plan, whose walk gives the links without one that is this one; a level more comes only where the root has no
--- room for its entries without it, and where the record that holds it would have more than 1,024 used bytes with 600 more.
+-- The index after a plan, which has the keys from before without one key of this link, so that its walk gives the links without
+-- one that is this one; a level more comes only where the root has no room for its entries without it, and where the record that
+-- holds it would have more than 1,024 used bytes with 600 more.
 pub record WithoutLink (c : Content) (p : Place) (upper value : List ℕ) (used : ℕ) (l : Link) (t : Tree) (fresh : List ℕ) (plan : DirPlan) : Type 0 where
   pub left : List Link
   pub lacks : LacksOne l (links_of (walk t)) left
+  pub key : Key
+  pub before : List Key
+  pub behind : List Key
+  pub had : walk t ≡ before ++ key ∷ behind
+  pub stands_for : link_of key ≡ l
   pub more : Bool
   pub needed : IsTrue more → NeedsLevelWithout upper (root_room used value) l (seventeen fresh) t
   pub tight : IsTrue more → 1024 < used + 600
-  pub index : NewIndex c p upper t fresh more left plan
+  pub index : NewIndex c p upper value used t fresh more (before ++ behind) left plan
 
 -- an index without links is a root that has no blocks
 abbrev pub IsBareIfEmpty : List Link → Tree → Type 0
@@ -53,7 +60,7 @@ pub record IsEmptied (clusters : ℕ) (blocks : List ℕ) (plan : DirPlan) : Typ
 -- where it has no link then, and no block is taken without need.
 abbrev pub TakesLink : Content → Place → List ℕ → List ℕ → ℕ → Link → List ℕ → Result DirPlan TreeFault → Type 0
 TakesLink c p upper value used l fresh (Ok plan) =
-    (t : Tree) → HoldsIndex c p upper value t → has_link l (links_of (walk t)) ≡ true → Once t fresh → IsLaidOut p → (w : WithoutLink c p upper value used l t fresh plan) × IsBareIfEmpty w.left w.index.tree × (0 < length plan.taken.items → TakesLittleOut upper (root_room used value) l (seventeen fresh) t plan)
+    (t : Tree) → HoldsIndex c p upper value t → has_link l (links_of (walk t)) ≡ true → Once t fresh → IsLaidOut p (uses t fresh) → (w : WithoutLink c p upper value used l t fresh plan) × IsBareIfEmpty w.left w.index.tree × (0 < length plan.taken.items → TakesLittleOut upper (root_room used value) l (seventeen fresh) t plan)
 TakesLink c p upper value used l fresh (Err (Node vcn rule)) = BreaksPlan c p upper l.name value (record { vcn = vcn; rule = rule })
 TakesLink c p upper value used l fresh (Err Present) = ⊥
 TakesLink c p upper value used l fresh (Err Absent) = ⊥

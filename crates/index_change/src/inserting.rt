@@ -4,12 +4,13 @@ ghost use Rattle.block_view.specs.Changes.{Fits};
 ghost use Rattle.record_model.specs.Nodes.{root_at};
 ghost use Rattle.record_model.specs.Values.{is_file_name};
 ghost use Rattle.index_model.specs.Indexes.{node_of_block};
+ghost use Rattle.index_model.specs.Walks.{find_of};
 ghost use Rattle.index_plan.specs.Faults.{OnDeep};
 ghost use Rattle.index_plan.specs.Laws.{InsertsInto, LevelFits, NeedsLevel, TakesFew};
 ghost use Rattle.index_plan.specs.Lists.{own_key};
 ghost use Rattle.index_plan.specs.Reading.{nodes_of};
 ghost use Rattle.index_change.specs.Changing.{AllWereOld};
-ghost use Rattle.index_change.specs.Faults.{IsOfView, Planned};
+ghost use Rattle.index_change.specs.Faults.{AfterFind, IsOfView, Planned};
 ghost use Rattle.index_tree.specs.Faults.{FailsByView};
 ghost use Rattle.index_change.specs.Holding.{Holds};
 ghost use Rattle.index_change.specs.Orders.{goes, is_of, link_of};
@@ -202,10 +203,13 @@ fn names_file(links: &[Link], file: FileRef) -> bool
 ///
 /// - [`TreeFault::Present`]: an entry of the same name, by the table of upper-case units, and file is
 ///   there.
-/// - [`TreeFault::Node`]: a node that it met, and the rule that this node breaks.
+/// - [`TreeFault::Node`]: a node that it met, and the rule that this node breaks; where the search for
+///   the name meets one, the first of these.
 /// - [`TreeFault::Deep`]: the record that holds the root has no room, and the index has sixteen
 ///   levels.
-/// - [`TreeFault::View`]: the view failed and counts it, or there is no memory left.
+/// - [`TreeFault::View`]: the view failed and counts it, or there is no memory left. That there is no
+///   memory is said too where the number of the entry's file is 2^48 or more: no node spells such an
+///   entry.
 pub fn plan_insert<V: View>(
     alloc: Global,
     v: &mut V,
@@ -217,6 +221,7 @@ pub fn plan_insert<V: View>(
     requires name { is_file_name key.now.key ≡ true }
     requires enough { 17 ≤ length fresh.now }
     ensures value { IfSome (V.content v.old) (λ c. InsertGives c (place_of dir.now) up.now dir.now.root dir.now.used (own_key key.now) fresh.now result) }
+    ensures search { IfSome (V.content v.old) (λ c. AfterFind result (find_of c (place_of dir.now) up.now (link_of (own_key key.now)).name dir.now.root)) }
     ensures old { IfSome (V.content v.old) (λ c. IfOk result (λ plan. AllWereOld c plan.changes.items)) }
     ensures fits { IfOk result (λ plan. All Fits plan.changes.items) }
     ensures same { V.content v.new ≡ V.content v.old }

@@ -4,6 +4,7 @@ ghost use Rattle.block_view.specs.Changes.{Fits};
 ghost use Rattle.record_model.specs.Nodes.{root_at};
 ghost use Rattle.record_model.specs.Values.{is_file_name};
 ghost use Rattle.index_model.specs.Indexes.{node_of_block};
+ghost use Rattle.index_model.specs.Walks.{find_of};
 ghost use Rattle.index_model.specs.Trees.{last_raw};
 ghost use Rattle.index_plan.specs.Faults.{OnDeep};
 ghost use Rattle.index_plan.specs.Laws.{NeedsLevelWithout, RemovesFrom, TakesFewOut};
@@ -13,7 +14,7 @@ ghost use Rattle.index_tree.specs.Faults.{FailsByView};
 ghost use Rattle.index_tree.specs.Places.{place_of};
 ghost use Rattle.index_change.specs.Amounts.{keys_of};
 ghost use Rattle.index_change.specs.Changing.{AllWereOld};
-ghost use Rattle.index_change.specs.Faults.{IsOfView, Planned};
+ghost use Rattle.index_change.specs.Faults.{AfterFind, IsOfView, Planned};
 ghost use Rattle.index_change.specs.Holding.{Holds};
 ghost use Rattle.index_change.specs.Orders.{has_link, is_same_link, link_of, stands};
 ghost use Rattle.index_change.specs.Plans.{clusters_of, root_room, seventeen, IsMade};
@@ -243,7 +244,8 @@ fn has_link(links: &[Link], link: &Link) -> bool
 /// each block of the place. Where the root has no room, it reads all nodes, to count the levels.
 ///
 /// - [`TreeFault::Absent`]: no entry is that one.
-/// - [`TreeFault::Node`]: a node that it met, and the rule that this node breaks.
+/// - [`TreeFault::Node`]: a node that it met, and the rule that this node breaks; where the search for
+///   the name meets one, the first of these.
 /// - [`TreeFault::Deep`]: the record that holds the root has no room for a longer key or for a node
 ///   more, and the index has sixteen levels.
 /// - [`TreeFault::View`]: the view failed and counts it, or there is no memory left.
@@ -258,6 +260,7 @@ pub fn plan_remove<V: View>(
     requires name { is_file_name key.now.key ≡ true }
     requires enough { 17 ≤ length fresh.now }
     ensures value { IfSome (V.content v.old) (λ c. RemoveGives c (place_of dir.now) up.now dir.now.root dir.now.used (link_of (own_key key.now)) fresh.now result) }
+    ensures search { IfSome (V.content v.old) (λ c. AfterFind result (find_of c (place_of dir.now) up.now (link_of (own_key key.now)).name dir.now.root)) }
     ensures old { IfSome (V.content v.old) (λ c. IfOk result (λ plan. AllWereOld c plan.changes.items)) }
     ensures fits { IfOk result (λ plan. All Fits plan.changes.items) }
     ensures same { V.content v.new ≡ V.content v.old }

@@ -1,5 +1,4 @@
 use Rattle.index_tree.specs.Places.{place_of}
-use Rattle.index_change.specs.Plans.{clusters_of}
 use Rattle.index_change.proofs.Insertions.{by_most}
 use Rattle.index_change.proofs.Removings.{takes_known}
 use Rattle.index_change.proofs.removing.Removal.take_out.Goals as goal
@@ -8,5 +7,5 @@ pub returns-in-Ok-clause-value : goal.returns-in-Ok-clause-value
 returns-in-Ok-clause-value g c =
     let o = c.args.self.now in
     let p = place_of o.dir.now in
-    takes_known p o.up.now o.dir.now.root o.dir.now.used (clusters_of o.dir.now.root) o.link.now o.fresh.now o.root.now _ _ c.in-Ok.rooted c.into_vec.result.items c.in-Ok.gone c.finish.result 16
+    takes_known p o.up.now o.dir.now.root o.dir.now.used o.link.now o.fresh.now o.root.now _ _ c.in-Ok.rooted c.into_vec.result.items c.in-Ok.gone c.finish.result 16
     c.in_ok-held.ensures.same (g.met.V.View.sized c.args.v.now) c.requires.enough c.requires.root c.in-Ok.ensures.planned c.in-Ok.ensures.taken c.into_vec.ensures (by_most _ p o.root.now) c.requires.keys c.finish.ensures.made c.finish.ensures.only

@@ -1,0 +1,40 @@
+-- What a plan says of the search before it.
+use Rattle.std.proofs.Common.{◌≡◌, ℕ, List, Option, Result, Ok, Err, refl, sym, subst}
+use Rattle.std.specs.Prelude.{IfSome, IfErr}
+use Rattle.host_base.specs.Answers.{ExplainsOrFails}
+use Rattle.host_base.proofs.Known.{one}
+use Rattle.disk_model.specs.Content.{Content}
+use Rattle.index_model.specs.Walks.{Broken}
+use Rattle.index_tree.specs.declared.fault.TreeFault.{TreeFault}
+use Rattle.index_tree.specs.declared.fault.TreeFault.TheVariants.{Node, Present, Absent, Deep, View}
+use Rattle.index_tree.specs.Faults.{tree_cause}
+use Rattle.index_change.specs.Faults.{AfterFind}
+
+broken_of : ℕ → ℕ → Broken
+broken_of vcn rule = record { vcn = vcn; rule = rule }
+
+stopped : (T : Type 0) {A : Type 0} (e : TreeFault) (found : Result A Broken) → ExplainsOrFails (tree_cause e) found → AfterFind {T = T} (Err e) found
+unfolding broken_of
+stopped T {A = A} (Node vcn rule) found h = subst (λ (x : Result A Broken). IfErr x (λ b. b ≡ broken_of vcn rule)) (sym h) refl
+stopped T Present found h = absurd h
+stopped T Absent found h = absurd h
+stopped T (Deep height) found h = absurd h
+stopped T (View cause) found h = tt
+
+passed : {T A : Type 0} (r : Result T TreeFault) (found : Result A Broken) (a : A) → found ≡ Ok a → AfterFind r found
+unfolding broken_of
+passed (Ok x) found a is = (a, is)
+passed {A = A} (Err (Node vcn rule)) found a is = subst (λ (x : Result A Broken). IfErr x (λ b. b ≡ broken_of vcn rule)) (sym is) tt
+passed (Err Present) found a is = (a, is)
+passed (Err Absent) found a is = (a, is)
+passed (Err (Deep height)) found a is = (a, is)
+passed (Err (View cause)) found a is = tt
+
+-- a search for a name that named a node, and one that named none
+pub search_stopped : (T : Type 0) {A : Type 0} (known : Option Content) (f : Content → List ℕ → Result A Broken) (m n : List ℕ) (e : TreeFault) → m ≡ n → IfSome known (λ c. ExplainsOrFails (tree_cause e) (f c m)) → IfSome known (λ c. AfterFind {T = T} (Err e) (f c n))
+search_stopped T known f m n e same h =
+    subst (λ (x : List ℕ). IfSome known (λ c. AfterFind {T = T} (Err e) (f c x))) same (one known (λ c. ExplainsOrFails (tree_cause e) (f c m)) (λ c. AfterFind {T = T} (Err e) (f c m)) (λ c p. stopped T e (f c m) p) h)
+
+pub search_passed : {T A : Type 0} (known : Option Content) (r : Result T TreeFault) (f : Content → List ℕ → Result A Broken) (m n : List ℕ) (a : A) → m ≡ n → IfSome known (λ c. f c m ≡ Ok a) → IfSome known (λ c. AfterFind r (f c n))
+search_passed known r f m n a same h =
+    subst (λ (x : List ℕ). IfSome known (λ c. AfterFind r (f c x))) same (one known (λ c. f c m ≡ Ok a) (λ c. AfterFind r (f c m)) (λ c is. passed r (f c m) a is) h)
