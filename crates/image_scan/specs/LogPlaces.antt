@@ -8,7 +8,7 @@ use Rattle.log_page.specs.declared.places.Extent.{Extent}
 use Rattle.log_page.specs.declared.places.LogPlace.{LogPlace}
 use Rattle.log_page.specs.Places.{page_bytes}
 
--- a sector behind the end of each device
+-- a sector after the end of each device
 abbrev pub nowhere : ℕ
 nowhere = 2 ^ 62
 
@@ -25,14 +25,14 @@ gap_before per v r = record { first = nowhere; sectors = min (2 ^ 59) (r.vcn - v
 unfoldable pub rest_of : ℕ → ℕ → Run → Extent
 rest_of per v r = record { first = first_sector per r.lcn (min r.len (v - r.vcn)); sectors = (r.len - min r.len (v - r.vcn)) * per }
 
--- the VCN behind the run, and behind those before it
-abbrev pub behind : ℕ → Run → ℕ
-behind v r = max v (min (2 ^ 62) r.vcn + r.len)
+-- the VCN after the run, and after those before it
+abbrev pub after : ℕ → Run → ℕ
+after v r = max v (min (2 ^ 62) r.vcn + r.len)
 
--- the sectors of runs from the VCN v on, one behind the other
+-- the sectors of runs from the VCN v on, one after the other
 abbrev pub sectors_from : ℕ → ℕ → List Run → List Extent
 sectors_from per v [] = []
-sectors_from per v (r ∷ runs) = gap_before per v r ∷ rest_of per v r ∷ sectors_from per (behind v r) runs
+sectors_from per v (r ∷ runs) = gap_before per v r ∷ rest_of per v r ∷ sectors_from per (after v r) runs
 
 -- a log of so many pages, with these sectors, of which so many are initialised
 abbrev pub log_of : ℕ → ℕ → ℕ → ℕ → List Extent → LogPlace

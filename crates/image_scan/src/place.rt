@@ -3,14 +3,14 @@ ghost use Rattle.std.specs.Prelude.{◌≡◌, ◌+◌, ◌*◌, ◌/◌, ◌^�
 ghost use Rattle.record_model.specs.Pairs.{cluster_limit};
 ghost use Rattle.stream_map.specs.Runs.{IsSmall, AreSmall, HasSmallRuns};
 ghost use Rattle.log_reading.specs.LogPages.{IsSmall as IsSmallExtent, IsLogPlace};
-ghost use Rattle.image_scan.specs.LogPlaces.{nowhere, first_sector, gap_before, rest_of, behind, sectors_from, log_of, stream_place, place_of};
+ghost use Rattle.image_scan.specs.LogPlaces.{nowhere, first_sector, gap_before, rest_of, after, sectors_from, log_of, stream_place, place_of};
 
 use log_page::{Extent, Extents, LogPlace};
 use record_model::Run;
 use state_model::Stream;
 use std::alloc::{AllocError, Global};
 
-// A sector behind the end of each device.
+// A sector after the end of each device.
 const NOWHERE: u64 = 1 << 62;
 
 fn first_sector(per: u64, lcn: Option<u64>, skipped: u64) -> u64
@@ -52,14 +52,14 @@ fn rest_of(per: u64, v: u64, run: &Run) -> Extent
     }
 }
 
-fn behind(v: u64, run: &Run) -> u64
+fn after(v: u64, run: &Run) -> u64
     requires small { IsSmall run.now }
-    ensures value { result ≡ behind v run.now }
+    ensures value { result ≡ after v run.now }
 {
     v.max(run.vcn.min(1 << 62) + run.len)
 }
 
-// Adds a run's sectors, behind those of the gap before it.
+// Adds a run's sectors, after those of the gap before it.
 fn push_run(sectors: &mut Vec<Extent>, per: u64, v: u64, run: &Run) -> Result<(), AllocError>
     requires few { per ≤ 8 }
     requires small { IsSmall run.now }
@@ -71,7 +71,7 @@ fn push_run(sectors: &mut Vec<Extent>, per: u64, v: u64, run: &Run) -> Result<()
     Ok(())
 }
 
-// The sectors of runs, one behind the other.
+// The sectors of runs, one after the other.
 fn sectors_of(alloc: Global, per: u64, runs: &[Run]) -> Result<Vec<Extent>, AllocError>
     requires few { per ≤ 8 }
     requires small { AreSmall runs.now }
@@ -82,7 +82,7 @@ fn sectors_of(alloc: Global, per: u64, runs: &[Run]) -> Result<Vec<Extent>, Allo
     let mut v = 0;
     for run in runs {
         push_run(&mut sectors, per, v, run)?;
-        v = behind(v, run);
+        v = after(v, run);
     }
     Ok(sectors)
 }

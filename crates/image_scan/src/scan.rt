@@ -78,7 +78,7 @@ fn scan_device<D: Device>(
 /// in the file records.
 ///
 /// It reads the boot sector, record 2 and the log, and then goes over the file table, as recovery by
-/// the log would leave it, in reads of 64 KiB where its records lie one behind the other: once, and keeping only
+/// the log would leave it, in reads of 64 KiB where its records lie one after the other: once, and keeping only
 /// the names, as long as no file has an attribute list. At the first file that has one it begins again
 /// and keeps all records. Time is linear in the file table, and in its runs for each record; memory is
 /// linear in the names, or in the file table where a file has an attribute list.

@@ -54,9 +54,9 @@ module _ (lsn previous tx first kind at : ℕ) (redo undo : List ℕ) where
   abbrev us : List ℕ
   us = entry_spelling update
 
-  update_behind : drop 0x58 us ≡ filled redo ++ filled undo
+  update_after : drop 0x58 us ≡ filled redo ++ filled undo
   unfolding entry_spelling front_spelling update_spelling spell zeros
-  update_behind = refl
+  update_after = refl
 
   update_long : 0x58 ≤ length us
   unfolding entry_spelling front_spelling update_spelling spell zeros
@@ -64,7 +64,7 @@ module _ (lsn previous tx first kind at : ℕ) (redo undo : List ℕ) where
 
   length-update : length us ≡ head_size + (up8 (length redo) + up8 (length undo))
   length-update =
-      let rest : length (drop 0x58 us) ≡ length (filled redo) + length (filled undo) = ap length update_behind ∙ length-append (filled redo) (filled undo) in
+      let rest : length (drop 0x58 us) ≡ length (filled redo) + length (filled undo) = ap length update_after ∙ length-append (filled redo) (filled undo) in
       omega (arith, update_long, rest, length-drop 0x58 us, length-filled redo, length-filled undo)
 
   module _ (fits : FitsEntry update) where
@@ -81,7 +81,7 @@ module _ (lsn previous tx first kind at : ℕ) (redo undo : List ℕ) where
     whole = omega (arith, length-update, ap up8 profile.same)
 
     undo_placed : drop (0x58 + up8 n) us ≡ filled undo ++ []
-    undo_placed = rest_here us redo (filled undo) 0x58 update_behind ∙ sym (append-nil (filled undo))
+    undo_placed = rest_here us redo (filled undo) 0x58 update_after ∙ sym (append-nil (filled undo))
 
     lsn_is : field 0x00 8 us ≡ lsn
     unfolding entry_spelling front_spelling update_spelling spell zeros
@@ -188,8 +188,8 @@ module _ (lsn previous tx first kind at : ℕ) (redo undo : List ℕ) where
       zero = gap_is;
       vcn = vcn_is;
       lcn = lcn_is;
-      redo_bytes = bytes_here us redo (filled undo) 0x58 update_behind;
-      redo_zeros = zeros_here us redo (filled undo) 0x58 update_behind;
+      redo_bytes = bytes_here us redo (filled undo) 0x58 update_after;
+      redo_zeros = zeros_here us redo (filled undo) 0x58 update_after;
       undo_bytes = bytes_here us undo [] (0x58 + up8 n) undo_placed;
       undo_zeros = ap (λ (x : ℕ). part (0x58 + up8 n + x) (up8 x - x) us) (sym profile.same) ∙ zeros_here us undo [] (0x58 + up8 n) undo_placed ∙ ap (λ (x : ℕ). zeros (up8 x - x)) profile.same;
       profile = profile;

@@ -1,4 +1,4 @@
--- A shadowed block, by the entries behind the update of a rival.
+-- A shadowed block, by the entries after the update of a rival.
 use Rattle.std.proofs.Common.{◌≡◌, ℕ, Bool, true, false, List, [], ◌∷◌, ◌++◌, Option, Some, None, refl, sym, ap, ◌∙◌}
 use Rattle.std.specs.Prelude.{◌&&◌, if◌then◌else◌, unwrap_or}
 use Rattle.std.specs.List.{AllByRecursion}
@@ -52,10 +52,10 @@ module _ (ended : ℕ → Bool) (b : Block) where
   record Found (log : List Entry) : Type 0 where
     front : List Entry
     rival : Entry
-    behind : List Entry
-    whole : log ≡ front ++ rival ∷ behind
+    after : List Entry
+    whole : log ≡ front ++ rival ∷ after
     is_rival : updates_rival b rival.act ≡ true
-    no_own_behind : AllByRecursion IsNotOwn behind
+    no_own_after : AllByRecursion IsNotOwn after
 
   found : (log : List Entry) → last_said ended log b ≡ Some true → Found log
   found [] h = absurd cc
@@ -65,20 +65,20 @@ module _ (ended : ℕ → Bool) (b : Block) where
       go (Some w) is h rest =
           let same : w ≡ true = ap (λ (o : Option Bool). unwrap_or o w) h in
           let f = rest (is ∙ ap (λ (v : Bool). Some v) same) in
-          record { front = x ∷ f.front; rival = f.rival; behind = f.behind; whole = ap (λ (l : List Entry). x ∷ l) f.whole; is_rival = f.is_rival; no_own_behind = f.no_own_behind }
+          record { front = x ∷ f.front; rival = f.rival; after = f.after; whole = ap (λ (l : List Entry). x ∷ l) f.whole; is_rival = f.is_rival; no_own_after = f.no_own_after }
       go None is h rest =
-          record { front = []; rival = x; behind = log; whole = refl; is_rival = says_rival (updates_rival b x.act) (updates b x.act && ended x.tx) h; no_own_behind = none_said log is }
+          record { front = []; rival = x; after = log; whole = refl; is_rival = says_rival (updates_rival b x.act) (updates b x.act && ended x.tx) h; no_own_after = none_said log is }
 
-  said_here : (front : List Entry) (x : Entry) (behind : List Entry) → updates_rival b x.act ≡ true → AllByRecursion IsNotOwn behind → last_said ended (front ++ x ∷ behind) b ≡ Some true
-  said_here [] x behind is none = go (last_said ended behind b) refl
+  said_here : (front : List Entry) (x : Entry) (after : List Entry) → updates_rival b x.act ≡ true → AllByRecursion IsNotOwn after → last_said ended (front ++ x ∷ after) b ≡ Some true
+  said_here [] x after is none = go (last_said ended after b) refl
     where
       own : act_says b (ended x.tx) x.act ≡ Some true
       own = ap (λ (r : Bool). if r then Some true else (if updates b x.act && ended x.tx then Some false else None)) is
 
-      go : (o : Option Bool) → last_said ended behind b ≡ o → option_or (last_said ended behind b) (act_says b (ended x.tx) x.act) ≡ Some true
-      go (Some w) h = ap (λ (o : Option Bool). option_or o (act_says b (ended x.tx) x.act)) h ∙ ap (λ (v : Bool). Some v) (rival_said behind w none h)
+      go : (o : Option Bool) → last_said ended after b ≡ o → option_or (last_said ended after b) (act_says b (ended x.tx) x.act) ≡ Some true
+      go (Some w) h = ap (λ (o : Option Bool). option_or o (act_says b (ended x.tx) x.act)) h ∙ ap (λ (v : Bool). Some v) (rival_said after w none h)
       go None h = ap (λ (o : Option Bool). option_or o (act_says b (ended x.tx) x.act)) h ∙ own
-  said_here (y ∷ front) x behind is none = ap (λ (o : Option Bool). option_or o (act_says b (ended y.tx) y.act)) (said_here front x behind is none)
+  said_here (y ∷ front) x after is none = ap (λ (o : Option Bool). option_or o (act_says b (ended y.tx) y.act)) (said_here front x after is none)
 
 shadow_said : (o : Option Bool) → unwrap_or o false ≡ true → o ≡ Some true
 shadow_said (Some w) h = ap (λ (v : Bool). Some v) h
@@ -88,10 +88,10 @@ pub shadow_found : (log : List Entry) (b : Block) → is_shadowed log b ≡ true
 unfolding is_shadowed
 shadow_found log b h =
     let f = found (is_ended log) b log (shadow_said (last_said (is_ended log) log b) h) in
-    record { front = f.front; rival = f.rival; behind = f.behind; whole = f.whole; is_rival = f.is_rival; no_own_behind = f.no_own_behind }
+    record { front = f.front; rival = f.rival; after = f.after; whole = f.whole; is_rival = f.is_rival; no_own_after = f.no_own_after }
 
 pub found_shadow : (log : List Entry) (b : Block) → RivalBehind log b → is_shadowed log b ≡ true
 unfolding is_shadowed
 found_shadow log b f =
     ap (λ (o : Option Bool). unwrap_or o false)
-    (ap (λ (l : List Entry). last_said (is_ended log) l b) f.whole ∙ said_here (is_ended log) b f.front f.rival f.behind f.is_rival f.no_own_behind)
+    (ap (λ (l : List Entry). last_said (is_ended log) l b) f.whole ∙ said_here (is_ended log) b f.front f.rival f.after f.is_rival f.no_own_after)

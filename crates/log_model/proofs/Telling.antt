@@ -34,7 +34,7 @@ module _ {A : Type 0} where
   pub none_both : (a b : Option A) → a ≡ None → b ≡ None → option_or a b ≡ None
   none_both a b p q = rw p q
 
--- ---- lists one behind the other
+-- ---- lists one after the other
 
 pub first_undo-append : (xs ys : List Entry) (b : Block) (i : ℕ) → first_undo (xs ++ ys) b i ≡ option_or (first_undo xs b i) (first_undo ys b i)
 first_undo-append [] ys b i = refl

@@ -100,7 +100,7 @@ all_zeros bytes = list_all (λ b. b == 0) bytes
 abbrev pub is_filled : ℕ → ℕ → List ℕ → Bool
 is_filled at n s = all_zeros (part (at + n) (up8 n - n) s)
 
--- the zeros behind its redo bytes, and behind its undo bytes
+-- the zeros after its redo bytes, and after its undo bytes
 unfoldable pub bytes_fit : List ℕ → Result (Unit {0}) EntryFault
 bytes_fit s =
     let n = field 0x36 2 s in
@@ -252,7 +252,7 @@ abbrev pub act_spelling : Act → List ℕ
 act_spelling (Update first kind at redo undo) = update_spelling first kind at (length redo)
 act_spelling Commit = commit_spelling
 
--- what stands behind the fields
+-- what stands after the fields
 abbrev pub bytes_spelling : Act → List ℕ
 bytes_spelling (Update first kind at redo undo) = filled redo ++ filled undo
 bytes_spelling Commit = zeros 0

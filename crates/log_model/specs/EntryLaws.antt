@@ -14,7 +14,7 @@ pub record EntryIsTable : Type 0 where
   pub read : (bytes : List ℕ) (e : Entry) → (entry_at bytes ≡ Ok e) ↔ BeginsEntry bytes e
   pub fits : (bytes : List ℕ) (e : Entry) → AreBytes bytes → entry_at bytes ≡ Ok e → FitsEntry e
 
--- what was written is read again, whatever stands behind it
+-- what was written is read again, whatever stands after it
 pub record EntryReadAgain : Type 0 where
   pub size : (e : Entry) → FitsEntry e → length (entry_spelling e) ≡ entry_size e
   pub spelled : (e : Entry) → FitsEntry e → IsEntry (entry_spelling e) e

@@ -14,14 +14,14 @@ pub record RecoveredByte : Type 0 where
   pub torn : (disk : Content) (log : List Entry) (b : Block) → HasSizes disk → All IsLevel log → is_shadowed log b ≡ false → (recovered disk log b).torn ≡ ((disk b).torn && not (is_covered_whole log b))
   pub shadowed : (disk : Content) (log : List Entry) (b : Block) → is_shadowed log b ≡ true → recovered disk log b ≡ disk b
 
--- An update of a rival of the block, behind which no transaction that ended has an update of the block itself.
+-- An update of a rival of the block, after which no transaction that ended has an update of the block itself.
 pub record RivalBehind (log : List Entry) (b : Block) : Type 0 where
   pub front : List Entry
   pub rival : Entry
-  pub behind : List Entry
-  pub whole : log ≡ front ++ rival ∷ behind
+  pub after : List Entry
+  pub whole : log ≡ front ++ rival ∷ after
   pub is_rival : updates_rival b rival.act ≡ true
-  pub no_own_behind : AllByRecursion (λ (e : Entry). (updates b e.act && is_ended log e.tx) ≡ false) behind
+  pub no_own_after : AllByRecursion (λ (e : Entry). (updates b e.act && is_ended log e.tx) ≡ false) after
 
 -- there is one exactly where the block is shadowed
 pub record ShadowIsRival : Type 0 where

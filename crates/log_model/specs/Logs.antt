@@ -92,7 +92,7 @@ abbrev pub last_said : (ℕ → Bool) → List Entry → Block → Option Bool
 last_said ended [] b = None
 last_said ended (e ∷ log) b = option_or (last_said ended log b) (act_says b (ended e.tx) e.act)
 
--- an update of a rival stands behind the block's own last ended update, or anywhere where it has none
+-- an update of a rival stands after the block's own last ended update, or anywhere where it has none
 unfoldable pub is_shadowed : List Entry → Block → Bool
 is_shadowed log b = unwrap_or (last_said (is_ended log) log b) false
 

@@ -40,7 +40,7 @@ OriginKept = (present : Content) (log : List Entry) (e : Entry) (b : Block) → 
     → (origin (overlay present (redo_of true e.act)) (log ++ e ∷ []) b).bytes ≡ (origin present log b).bytes
 
 -- On a disk where the block stands as in the origin, unless the durable entries cover it whole, a log of the durable entries and some more recovers
--- to the origin after the transactions that have ended there; whatever the log has behind them.
+-- to the origin after the transactions that have ended there; whatever the log has after them.
 abbrev pub CrashKernel : Type 0
 CrashKernel = (disk present : Content) (durable rest more : List Entry) (b : Block) → AllByRecursion IsLevel ((durable ++ rest) ++ more)
     → length (disk b).bytes ≡ 512 * sectors b.kind → length (present b).bytes ≡ 512 * sectors b.kind
@@ -52,6 +52,6 @@ CrashKernel = (disk present : Content) (durable rest more : List Entry) (b : Blo
 abbrev pub IsOther : List Entry → Entry → Type 0
 IsOther log e = (is_ended log e.tx ≡ false) × (is_commit e.act ≡ false)
 
--- entries behind the last commit, of transactions that haven't ended, are never redone
+-- entries after the last commit, of transactions that haven't ended, are never redone
 abbrev pub TailCountsForNothing : Type 0
 TailCountsForNothing = (log tail : List Entry) → AllByRecursion (IsOther log) tail → redos (is_ended (log ++ tail)) (log ++ tail) ≡ redos (is_ended log) log

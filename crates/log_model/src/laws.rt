@@ -20,7 +20,7 @@ pub fn recovered_byte()
     ensures { RecoveredByte }
 {}
 
-/// Law: a block is shadowed exactly where an update of a rival stands in the log, behind which no
+/// Law: a block is shadowed exactly where an update of a rival stands in the log, after which no
 /// transaction that ended has an update of the block itself.
 pub fn shadow_is_rival()
     ensures { ShadowIsRival }
@@ -47,7 +47,7 @@ pub fn crash_kernel()
     ensures { CrashKernel }
 {}
 
-/// Law: entries behind the last commit count for nothing where their transactions haven't ended.
+/// Law: entries after the last commit count for nothing where their transactions haven't ended.
 pub fn tail_counts_for_nothing()
     ensures { TailCountsForNothing }
 {}

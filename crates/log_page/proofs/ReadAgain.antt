@@ -110,18 +110,18 @@ module _ (r : Restart) (check : ℕ) (small : check < 2 ^ 16) where
   before_is : (i : ℕ) → i < 0x1E → slice_index page i ≡ slice_index s i
   before_is i lt = let e = at_1e in it.others i (not_false (leb (array_at s) i) (ltb i (array_at s + 2 * (sector_count s + 1))) (lt-leb _ _ (omega arith)))
 
-  behind_is : (i : ℕ) → 0x30 ≤ i → slice_index page i ≡ slice_index s i
-  behind_is i le =
+  after_is : (i : ℕ) → 0x30 ≤ i → slice_index page i ≡ slice_index s i
+  after_is i le =
       let e = at_1e in
       let size = length-restart_spelling r in
       it.others i (not_false_either (leb (array_at s) i) (ltb i (array_at s + 2 * (sector_count s + 1))) (le-ltb _ _ (omega arith)))
 
-  -- numbers before and behind the array
+  -- numbers before and after the array
   head_field : (at n value : ℕ) → at + n ≤ 0x1E → field at n (restart_front r) ≡ value → field at n page ≡ value
   head_field at n value le e = field_same at at n page s (λ k lt. before_is (at + k) (omega arith)) ∙ in_page r at n value (omega arith) e
 
   body_field : (at n value : ℕ) → 0x30 ≤ at → at + n ≤ 0x110 → field at n (restart_front r) ≡ value → field at n page ≡ value
-  body_field at n value le fits e = field_same at at n page s (λ k lt. behind_is (at + k) (omega arith)) ∙ in_page r at n value fits e
+  body_field at n value le fits e = field_same at at n page s (λ k lt. after_is (at + k) (omega arith)) ∙ in_page r at n value fits e
 
   -- ---- fields
 
@@ -157,7 +157,7 @@ module _ (r : Restart) (check : ℕ) (small : check < 2 ^ 16) where
       let whole = length-restart_spelling r in
       let here : part (clients_at page + 0x20) 16 page ≡ own_name =
       ap (λ (a : ℕ). part (a + 0x20) 16 page) clients
-      ∙ part_same 0x90 16 page s (omega arith) (omega arith) (λ k lt. behind_is (0x90 + k) (omega arith))
+      ∙ part_same 0x90 16 page s (omega arith) (omega arith) (λ k lt. after_is (0x90 + k) (omega arith))
       ∙ name_in_page r in
       and_from _ _ (eq-eqb _ _ bytes) (ap (pointwise nat_eq own_name) here)
 

@@ -52,9 +52,9 @@ stop (suc most) page first at less = rw less refl
 pub one_more : (fuel most : ℕ) (page : List ℕ) (first at next : ℕ) (front front' : List Entry) (e : Entry) (whole : Reading)
     → fuel ≡ suc most → goes_on page at ≡ true → Some e ≡ entry_in page first at → next ≡ at + entry_size e → front' ≡ front ++ e ∷ []
     → with_front front (entries_from fuel page first at) ≡ whole → with_front front' (entries_from most page first next) ≡ whole
-one_more fuel most page first at next front front' e whole count more here behind grown read =
+one_more fuel most page first at next front front' e whole count more here after grown read =
     let rest = entries_from most page first (at + entry_size e) in
-    ap (λ (x : ℕ). with_front front' (entries_from most page first x)) behind
+    ap (λ (x : ℕ). with_front front' (entries_from most page first x)) after
     ∙ ap (λ (l : List Entry). with_front l rest) grown
     ∙ ap (λ (l : List Entry). reading l rest.foreign) (append_assoc front (e ∷ []) rest.entries)
     ∙ ap (with_front front) (sym (ap (λ (o : Option Entry). entry_or_foreign o (lsn_of first at) (λ e. entries_from most page first (at + entry_size e))) (sym here)))

@@ -4,7 +4,7 @@ use Rattle.std.specs.Prelude.{ℕ, zero, suc, ◌+◌, ◌-◌, ◌%◌, max, na
 use Rattle.std.specs.List.{range_with_len, starts_with, fold}
 use Rattle.disk_model.specs.Numbers.{field}
 use Rattle.log_page.specs.declared.restart.Restart.{Restart}
-use Rattle.log_page.specs.Places.{page_bytes, first_page, entries_at, lap_of, offset_of, page_of, page_lsn, is_in_ring, page_behind, lap_behind}
+use Rattle.log_page.specs.Places.{page_bytes, first_page, entries_at, lap_of, offset_of, page_of, page_lsn, is_in_ring, page_after, lap_after}
 use Rattle.log_page.specs.RecordPages.{record_signature, is_whole_page, page_reading, Reading, no_reading}
 
 -- one reading, and the next one where the first met no entry of another shape
@@ -20,10 +20,10 @@ unfoldable pub log_from : ℕ → (ℕ → List ℕ) → ℕ → ℕ → ℕ →
 log_from pages raw zero lap page at = no_reading
 log_from pages raw (suc most) lap page at =
     if is_whole_page pages (raw page) (page_lsn pages lap page)
-    then followed_by (page_reading (raw page) (page_lsn pages lap page) at) (log_from pages raw most (lap_behind pages lap page) (page_behind pages page) entries_at)
+    then followed_by (page_reading (raw page) (page_lsn pages lap page) at) (log_from pages raw most (lap_after pages lap page) (page_after pages page) entries_at)
     else no_reading
 
--- the offset in its page at which an LSN is read: entries begin behind the page's header
+-- the offset in its page at which an LSN is read: entries begin after the page's header
 abbrev pub start_in_page : ℕ → ℕ → ℕ
 start_in_page pages lsn = max entries_at (offset_of pages lsn % page_bytes)
 

@@ -46,10 +46,10 @@ page_lsn pages lap page = lsn_at pages lap (page_bytes * page + entries_at)
 abbrev pub is_in_ring : ℕ → ℕ → Bool
 is_in_ring pages lsn = nat_le first_page (page_of pages lsn) && nat_lt (page_of pages lsn) pages
 
--- the page behind this one in the ring
-abbrev pub page_behind : ℕ → ℕ → ℕ
-page_behind pages page = if page + 1 == pages then first_page else page + 1
+-- the page after this one in the ring
+abbrev pub page_after : ℕ → ℕ → ℕ
+page_after pages page = if page + 1 == pages then first_page else page + 1
 
 -- and its lap, which is one more at each return to the ring's first page
-abbrev pub lap_behind : ℕ → ℕ → ℕ → ℕ
-lap_behind pages lap page = if page + 1 == pages then lap + 1 else lap
+abbrev pub lap_after : ℕ → ℕ → ℕ → ℕ
+lap_after pages lap page = if page + 1 == pages then lap + 1 else lap

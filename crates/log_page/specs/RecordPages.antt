@@ -74,10 +74,10 @@ entry_in page first at = own_entry (lsn_of first at) (entry_at (bytes_from page 
 abbrev pub goes_on : List ℕ → ℕ → Bool
 goes_on page at = at == entries_at || nat_lt at (free_at page)
 
--- an entry with what is read behind it, or the place of one of another shape
+-- an entry with what is read after it, or the place of one of another shape
 abbrev pub entry_or_foreign : Option Entry → ℕ → (Entry → Reading) → Reading
-entry_or_foreign (Some e) lsn behind = entry_before e (behind e)
-entry_or_foreign None lsn behind = foreign_here lsn
+entry_or_foreign (Some e) lsn after = entry_before e (after e)
+entry_or_foreign None lsn after = foreign_here lsn
 
 -- the entries of a page from an offset on, of so many at most
 unfoldable pub entries_from : ℕ → List ℕ → ℕ → ℕ → Reading

@@ -3,7 +3,7 @@ ghost use Rattle.log_page.specs.Places.{digits, place_bits, sequence_bits, lsn_a
 
 use std::marker::Model;
 
-/// Sectors of the volume, one behind the other.
+/// Sectors of the volume, one after the other.
 #[derive(Clone, Copy, Debug, PartialEq, Eq)]
 pub struct Extent {
     /// The first one.
@@ -12,7 +12,7 @@ pub struct Extent {
     pub sectors: u64,
 }
 
-/// Runs of sectors one behind the other, which contracts see as a list.
+/// Runs of sectors one after the other, which contracts see as a list.
 #[derive(Debug, Drop)]
 pub struct Extents {
     items: Vec<Extent>,
@@ -49,7 +49,7 @@ impl Extents {
 pub struct LogPlace {
     /// The sectors of its pages, in the order of the log.
     pub runs: Extents,
-    /// How many sectors at its front are initialised; those behind them are zeros.
+    /// How many sectors at its front are initialised; those after them are zeros.
     pub initialised: u64,
     /// Its pages of 4,096 bytes.
     pub pages: u64,

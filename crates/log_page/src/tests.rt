@@ -145,9 +145,9 @@ fn three_updates_of_a_sector_fit_a_page(rt: HostRuntime) -> Result<(), Fail> {
     let entries = read_page(alloc, &page, 513, FIRST)?;
     assert_eq!(rt; entries.len(), 3);
     assert_eq!(rt; said_lsn(&page), Some(FIRST + 278));
-    let mut behind = Vec::new(alloc);
-    append_page(alloc, &mut behind, &page, 513, FIRST, 0x40 + 1112)?;
-    assert_eq!(rt; behind.len(), 2);
+    let mut after = Vec::new(alloc);
+    append_page(alloc, &mut after, &page, 513, FIRST, 0x40 + 1112)?;
+    assert_eq!(rt; after.len(), 2);
     page[64 + 1112 + 0x20] = 2;
     let foreign = read_page(alloc, &page, 513, FIRST).err();
     assert_eq!(rt; foreign, Some(PageFault::Foreign { lsn: FIRST + 139 }));

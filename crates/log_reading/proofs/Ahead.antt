@@ -11,7 +11,7 @@ use Rattle.log_reading.specs.Laps.{is_read, NoneBetween, IsNext, IsBehind}
 
 -- ---- sectors
 
--- a sector behind a run
+-- a sector after a run
 passed : (run : Extent) (runs : List Extent) (n m : ℕ) → n ≡ run.sectors + m → sector_in (run ∷ runs) n ≡ sector_in runs m
 passed run runs n m e =
     let rest : n - run.sectors ≡ m = omega arith in
@@ -31,7 +31,7 @@ above device s e = by_cases (nat_lt s device) refl
         clash x = cc
     by_cases false is = ltb-false s device is
 
--- where one of a run is past the device's end, each behind it in the run is
+-- where one of a run is past the device's end, each after it in the run is
 past_end : (device : ℕ) (run : Extent) (runs : List Extent) (a n : ℕ) → a ≤ n → n < run.sectors → sector_below device (sector_in (run ∷ []) a) ≡ None → sector_below device (sector_in (run ∷ runs) n) ≡ None
 past_end device run runs a n le lt none =
     let first : device ≤ run.first + a = above device (run.first + a) (sym (ap (sector_below device) (inside run [] a (omega arith))) ∙ none) in
@@ -74,7 +74,7 @@ unread place from not_read n le lt = by_cases (nat_lt (8 * n) place.initialised)
 
 -- ---- the walk
 
--- none of the pages up to the one that is sought begins on the device, and it and those behind it begin where the runs that are left say
+-- none of the pages up to the one that is sought begins on the device, and it and those after it begin where the runs that are left say
 pub record IsSought (place : LogPlace) (from index : ℕ) (sought : Sought) : Type 0 where
   pub later : from ≤ sought.page
   pub between : NoneBetween place from sought.page
@@ -97,7 +97,7 @@ pub run_passed : (place : LogPlace) (from index : ℕ) (d run : Extent) (old new
 run_passed place from index d run old new lt is none next so_far = record {
   later = omega (arith, next.later, so_far.later);
   between = λ n le below. ⊎_elim (λ (h : n < old.page). so_far.between n le h) (λ (h : old.page ≤ n). in_run n h below) (cases_lt n old.page);
-  rest = behind;
+  rest = after;
 }
   where
     at : (j : ℕ) → sector_in place.runs (8 * (old.page + j)) ≡ sector_in (run ∷ drop (index + 1) place.runs) (8 * j + old.ahead)
@@ -111,8 +111,8 @@ run_passed place from index d run old new lt is none next so_far = record {
         none_at place (8 * n) (sector_in (run ∷ drop (index + 1) place.runs) (8 * j + old.ahead)) (ap (sector_in place.runs) same ∙ at j)
         (past_end place.device run (drop (index + 1) place.runs) old.ahead (8 * j + old.ahead) (omega arith) (omega arith) none)
 
-    behind : (k : ℕ) → sector_in place.runs (8 * (new.page + k)) ≡ sector_in (drop (index + 1) place.runs) (8 * k + new.ahead)
-    behind k =
+    after : (k : ℕ) → sector_in place.runs (8 * (new.page + k)) ≡ sector_in (drop (index + 1) place.runs) (8 * k + new.ahead)
+    after k =
         let j : ℕ = new.page - old.page + k in
         let same : 8 * (new.page + k) ≡ 8 * (old.page + j) = omega (arith, next.later) in
         ap (sector_in place.runs) same ∙ at j ∙ passed run (drop (index + 1) place.runs) (8 * j + old.ahead) (8 * k + new.ahead) (omega (arith, next.later, next.ahead))
@@ -141,10 +141,10 @@ none_read place from index sought read so_far n le lt =
 
 -- no run is left
 pub none_left : (place : LogPlace) (from index : ℕ) (sought : Sought) → length place.runs ≤ index → IsSought place from index sought → NoneBetween place from place.pages
-none_left place from index sought past so_far n le lt = ⊎_elim (λ (h : n < sought.page). so_far.between n le h) (λ (h : sought.page ≤ n). behind h) (cases_lt n sought.page)
+none_left place from index sought past so_far n le lt = ⊎_elim (λ (h : n < sought.page). so_far.between n le h) (λ (h : sought.page ≤ n). after h) (cases_lt n sought.page)
   where
-    behind : sought.page ≤ n → log_sector place (8 * n) ≡ None
-    behind h =
+    after : sought.page ≤ n → log_sector place (8 * n) ≡ None
+    after h =
         let j : ℕ = n - sought.page in
         let same : 8 * n ≡ 8 * (sought.page + j) = omega arith in
         none_at place (8 * n) None (ap (sector_in place.runs) same ∙ so_far.rest j ∙ ap (λ (rs : List Extent). sector_in rs (8 * j + sought.ahead)) (drop_all index place.runs past)) refl

@@ -7,7 +7,7 @@ use Rattle.log_model.specs.declared.entry.Entry.{Entry}
 use Rattle.log_page.specs.declared.places.LogPlace.{LogPlace}
 use Rattle.log_page.specs.declared.fault.PageFault.TheVariants.{NotWhole, Foreign}
 use Rattle.log_page.specs.declared.fault.PageFault.{PageFault}
-use Rattle.log_page.specs.Places.{entries_at, lap_of, page_of, page_lsn, is_in_ring, page_behind, lap_behind}
+use Rattle.log_page.specs.Places.{entries_at, lap_of, page_of, page_lsn, is_in_ring, page_after, lap_after}
 use Rattle.log_page.specs.RecordPages.{Reading, is_whole_page, page_reading, AppendsPage}
 use Rattle.log_page.specs.LiveLogs.{live_log, log_from, start_in_page}
 use Rattle.log_page.proofs.Readings.{with_front}
@@ -56,7 +56,7 @@ module _ (place : LogPlace) (oldest passed lap page at : ℕ) (old new : List En
     made : (c : Content) (answer : Result (Unit {0}) PageFault) → result ≡ answer → Steps c place lap page at old new result → Steps c place lap page at old new answer
     made c answer e s = subst (Steps c place lap page at old new) e s
 
-    pub goes_on : (next_lap next_page next_at : ℕ) → next_lap ≡ lap_behind place.pages lap page → next_page ≡ page_behind place.pages page → next_at ≡ entries_at → result ≡ Ok tt
+    pub goes_on : (next_lap next_page next_at : ℕ) → next_lap ≡ lap_after place.pages lap page → next_page ≡ page_after place.pages page → next_at ≡ entries_at → result ≡ Ok tt
         → IfSome content (λ c. IsRead c place oldest (passed + 1) next_lap next_page next_at new)
     goes_on next_lap next_page next_at l p a is =
         both content (λ c. Steps c place lap page at old new result) (λ c. IsRead c place oldest passed lap page at old) (λ c. IsRead c place oldest (passed + 1) next_lap next_page next_at new)

@@ -20,7 +20,7 @@ pub record IsNext (place : LogPlace) (from : ℕ) (next : PageStart) : Type 0 wh
   pub sector : log_sector place (8 * next.page) ≡ Some next.sector
   pub between : NoneBetween place from next.page
 
--- the first page from one on that begins behind the next run, which has so many sectors
+-- the first page from one on that begins after the next run, which has so many sectors
 pub record IsBehind (sectors : ℕ) (old new : Sought) : Type 0 where
   pub later : old.page ≤ new.page
   pub ahead : 8 * new.page + old.ahead ≡ 8 * old.page + sectors + new.ahead

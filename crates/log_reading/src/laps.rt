@@ -38,8 +38,8 @@ fn sector_on(run: &Extent, n: u64, device: u64) -> Option<u64>
     if sector < device { Some(sector) } else { None }
 }
 
-// The first page from this one on that begins behind the next run, which has so many sectors.
-fn behind(sought: Sought, sectors: u64) -> Sought
+// The first page from this one on that begins after the next run, which has so many sectors.
+fn after(sought: Sought, sectors: u64) -> Sought
     requires { sought.page < 2 ^ 52 }
     ensures { IsBehind sectors sought result }
 {
@@ -81,7 +81,7 @@ fn next_page(place: &LogPlace, page: u64) -> Option<PageStart>
             let page = sought.page;
             return Some(PageStart { page, sector });
         }
-        sought = behind(sought, run.sectors);
+        sought = after(sought, run.sectors);
     }
     None
 }

@@ -2,7 +2,7 @@
 ghost use Rattle.std.specs.Prelude.{◌≡◌, ◌+◌, ◌*◌, ◌<◌, ◌≤◌, ◌^◌, true, [], All, None, IfOk, IfErr, IfSome, IsErrOf};
 ghost use Rattle.host_base.specs.Causes.{Rose};
 ghost use Rattle.log_model.specs.Entries.{FitsEntry};
-ghost use Rattle.log_page.specs.Places.{lap_of, page_of, page_lsn, is_in_ring, page_behind, lap_behind};
+ghost use Rattle.log_page.specs.Places.{lap_of, page_of, page_lsn, is_in_ring, page_after, lap_after};
 ghost use Rattle.log_page.specs.RecordPages.{is_whole_page, page_reading, AppendsPage};
 ghost use Rattle.log_page.specs.LiveLogs.{live_log, start_in_page};
 ghost use Rattle.log_reading.specs.Views.{KeepsView, NeverForeign};
@@ -55,13 +55,13 @@ impl Position {
         }
     }
 
-    // The front of the page behind.
-    fn behind(self, pages: u64) -> Position
+    // The front of the page after.
+    fn after(self, pages: u64) -> Position
         requires small { pages < 2 ^ 52 }
         requires begun { 4 ≤ self.page }
         requires inside { self.page < pages }
         requires low { self.lap < 2 ^ 63 + 2 ^ 52 }
-        ensures value { result ≡ record { lap = lap_behind pages self.lap self.page; page = page_behind pages self.page; from = 0x40 } }
+        ensures value { result ≡ record { lap = lap_after pages self.lap self.page; page = page_after pages self.page; from = 0x40 } }
         ensures begun { 4 ≤ result.page }
         ensures inside { result.page < pages }
         ensures low { result.lap ≤ self.lap + 1 }
@@ -149,7 +149,7 @@ fn append_live<V: View>(
             Err(PageFault::Foreign { lsn }) => return Ok(Some(lsn)),
             Err(PageFault::Memory) => return Err(RecoveryFault::Memory),
         }
-        at = at.behind(place.pages);
+        at = at.after(place.pages);
     }
     Ok(None)
 }

@@ -28,7 +28,7 @@ commit_pushed old out fields act is e f =
     let none : act_spelling Commit ++ zeros 0 ≡ commit_spelling = append-nil commit_spelling in
     f ∙ ap (λ (x : List ℕ). old ++ x) (e ∙ sym none) ∙ ap (λ (a : Act). old ++ (act_spelling a ++ bytes_spelling a)) (sym is)
 
--- the header, and what stands behind it
+-- the header, and what stands after it
 pub entry_pushed : (e : Entry) (front out : List ℕ) → front ≡ front_spelling e → out ≡ front ++ (act_spelling e.act ++ bytes_spelling e.act) → out ≡ entry_spelling e
 unfolding entry_spelling
 entry_pushed e front out is f =

@@ -202,7 +202,7 @@ fn is_filled(entry: &[u8], at: usize, n: usize) -> bool
     all_zeros(part(entry, at + n, up8(n) - n))
 }
 
-// The zeros behind its redo bytes and behind its undo bytes.
+// The zeros after its redo bytes and after its undo bytes.
 #[tactic(auto, unfolding(log_model::specs::Entries::bytes_fit))]
 fn check_bytes(entry: &[u8]) -> Result<(), EntryFault>
     requires { update_size (field 0x36 2 entry.now) ≤ length entry.now }

@@ -77,7 +77,7 @@ fn entry(alloc: Global, bytes: &[u8]) -> Result<Entry, EntryFault>
 }
 
 /// Reads the entry at the front of these bytes (Linux-NTFS documentation, "$LogFile"), whatever
-/// stands behind it. `Entry::size` says how many bytes it has.
+/// stands after it. `Entry::size` says how many bytes it has.
 ///
 /// - `Shape`: the offset of the first field, from the entry's first byte on, that is neither an
 ///   update's nor a commit's, in the order of the table of `log_model`. At 18 (hexadecimal) stands

@@ -5,7 +5,7 @@ use super::*;
 use host_base::Bytes;
 use std::test::Fail;
 
-// The first entry of lap 1 in a log of 513 pages, and the one behind it: a commit, and an update of
+// The first entry of lap 1 in a log of 513 pages, and the one after it: a commit, and an update of
 // three bytes of a file record in sector 42.
 static ENTRIES: [u8; 0xc0] = [
     8, 8, 8, 0, 0, 0, 0, 0, 0, 0, 0, 0, 0, 0, 0, 0, 0, 0, 0, 0, 0, 0, 0, 0, 0x28, 0, 0, 0, 0, 0, 0,
@@ -17,7 +17,7 @@ static ENTRIES: [u8; 0xc0] = [
     5, 6, 0, 0, 0, 0, 0,
 ];
 
-// The update behind that commit.
+// The update after that commit.
 fn update(redo: Bytes, undo: Bytes) -> Entry
     requires some { 1 ≤ length redo }
     requires few { length redo ≤ most_bytes }

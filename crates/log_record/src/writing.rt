@@ -76,7 +76,7 @@ fn push_filled(out: &mut Vec<u8>, bytes: &[u8]) -> Result<(), AllocError>
     push_zeros(out, up8(bytes.len()) - bytes.len())
 }
 
-// Appends what stands behind the first 30 bytes.
+// Appends what stands after the first 30 bytes.
 fn push_act(out: &mut Vec<u8>, act: &Act) -> Result<(), AllocError>
     requires { FitsAct act.now }
     ensures { OnOk result (out.new.items ≡ out.old.items ++ (act_spelling act.now ++ bytes_spelling act.now)) }

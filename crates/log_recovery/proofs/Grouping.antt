@@ -63,7 +63,7 @@ near : (b d : Block) → overlap b d ≡ true → reaches d (b.first / 8) ≡ tr
 near b d e =
     let shared = parts (nat_lt b.first (d.first + sectors d.kind)) (nat_lt d.first (b.first + sectors b.kind)) e in
     let before : b.first < d.first + sectors d.kind = lt_of _ _ shared.0 in
-    let behind : d.first < b.first + sectors b.kind = lt_of _ _ shared.1 in
+    let after : d.first < b.first + sectors b.kind = lt_of _ _ shared.1 in
     let small : sectors b.kind ≤ 8 = (sizes b.kind).1 in
     let some : 0 < sectors d.kind = (sizes d.kind).0 in
     both _ _ (le_is (first_cluster d) (b.first / 8) (omega arith)) (le_is (b.first / 8) (last_cluster d) (omega arith))

@@ -188,11 +188,11 @@ partial_some c log Commit b0 e = absurd cc
 find_here : (p : Entry → Bool) (e : Entry) (rest : List Entry) → p e ≡ true → find p (e ∷ rest) ≡ Some e
 find_here p e rest is = ap (λ (t : Bool). if t then Some e else find p rest) is
 
-find_behind : (p : Entry → Bool) (e : Entry) (rest : List Entry) → p e ≡ false → find p (e ∷ rest) ≡ find p rest
-find_behind p e rest is = ap (λ (t : Bool). if t then Some e else find p rest) is
+find_after : (p : Entry → Bool) (e : Entry) (rest : List Entry) → p e ≡ false → find p (e ∷ rest) ≡ find p rest
+find_after p e rest is = ap (λ (t : Bool). if t then Some e else find p rest) is
 
 rest_more : (p : Entry → Bool) (log : List Entry) (k : ℕ) (e : Entry) → k < length log → e ≡ get_or log k e → p e ≡ false → find p (drop k log) ≡ find p log → find p (drop (k + 1) log) ≡ find p log
-rest_more p log k e lt is fails so_far = sym (find_behind p e (drop (k + 1) log) fails) ∙ sym (ap (find p) (rest_is log k e lt is)) ∙ so_far
+rest_more p log k e lt is fails so_far = sym (find_after p e (drop (k + 1) log) fails) ∙ sym (ap (find p) (rest_is log k e lt is)) ∙ so_far
 
 -- ---- the steps
 

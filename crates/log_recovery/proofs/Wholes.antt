@@ -118,15 +118,15 @@ pub front_failed : (known : Option Content) (place : LogPlace) (e : RecoveryFaul
 unfolding recovery_in
 front_failed known place e h = first_failed known e (fronts place) (with_entries place) h
 
--- behind a front that was read
-behind_front : (known : Option Content) (place : LogPlace) (front : Front) (result : Result Recovered RecoveryFault) → IfSome known (λ c. front_in (page_in c place 0) (page_in c place 1) ≡ Ok front)
+-- after a front that was read
+after_front : (known : Option Content) (place : LogPlace) (front : Front) (result : Result Recovered RecoveryFault) → IfSome known (λ c. front_in (page_in c place 0) (page_in c place 1) ≡ Ok front)
     → IfSome known (λ c. RecoversLog c (with_entries place c front) result) → IfSome known (λ c. RecoversLog c (recovery_in c place) result)
 unfolding recovery_in
-behind_front known place front result is h = then_on known front (fronts place) (with_entries place) (λ c meant. RecoversLog c meant result) is h
+after_front known place front result is h = then_on known front (fronts place) (with_entries place) (λ c meant. RecoversLog c meant result) is h
 
 pub entries_failed : (known : Option Content) (place : LogPlace) (front : Front) (e : RecoveryFault) → IfSome known (λ c. front_in (page_in c place 0) (page_in c place 1) ≡ Ok front)
     → IfSome known (λ c. ExplainsOrFails (recovery_cause e) (entries_in c place front.chosen)) → IfSome known (λ c. RecoversLog c (recovery_in c place) (Err e))
-entries_failed known place front e is h = behind_front known place front (Err e) is (first_failed known e (λ c. entries_in c place front.chosen) (with_blocks place front) h)
+entries_failed known place front e is h = after_front known place front (Err e) is (first_failed known e (λ c. entries_in c place front.chosen) (with_blocks place front) h)
 
 -- what was read: the front and the entries, none of which is misplaced
 pub record WasRead (known : Option Content) (place : LogPlace) (front : Front) (entries : List Entry) : Type 0 where
@@ -134,36 +134,36 @@ pub record WasRead (known : Option Content) (place : LogPlace) (front : Front) (
   pub entries_are : IfSome known (λ c. entries_in c place front.chosen ≡ Ok entries)
   pub placed : first_misplaced entries place.clusters ≡ None
 
-behind_entries : (known : Option Content) (place : LogPlace) (front : Front) (entries : List Entry) (result : Result Recovered RecoveryFault) → WasRead known place front entries
+after_entries : (known : Option Content) (place : LogPlace) (front : Front) (entries : List Entry) (result : Result Recovered RecoveryFault) → WasRead known place front entries
     → IfSome known (λ c. RecoversLog c (with_blocks place front c entries) result) → IfSome known (λ c. RecoversLog c (recovery_in c place) result)
-behind_entries known place front entries result read h =
-    behind_front known place front result read.front_is
+after_entries known place front entries result read h =
+    after_front known place front result read.front_is
     (then_on known entries (λ c. entries_in c place front.chosen) (with_blocks place front) (λ c meant. RecoversLog c meant result) read.entries_are h)
 
 pub blocks_failed : (known : Option Content) (place : LogPlace) (front : Front) (entries : List Entry) (e : RecoveryFault) → WasRead known place front entries
     → IfSome known (λ c. Recovers c entries place.clusters (Err e)) → IfSome known (λ c. RecoversLog c (recovery_in c place) (Err e))
 blocks_failed known place front entries e read h =
-    behind_entries known place front entries (Err e) read
+    after_entries known place front entries (Err e) read
     (first_failed known e (λ c. whole_entries c entries) (with_lap place front) (in_part known entries place.clusters e read.placed h))
 
-behind_blocks : (known : Option Content) (place : LogPlace) (front : Front) (entries : List Entry) (blocks : RecoveredBlocks) (result : Result Recovered RecoveryFault) → WasRead known place front entries
+after_blocks : (known : Option Content) (place : LogPlace) (front : Front) (entries : List Entry) (blocks : RecoveredBlocks) (result : Result Recovered RecoveryFault) → WasRead known place front entries
     → IfSome known (λ c. Recovers c entries place.clusters (Ok blocks)) → IfSome known (λ c. RecoversLog c (with_lap place front c entries) result)
     → IfSome known (λ c. RecoversLog c (recovery_in c place) result)
-behind_blocks known place front entries blocks result read found h =
-    behind_entries known place front entries result read
+after_blocks known place front entries blocks result read found h =
+    after_entries known place front entries result read
     (then_on known entries (λ c. whole_entries c entries) (with_lap place front) (λ c meant. RecoversLog c meant result) (all_whole known entries place.clusters blocks read.placed found) h)
 
 pub lap_failed : (known : Option Content) (place : LogPlace) (front : Front) (entries : List Entry) (blocks : RecoveredBlocks) (e : RecoveryFault) → WasRead known place front entries
     → IfSome known (λ c. Recovers c entries place.clusters (Ok blocks)) → IfSome known (λ c. ExplainsOrFails (recovery_cause e) (lap_in c place front.chosen))
     → IfSome known (λ c. RecoversLog c (recovery_in c place) (Err e))
 lap_failed known place front entries blocks e read found h =
-    behind_blocks known place front entries blocks (Err e) read found (first_failed known e (λ c. lap_in c place front.chosen) (λ _ lap. Ok (state_of front entries lap)) h)
+    after_blocks known place front entries blocks (Err e) read found (first_failed known e (λ c. lap_in c place front.chosen) (λ _ lap. Ok (state_of front entries lap)) h)
 
 pub recovered_whole : (known : Option Content) (place : LogPlace) (front : Front) (entries : List Entry) (blocks : RecoveredBlocks) (lap : ℕ) → WasRead known place front entries
     → IfSome known (λ c. Recovers c entries place.clusters (Ok blocks)) → IfSome known (λ c. lap_in c place front.chosen ≡ Ok lap)
     → IfSome known (λ c. RecoversLog c (recovery_in c place) (Ok (record { blocks = blocks; next_lap = lap; restart = front.restart; opens = front.opens })))
 recovered_whole known place front entries blocks lap read found lap_is =
-    behind_blocks known place front entries blocks result read found
+    after_blocks known place front entries blocks result read found
     (then_on known lap (λ c. lap_in c place front.chosen) (λ _ n. Ok (state_of front entries n)) (λ c meant. RecoversLog c meant result) lap_is
     (one known _ _ (λ c p. record { blocks = p.1; next_lap = refl; restart = refl; opens = refl }) found))
   where

@@ -25,7 +25,7 @@ abbrev pub all_or_refused : Option ℕ → List Entry → Result (List Entry) Re
 all_or_refused (Some lsn) entries = Err (ForeignLog lsn)
 all_or_refused None entries = Ok entries
 
--- the entries that were read, on a volume of so many clusters; the first that is misplaced is refused, and else the one of another shape behind them
+-- the entries that were read, on a volume of so many clusters; the first that is misplaced is refused, and else the one of another shape after them
 abbrev pub own_entries : Reading → ℕ → Result (List Entry) RecoveryFault
 own_entries reading clusters = all_or_refused (option_or (first_misplaced reading.entries clusters) reading.foreign) reading.entries
 

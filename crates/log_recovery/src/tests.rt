@@ -109,7 +109,7 @@ fn an_ended_update_stays(rt: HostRuntime) -> Result<(), Fail> {
 }
 
 #[test]
-fn an_ended_update_behind_a_loser_counts(rt: HostRuntime) -> Result<(), Fail> {
+fn an_ended_update_after_a_loser_counts(rt: HostRuntime) -> Result<(), Fail> {
     let mut view = disk(rt.alloc(), 9)?;
     let entries = [
         update(rt.alloc(), 100, 1, (16, 0), 1, 9, 0)?,
@@ -152,7 +152,7 @@ fn foreign_entries_are_named(rt: HostRuntime) -> Result<(), Fail> {
 }
 
 #[test]
-fn a_rival_behind_shadows_a_block(rt: HostRuntime) -> Result<(), Fail> {
+fn a_rival_after_shadows_a_block(rt: HostRuntime) -> Result<(), Fail> {
     let mut view = disk(rt.alloc(), 0x22)?;
     let entries = [
         update(rt.alloc(), 100, 1, (16, 0), 512, 0x33, 0x22)?,

@@ -34,8 +34,8 @@ fn are_rivals(a: Block, b: Block) -> bool
     ensures { result ≡ are_rivals a b }
 {
     let before = a.first < b.first || a.first - b.first < b.kind.sectors() as u64;
-    let behind = b.first < a.first || b.first - a.first < a.kind.sectors() as u64;
-    a.kind != b.kind && before && behind
+    let after = b.first < a.first || b.first - a.first < a.kind.sectors() as u64;
+    a.kind != b.kind && before && after
 }
 
 /// Whether it is an update of this block.

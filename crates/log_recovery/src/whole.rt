@@ -64,7 +64,7 @@ fn read_front<V: View>(
 }
 
 // Refuses the first entry that is misplaced on a volume of so many clusters, and else the one of
-// another shape behind them.
+// another shape after them.
 fn own_entries(live: LiveLog, clusters: u64) -> Result<Vec<Entry>, RecoveryFault>
     ensures answer { Gives (λ entries. entries.items) recovery_cause result (own_entries (reading_of live) clusters) }
     ensures level { All FitsEntry live.entries.items → IfOk result (λ entries. All IsLevel entries.items) }
@@ -132,7 +132,7 @@ fn is_lap(pages: u64, lap: u64) -> bool
     bits == 64 || lap < 1 << bits
 }
 
-// Whether 2^16 laps are left from the one behind this on.
+// Whether 2^16 laps are left from the one after this on.
 fn has_lap(pages: u64, last: u64) -> bool
     requires pages { pages < 2 ^ 52 }
     ensures value { result ≡ has_lap pages (1 + last) }

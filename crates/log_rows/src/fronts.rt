@@ -57,9 +57,9 @@ fn the_newer_restart_page_is_taken(rt: HostRuntime) -> Result<(), Fail> {
         ((FIRST, 3), (FIRST, 3), 2, (1, 4)),
     ] {
         let front = restart_at(one.0, FIRST, one.1);
-        let behind = restart_at(other.0, second, other.1);
+        let after = restart_at(other.0, second, other.1);
         put_page(&rt, &mut device, 0, &restart_page(alloc, &front, &[])?);
-        put_page(&rt, &mut device, 1, &restart_page(alloc, &behind, &[])?);
+        put_page(&rt, &mut device, 1, &restart_page(alloc, &after, &[])?);
         let found = recovered(alloc, &mut device)?;
         assert_eq!(rt; found.blocks.bodies.len(), bodies);
         assert_eq!(rt; (found.restart, found.opens), next);

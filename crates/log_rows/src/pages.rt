@@ -25,7 +25,7 @@ fn protect_page(page: &mut [u8])
     }
 }
 
-// Puts words at these offsets; one that would end behind the page is left out.
+// Puts words at these offsets; one that would end after the page is left out.
 fn put_words(page: &mut [u8], words: &[(usize, u16)])
     ensures { length page.new ≡ length page.old }
 {

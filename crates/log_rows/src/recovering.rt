@@ -27,9 +27,9 @@ fn a_loser_is_undone_and_an_ended_one_stays(rt: HostRuntime) -> Result<(), Fail>
     Ok(())
 }
 
-// A given-up transaction put 9 over 0, and an ended one behind it 5 over 0.
+// A given-up transaction put 9 over 0, and an ended one after it 5 over 0.
 #[test]
-fn an_ended_update_behind_a_loser_counts(rt: HostRuntime) -> Result<(), Fail> {
+fn an_ended_update_after_a_loser_counts(rt: HostRuntime) -> Result<(), Fail> {
     let alloc = rt.alloc();
     let mut page = EntryPage::new(alloc, FIRST);
     page.append(1, filled(alloc, FREE, 9, 0)?)?;
@@ -108,8 +108,8 @@ fn rivals_shadow_each_other(rt: HostRuntime) -> Result<(), Fail> {
     Ok(())
 }
 
-// The first rival is named, though one behind it shadows: a sector is updated before and behind the
-// last ended update of the file record, whose own ended update stands behind that of the sector.
+// The first rival is named, though one after it shadows: a sector is updated before and after the
+// last ended update of the file record, whose own ended update stands after that of the sector.
 #[test]
 fn a_shadow_names_the_first_rival(rt: HostRuntime) -> Result<(), Fail> {
     let alloc = rt.alloc();

@@ -78,7 +78,7 @@ fn a_scan_shows_what_is_recovered(rt: HostRuntime) -> Result<(), Fail> {
     Ok(())
 }
 
-// An entry of a sector behind the volume; and one of the volume's last sector.
+// An entry of a sector after the volume; and one of the volume's last sector.
 #[test]
 fn an_entry_past_the_volume_is_foreign(rt: HostRuntime) -> Result<(), Fail> {
     let alloc = rt.alloc();
@@ -173,7 +173,7 @@ fn other() -> Restart
 }
 
 // Each call of a scan fails in its turn: the first one of the first scan, the second one of the second
-// scan, and so on. So the first calls that fail are 1, 3, 6 and 10 calls behind the making.
+// scan, and so on. So the first calls that fail are 1, 3, 6 and 10 calls after the making.
 #[test]
 fn a_device_that_fails_ends_a_scan(rt: HostRuntime) -> Result<(), Fail> {
     let alloc = rt.alloc();

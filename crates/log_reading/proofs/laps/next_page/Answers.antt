@@ -23,8 +23,8 @@ loop-run-preserved c =
     let run = get_or c.as_slice-run-items.result.now c.loop-run.run-index none in
     let size = ap length c.as_slice-run-items.ensures in
     let lt : c.loop-run.run-index < length runs = omega (arith, size, c.loop-run-test.true) in
-    run_passed c.args.place.now c.args.page c.loop-run.run-index none run c.loop-run.sought c.behind-sought.result lt (ap (λ (rs : List Extent). get_or rs c.loop-run.run-index none) c.as_slice-run-items.ensures)
-    (sym c.sector_on.ensures.value ∙ c.in_default.is) c.behind-sought.ensures c.loop-run.invariant
+    run_passed c.args.place.now c.args.page c.loop-run.run-index none run c.loop-run.sought c.after-sought.result lt (ap (λ (rs : List Extent). get_or rs c.loop-run.run-index none) c.as_slice-run-items.ensures)
+    (sym c.sector_on.ensures.value ∙ c.in_default.is) c.after-sought.ensures c.loop-run.invariant
 
 pub returns : goal.returns
 returns c =

@@ -32,13 +32,13 @@ returns-in-Err-Foreign-clause-value g c =
 pub loop-passed-preserved : goal.loop-passed-preserved
 loop-passed-preserved g c =
     let p = c.loop-passed in
-    let next = c.behind-at.ensures in
+    let next = c.after-at.ensures in
     let kept = p.invariant.kept in
     let step = c.append_page.ensures.kept in
     record {
       read = goes_on c.args.place.now c.args.oldest p._passed p.at.lap p.at.page p.at.from p.entries.items c.append_page.new.entries.items c.loop-passed-test.true _ _ kept.same
           c.in_ok-append_page.field-0 c.in_ok-append_page.ensures.value p.invariant.read
-          c.behind-at.result.lap c.behind-at.result.page c.behind-at.result.from (ap (λ q. q.lap) next.value) (ap (λ q. q.page) next.value) (ap (λ q. q.from) next.value) c.in-Ok.is;
+          c.after-at.result.lap c.after-at.result.page c.after-at.result.from (ap (λ q. q.lap) next.value) (ap (λ q. q.page) next.value) (ap (λ q. q.from) next.value) c.in-Ok.is;
       fits = c.append_page.ensures.fits p.invariant.fits;
       kept = record { same = step.same ∙ kept.same; stays = step.stays ∙ kept.stays; later = omega (arith, kept.later, step.later) };
       begun = next.begun;
