@@ -1,5 +1,5 @@
 -- The causes of errors.
-use Rattle.std.specs.Prelude.{ℕ}
+use Rattle.std.specs.Prelude.{ℕ, ⊤}
 use Rattle.host_base.specs.Answers.{Cause, refused, no_memory, failed, never}
 use Rattle.block_view.specs.declared.fault.ViewFault.{ViewFault}
 use Rattle.block_view.specs.declared.fault.ViewFault.TheVariants as views
@@ -23,6 +23,14 @@ page_cause (faults.Ahead next) = never
 page_cause (faults.Broken at) = refused at
 page_cause faults.View = failed
 page_cause faults.Memory = no_memory
+
+-- an error other than those of a position outside the journal
+abbrev pub IsInside : PullFault → Type 0
+IsInside (faults.Trimmed first) = ⊥
+IsInside (faults.Ahead next) = ⊥
+IsInside (faults.Broken at) = ⊤
+IsInside faults.View = ⊤
+IsInside faults.Memory = ⊤
 
 -- what a view's fault becomes
 abbrev pub of_view : ViewFault → PullFault

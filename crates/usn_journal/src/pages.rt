@@ -1,5 +1,5 @@
 //! The pages of the journal from a position on.
-ghost use Rattle.std.specs.Prelude.{◌≡◌, ◌+◌, ◌-◌, ◌*◌, ◌/◌, ◌^◌, ◌<◌, ◌≤◌, ◌++◌, Vec, min, length, take, All, IfOk, OnOk, IfSome, IsOk, Ok, IsErrOf};
+ghost use Rattle.std.specs.Prelude.{◌≡◌, ◌+◌, ◌-◌, ◌*◌, ◌/◌, ◌^◌, ◌<◌, ◌≤◌, ◌++◌, Vec, min, length, take, All, IfOk, IfErr, OnOk, IfSome, IsOk, Ok, IsErrOf};
 ghost use Rattle.host_base.specs.Answers.{GivesOrFails};
 ghost use Rattle.host_base.specs.Causes.{Rose};
 ghost use Rattle.tree_model.specs.declared.journal.Usn.{Usn as UsnOf};
@@ -8,7 +8,7 @@ ghost use Rattle.state_model.specs.Streams.{byte_at};
 ghost use Rattle.stream_map.specs.Runs.{AreSmall};
 ghost use Rattle.volume_map.specs.Views.{KeepsView};
 ghost use Rattle.volume_state.specs.Journals.{journal_first, journal_entries};
-ghost use Rattle.usn_journal.specs.Errors.{pull_cause, page_cause};
+ghost use Rattle.usn_journal.specs.Errors.{pull_cause, page_cause, IsInside};
 ghost use Rattle.usn_journal.specs.Pulls.{usn_end, from_on, read_entries};
 
 use crate::fault::PullFault;
@@ -47,6 +47,7 @@ fn read_bytes<V: View>(
     ensures ends { IfOk result (λ entries. All (λ (entry : UsnOf). usn_end entry ≤ PAGE * number + PAGE) entries) }
     ensures kept { KeepsView V.content V.kept V.faults view.old view.new }
     ensures fault { IsErrOf result PullFault.View → Rose (V.faults view.old) (V.faults view.new) }
+    ensures inside { IfErr result IsInside }
 {
     let begin = PAGE * number;
     fill(view, per, extents, begin, body, page)?;
@@ -76,6 +77,7 @@ fn read_number<V: View>(
     ensures ends { IfOk result (λ entries. All (λ (entry : UsnOf). usn_end entry ≤ PAGE * number + PAGE) entries) }
     ensures kept { KeepsView V.content V.kept V.faults view.old view.new }
     ensures fault { IsErrOf result PullFault.View → Rose (V.faults view.old) (V.faults view.new) }
+    ensures inside { IfErr result IsInside }
 {
     let count = (extents.real - PAGE * number).min(PAGE) as usize;
     read_bytes(
@@ -136,6 +138,7 @@ pub fn read_pages<V: View>(
     ensures ends { IfOk result (λ found. All (λ (entry : UsnOf). usn_end entry < 2 ^ 64) found.items) }
     ensures kept { KeepsView V.content V.kept V.faults view.old view.new }
     ensures fault { IsErrOf result PullFault.View → Rose (V.faults view.old) (V.faults view.new) }
+    ensures inside { IfErr result IsInside }
 {
     let end = (extents.real + (PAGE - 1)) / PAGE;
     let mut found = Vec::new(alloc);

@@ -1,4 +1,4 @@
-ghost use Rattle.std.specs.Prelude.{◌≡◌, ◌+◌, ◌*◌, ◌^◌, ◌<◌, ◌≤◌, not, find, length, All, IfOk, IfSome, IsOk, Err, IsErrOf};
+ghost use Rattle.std.specs.Prelude.{◌≡◌, ◌+◌, ◌*◌, ◌^◌, ◌<◌, ◌≤◌, not, find, length, All, IfOk, IfErr, IfSome, IsOk, Err, IsErrOf};
 ghost use Rattle.host_base.specs.Answers.{GivesOrFails};
 ghost use Rattle.host_base.specs.Causes.{Rose};
 ghost use Rattle.tree_model.specs.declared.journal.Usn.{Usn as UsnOf};
@@ -7,7 +7,7 @@ ghost use Rattle.volume_map.specs.Views.{KeepsView};
 ghost use Rattle.std.specs.Option.{option_copied};
 ghost use Rattle.volume_model.specs.Sizes.{is_hole};
 ghost use Rattle.volume_state.specs.Journals.{run_place, journal_first, journal_entries};
-ghost use Rattle.usn_journal.specs.Errors.{pull_cause};
+ghost use Rattle.usn_journal.specs.Errors.{pull_cause, IsInside};
 ghost use Rattle.usn_journal.specs.Pulls.{usn_end, end_of, pulled_of};
 
 use crate::fault::PullFault;
@@ -101,8 +101,8 @@ fn end_of(next: u64, entries: &[Usn]) -> u64
 /// `$J` in these clusters, and begins at its first cluster that isn't sparse, within its real size;
 /// its records are whole. A volume has `per` sectors a cluster; `body` is room for a body.
 ///
-/// - `Trimmed`: `from` lies before the journal, which begins there.
-/// - `Ahead`: `from` lies behind the journal's next place, which is there.
+/// - `Trimmed`: exactly where `from` lies before the journal, which begins there.
+/// - `Ahead`: exactly where `from` lies behind the journal's next place, which is there.
 /// - `Broken`: never, where the journal's records are whole.
 /// - `View`: the view failed.
 /// - `Memory`: want of memory. It comes too where the real size of `$J` is within 8,192 bytes of 2^64,
@@ -129,6 +129,7 @@ pub fn read_from<V: View>(
     ensures trimmed { from < journal_first per extents.now
         → result ≡ Err (PullFault.Trimmed (journal_first per extents.now)) }
     ensures ahead { extents.now.real < from → result ≡ Err (PullFault.Ahead extents.now.real) }
+    ensures inside { journal_first per extents.now ≤ from → from ≤ extents.now.real → IfErr result IsInside }
     ensures kept { KeepsView V.content V.kept V.faults view.old view.new }
     ensures fault { IsErrOf result PullFault.View → Rose (V.faults view.old) (V.faults view.new) }
 {

@@ -10,9 +10,9 @@ use state_model::Extents;
 use std::alloc::{AllocError, Global};
 use std::test::Fail;
 
-// File 26/1 in 25/1 (hexadecimal) with the name `f` was created and closed; its record stands at 0.
+// File 26/1 in 25/1 with the name `f` was created and closed; its record stands at 0.
 static RECORD: [u8; 0x40] = [
-    0x40, 0, 0, 0, 2, 0, 0, 0, 0x26, 0, 0, 0, 0, 0, 1, 0, 0x25, 0, 0, 0, 0, 0, 1, 0, 0, 0, 0, 0, 0,
+    0x40, 0, 0, 0, 2, 0, 0, 0, 0x1A, 0, 0, 0, 0, 0, 1, 0, 0x19, 0, 0, 0, 0, 0, 1, 0, 0, 0, 0, 0, 0,
     0, 0, 0, 0xea, 3, 0, 0, 0, 0, 0, 0, 0, 1, 0, 0x80, 0, 0, 0, 0, 0, 0, 0, 0, 0x20, 0, 0, 0, 2, 0,
     0x3c, 0, 0x66, 0, 0, 0,
 ];

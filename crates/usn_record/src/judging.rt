@@ -1,4 +1,4 @@
-ghost use Rattle.std.specs.Prelude.{◌≡◌, ◌==◌, ◌&&◌, not, ◌+◌, ◌<◌, ◌≤◌, ◌^◌, length, is_ok, IfOk};
+ghost use Rattle.std.specs.Prelude.{◌≡◌, ◌≢◌, ◌==◌, ◌&&◌, not, ◌+◌, ◌<◌, ◌≤◌, ◌^◌, length, is_ok, IfOk, IfErr};
 ghost use Rattle.host_base.specs.Answers.{Gives};
 ghost use Rattle.utf16_name.specs.Names.{is_bad_unit, name_of};
 ghost use Rattle.disk_model.specs.Numbers.{field};
@@ -101,6 +101,7 @@ fn is_misshapen(own: &[u8], at: u64) -> bool
 /// It takes no memory, and time linear in the record.
 pub fn checked_length(bytes: &[u8], at: u64) -> Result<u32, UsnFault>
     ensures value { Gives (λ n. n) usn_cause result (length_in bytes.now at) }
+    ensures memory { IfErr result (λ fault. fault ≢ UsnFault.Memory) }
     ensures inside { IfOk result (λ n. (8 ≤ n) × (n ≤ length bytes.now)) }
 {
     if !is_whole(bytes) {

@@ -1,4 +1,4 @@
-ghost use Rattle.std.specs.Prelude.{◌≡◌, ◌+◌, ◌<◌, ◌^◌, ◌++◌, length, OnOk};
+ghost use Rattle.std.specs.Prelude.{◌≡◌, ◌≢◌, ◌+◌, ◌<◌, ◌^◌, ◌++◌, length, OnOk, IfErr};
 ghost use Rattle.host_base.specs.Answers.{Gives};
 ghost use Rattle.journal_model.specs.UsnRecords.{usn_cause};
 ghost use Rattle.journal_model.specs.Pages.{page_records};
@@ -49,6 +49,7 @@ pub fn read_page(alloc: Global, page: &[u8], at: u64) -> Result<UsnList, UsnFaul
 pub fn check_page(page: &[u8], at: u64) -> Result<(), UsnFault>
     requires room { at + length page.now < 2 ^ 64 }
     ensures value { Gives (λ done. done) usn_cause result (page_check page.now at) }
+    ensures memory { IfErr result (λ fault. fault ≢ UsnFault.Memory) }
 {
     let mut rest = from_offset(page, at);
     let mut place = at;

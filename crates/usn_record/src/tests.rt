@@ -6,9 +6,9 @@ use std::alloc::{AllocError, Global};
 use std::test::Fail;
 use utf16_name::{Name, NameFault};
 
-// File 26/1 in 25/1 (hexadecimal) with the name `f` was created and closed.
+// File 26/1 in 25/1 with the name `f` was created and closed.
 static RECORD: [u8; 0x40] = [
-    0x40, 0, 0, 0, 2, 0, 0, 0, 0x26, 0, 0, 0, 0, 0, 1, 0, 0x25, 0, 0, 0, 0, 0, 1, 0, 0x40, 0, 0, 0,
+    0x40, 0, 0, 0, 2, 0, 0, 0, 0x1A, 0, 0, 0, 0, 0, 1, 0, 0x19, 0, 0, 0, 0, 0, 1, 0, 0x40, 0, 0, 0,
     0, 0, 0, 0, 0xea, 3, 0, 0, 0, 0, 0, 0, 0, 1, 0, 0x80, 0, 0, 0, 0, 0, 0, 0, 0, 0x20, 0, 0, 0, 2,
     0, 0x3c, 0, 0x66, 0, 0, 0,
 ];
@@ -22,14 +22,8 @@ fn worked(alloc: Global) -> Result<Usn, NameFault>
 {
     Ok(Usn {
         usn: 64,
-        child: FileRef {
-            number: 0x26,
-            seq: 1,
-        },
-        parent: FileRef {
-            number: 0x25,
-            seq: 1,
-        },
+        child: FileRef { number: 26, seq: 1 },
+        parent: FileRef { number: 25, seq: 1 },
         reason: 0x8000_0100,
         flags: 0x20,
         time: 1002,

@@ -15,7 +15,7 @@ loop-rest-init c = record {
 pub returns-in_err-length : goal.returns-in_err-length
 returns-in_err-length c =
     let p = err_from_is_err_and c.from_residual.result c.from_residual.ensures.1 in
-    rw (p.1, p.2) (record { value = checked_wrong c.loop-rest.rest.now c.loop-rest.place _ _ (sym c.all_zeros.ensures ∙ c.loop-rest-test.true) c.in_err-length.ensures.value c.loop-rest.invariant.checked })
+    rw (p.1, p.2) (record { value = checked_wrong c.loop-rest.rest.now c.loop-rest.place _ _ (sym c.all_zeros.ensures ∙ c.loop-rest-test.true) c.in_err-length.ensures.value c.loop-rest.invariant.checked; memory = c.in_err-length.ensures.memory })
 
 pub loop-rest-preserved : goal.loop-rest-preserved
 loop-rest-preserved c = record {
@@ -26,4 +26,4 @@ loop-rest-preserved c = record {
 }
 
 pub returns : goal.returns
-returns c = record { value = check_ended c.loop-rest.rest.now c.loop-rest.place _ (sym c.all_zeros.ensures ∙ c.loop-rest-test.false) c.loop-rest.invariant.checked }
+returns c = record { value = check_ended c.loop-rest.rest.now c.loop-rest.place _ (sym c.all_zeros.ensures ∙ c.loop-rest-test.false) c.loop-rest.invariant.checked; memory = tt }
