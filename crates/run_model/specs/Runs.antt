@@ -1,5 +1,6 @@
 -- Serial runs: turns that lead from one tree to another, one step each.
-use Rattle.std.specs.Prelude.{◌≡◌, ℕ, ◌+◌, ◌<◌, ◌≤◌, Bool, true, false, ◌&&◌, ◌==◌, List, [], ◌∷◌, ◌++◌, length, filter, slice_get, Option, Some, None, All}
+use Rattle.std.specs.Prelude.{◌≡◌, ℕ, ◌+◌, ◌≤◌, Bool, true, false, ◌&&◌, ◌==◌, List, [], ◌∷◌, ◌++◌, length, filter, slice_get, Option, Some, None, All}
+use Rattle.host_base.specs.Causes.{HasFailed}
 use Rattle.tree_model.specs.declared.tree.Tree.{Tree}
 use Rattle.tree_model.specs.declared.journal.Journal.{Journal}
 use Rattle.tree_model.specs.declared.script.What.{What}
@@ -51,7 +52,8 @@ next_of (Some j) = j.next
 -- ---- one turn
 
 -- A turn after those of the past, from one tree to the next: it is its client's next command that takes a turn, and a step
--- at the time of its serial. Moments and counts of faults don't fall, and a fault comes only where the count rose.
+-- at the time of its serial. Moments and counts of faults don't fall, and a fault comes only where the count rose, or from the
+-- device's last moment on.
 pub record IsTurn (f : Fixed) (past : List Turn) (t : Turn) (x y : Tree) : Type 0 where
   pub serial : t.serial ≡ length past + 1
   pub command : slice_get (turn_commands f.script t.client) (length (own past t.client)) ≡ Some (record { client = t.client; number = t.number; what = Op t.op })
@@ -59,7 +61,7 @@ pub record IsTurn (f : Fixed) (past : List Turn) (t : Turn) (x y : Tree) : Type 
   pub moment : last_moment 0 past ≤ t.moment
   pub since : last_faults f.faults (own past t.client) ≤ t.faults_before
   pub later : t.faults_before ≤ t.faults_after
-  pub fault : t.reply ≡ Fault → t.faults_before < t.faults_after
+  pub fault : t.reply ≡ Fault → HasFailed t.faults_before t.faults_after t.moment
   pub step : IsStep f.upper t.op (f.base + t.serial) t.reply x y
 
 -- ---- runs
