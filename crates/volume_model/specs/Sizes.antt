@@ -131,6 +131,20 @@ keeps_bitmaps v n =
     implies (n == table_file) (nat_le (count_of v) (8 * size_or (record_bitmap v)))
     && implies (n == bitmap_file) (nat_le v.clusters (8 * size_or (cluster_bitmap v)))
 
+-- ---- where the file table begins
+
+abbrev pub is_at : ℕ → Option Block → Bool
+is_at first None = false
+is_at first (Some b) = b.first == first
+
+-- the block of a record by the runs of the file table
+abbrev pub placed_record : Volume → ℕ → Option Block
+placed_record v n = block_at v.per v.table.runs FileRec n
+
+-- the records 0 to 3 are, by the runs of the file table, where the boot sector says
+unfoldable pub keeps_place : Volume → Bool
+keeps_place v = list_all (λ n. is_at (v.mft * v.per + 2 * n) (placed_record v n)) (range_with_len 0 4)
+
 -- what a file's streams keep
 unfoldable pub keeps_streams : Content → Volume → ℕ → Record → Bool
 keeps_streams c v n r = list_all (keeps_stream v.per v.clusters r.attrs) r.attrs && keeps_whole n r && keeps_table n r && keeps_untorn c v.per n r

@@ -17,17 +17,19 @@ use Rattle.bit_set.specs.Words.{bits_of_bytes}
 use Rattle.upcase_order.specs.declared.upcase.UpcaseFault.{UpcaseFault}
 use Rattle.upcase_order.specs.Tables.{upcase_of, standard_table}
 
--- A volume: the sectors of a cluster, how many clusters there are, the clusters and sizes of the file table, and its files
--- by number: the base records in use, each with all its attributes.
+-- A volume: the sectors of a cluster, how many clusters there are, the cluster at which the boot sector says that the file
+-- table begins, the clusters and sizes of the file table by its own record, and its files by number: the base records in use,
+-- each with all its attributes.
 pub record Volume : Type 0 where
   pub per : ℕ
   pub clusters : ℕ
+  pub mft : ℕ
   pub table : Extents
   pub files : List (Option Record)
 
 -- the volume of a content, or the first refusal that applies
 unfoldable pub volume_of : Content → Geometry → ℕ → Result Volume MapRefusal
-volume_of c g clusters = table_of c g >>= λ e. files_in c g.per_cluster e >>= λ files. Ok (record { per = g.per_cluster; clusters = clusters; table = e; files = files })
+volume_of c g clusters = table_of c g >>= λ e. files_in c g.per_cluster e >>= λ files. Ok (record { per = g.per_cluster; clusters = clusters; mft = g.mft; table = e; files = files })
 
 -- ---- files
 

@@ -1,11 +1,11 @@
 -- The nine rules of a volume, in their order.
-use Rattle.std.specs.Prelude.{ℕ, ◌+◌, max, Option, None}
+use Rattle.std.specs.Prelude.{ℕ, ◌+◌, max, if◌then◌else◌, Option, Some, None}
 use Rattle.disk_model.specs.Content.{Content}
 use Rattle.state_model.specs.declared.broken.Broken.{Broken}
 use Rattle.state_model.specs.Rules.{keeps_1, keeps_2, keeps_8, broken_or, first_failing}
-use Rattle.volume_model.specs.Volumes.{Volume, files_by_number, count_of, bitmap_file, cluster_bits, upper_of}
+use Rattle.volume_model.specs.Volumes.{Volume, files_by_number, count_of, table_file, bitmap_file, cluster_bits, upper_of}
 use Rattle.volume_model.specs.Indexes.{keeps_index}
-use Rattle.volume_model.specs.Sizes.{keeps_sizes}
+use Rattle.volume_model.specs.Sizes.{keeps_place, keeps_sizes}
 use Rattle.volume_model.specs.Owners.{volume_runs, keeps_owner, keeps_cluster_bit, keeps_record_bit}
 use Rattle.volume_state.specs.Journals.{journal_of, fault_of}
 
@@ -14,7 +14,7 @@ abbrev pub file_count : Volume → ℕ
 file_count v = max (count_of v) (bitmap_file + 1)
 
 -- The least number at which each rule is broken: 1 the names of a file, 2 the directory of each name, 3 each directory's
--- index, 4 the pieces, places and sizes of streams, 5 clusters that are owned twice (the number is a cluster), 6 clusters
+-- index, 4 the pieces, places and sizes of streams, the place of the file table among them, 5 clusters that are owned twice (the number is a cluster), 6 clusters
 -- that are owned and not marked, 7 records that are in use and not marked, 8 the way up of each directory, 9 the change
 -- journal (the number is an offset in $J).
 unfoldable pub broken_1 : Volume → Option ℕ
@@ -27,7 +27,7 @@ unfoldable pub broken_3 : Content → Volume → Option ℕ
 broken_3 c v = first_failing (keeps_index c v (upper_of c v)) (count_of v)
 
 unfoldable pub broken_4 : Content → Volume → Option ℕ
-broken_4 c v = first_failing (keeps_sizes c v) (file_count v)
+broken_4 c v = if keeps_place v then first_failing (keeps_sizes c v) (file_count v) else Some table_file
 
 unfoldable pub broken_5 : Volume → Option ℕ
 broken_5 v = first_failing (keeps_owner (volume_runs v.files)) v.clusters
