@@ -123,18 +123,18 @@ pub same_table : (c d : Content) (g : Geometry) → d (boot_block g 0) ≡ c (bo
 unfolding table_of
 same_table c d g same = ap (λ (b : Body). judged 0 (piece_by record_at b) >>= extents_in) same
 
-of_files : ℕ → ℕ → Extents → Result (List (Option Record)) MapRefusal → Result Volume MapRefusal
-of_files per clusters e read = read >>= λ files. Ok (record { per = per; clusters = clusters; table = e; files = files })
+of_files : ℕ → ℕ → ℕ → Extents → Result (List (Option Record)) MapRefusal → Result Volume MapRefusal
+of_files per clusters mft e read = read >>= λ files. Ok (record { per = per; clusters = clusters; mft = mft; table = e; files = files })
 
-for_table : (per clusters : ℕ) (f g : Extents → Result (List (Option Record)) MapRefusal) (t : Result Extents MapRefusal) → ((e : Extents) → t ≡ Ok e → f e ≡ g e) → (t >>= λ e. of_files per clusters e (f e)) ≡ (t >>= λ e. of_files per clusters e (g e))
-for_table per clusters f g (Ok e) same = ap (of_files per clusters e) (same e refl)
-for_table per clusters f g (Err refusal) same = refl
+for_table : (per clusters mft : ℕ) (f g : Extents → Result (List (Option Record)) MapRefusal) (t : Result Extents MapRefusal) → ((e : Extents) → t ≡ Ok e → f e ≡ g e) → (t >>= λ e. of_files per clusters mft e (f e)) ≡ (t >>= λ e. of_files per clusters mft e (g e))
+for_table per clusters mft f g (Ok e) same = ap (of_files per clusters mft e) (same e refl)
+for_table per clusters mft f g (Err refusal) same = refl
 
 pub same_volume : (c d : Content) (g : Geometry) (clusters : ℕ) → d (boot_block g 0) ≡ c (boot_block g 0) → ((e : Extents) → table_of c g ≡ Ok e → SameTableIn c d g.per_cluster e) → volume_of d g clusters ≡ volume_of c g clusters
 unfolding volume_of of_files
 same_volume c d g clusters boot same =
-    ap (λ (t : Result Extents MapRefusal). t >>= λ e. of_files g.per_cluster clusters e (files_in d g.per_cluster e)) (same_table c d g boot)
-    ∙ for_table g.per_cluster clusters (files_in d g.per_cluster) (files_in c g.per_cluster) (table_of c g) (λ e is. same_files c d g.per_cluster e (same e is))
+    ap (λ (t : Result Extents MapRefusal). t >>= λ e. of_files g.per_cluster clusters g.mft e (files_in d g.per_cluster e)) (same_table c d g boot)
+    ∙ for_table g.per_cluster clusters g.mft (files_in d g.per_cluster) (files_in c g.per_cluster) (table_of c g) (λ e is. same_files c d g.per_cluster e (same e is))
 
 left_table : (c : Content) (writes : List Write) (per : ℕ) (e : Extents) → HasSizes c → LeavesTable c writes per e → SameTableIn c (overlay c writes) per e
 left_table c writes per e sized leaves = record {

@@ -377,36 +377,37 @@ files_now c d per e touched files changes is =
 
 -- ---- the volume
 
-abbrev volume_with : ℕ → ℕ → Extents → List (Option Record) → Volume
-volume_with per clusters e files = record { per = per; clusters = clusters; table = e; files = files }
+abbrev volume_with : ℕ → ℕ → ℕ → Extents → List (Option Record) → Volume
+volume_with per clusters mft e files = record { per = per; clusters = clusters; mft = mft; table = e; files = files }
 
 pub record VolumeParts (c : Content) (g : Geometry) (clusters : ℕ) (v : Volume) : Type 0 where
   pub table : table_of c g ≡ Ok v.table
   pub files : files_in c g.per_cluster v.table ≡ Ok v.files
   pub per : g.per_cluster ≡ v.per
   pub count : clusters ≡ v.clusters
+  pub place : g.mft ≡ v.mft
 
-files_part : (per clusters : ℕ) (e : Extents) (read : Result (List (Option Record)) MapRefusal) (v : Volume) → (read >>= λ files. Ok (volume_with per clusters e files)) ≡ Ok v → (read ≡ Ok v.files) × (per ≡ v.per) × (clusters ≡ v.clusters) × (e ≡ v.table)
-files_part per clusters e (Ok files) v is =
-    let made : volume_with per clusters e files ≡ v = cc in
-    (ap (λ (x : Volume). Ok x.files) made, ap (λ (x : Volume). x.per) made, ap (λ (x : Volume). x.clusters) made, ap (λ (x : Volume). x.table) made)
-files_part per clusters e (Err refusal) v is = absurd cc
+files_part : (per clusters mft : ℕ) (e : Extents) (read : Result (List (Option Record)) MapRefusal) (v : Volume) → (read >>= λ files. Ok (volume_with per clusters mft e files)) ≡ Ok v → (read ≡ Ok v.files) × (per ≡ v.per) × (clusters ≡ v.clusters) × (mft ≡ v.mft) × (e ≡ v.table)
+files_part per clusters mft e (Ok files) v is =
+    let made : volume_with per clusters mft e files ≡ v = cc in
+    (ap (λ (x : Volume). Ok x.files) made, ap (λ (x : Volume). x.per) made, ap (λ (x : Volume). x.clusters) made, ap (λ (x : Volume). x.mft) made, ap (λ (x : Volume). x.table) made)
+files_part per clusters mft e (Err refusal) v is = absurd cc
 
-table_part : (c : Content) (g : Geometry) (clusters : ℕ) (t : Result Extents MapRefusal) (v : Volume) → (t >>= λ e. files_in c g.per_cluster e >>= λ files. Ok (volume_with g.per_cluster clusters e files)) ≡ Ok v
-    → (t ≡ Ok v.table) × (files_in c g.per_cluster v.table ≡ Ok v.files) × (g.per_cluster ≡ v.per) × (clusters ≡ v.clusters)
+table_part : (c : Content) (g : Geometry) (clusters : ℕ) (t : Result Extents MapRefusal) (v : Volume) → (t >>= λ e. files_in c g.per_cluster e >>= λ files. Ok (volume_with g.per_cluster clusters g.mft e files)) ≡ Ok v
+    → (t ≡ Ok v.table) × (files_in c g.per_cluster v.table ≡ Ok v.files) × (g.per_cluster ≡ v.per) × (clusters ≡ v.clusters) × (g.mft ≡ v.mft)
 table_part c g clusters (Ok e) v is =
-    let parts = files_part g.per_cluster clusters e (files_in c g.per_cluster e) v is in
-    (ap (λ (x : Extents). Ok x) parts.3, sym (ap (files_in c g.per_cluster) parts.3) ∙ parts.0, parts.1, parts.2)
+    let parts = files_part g.per_cluster clusters g.mft e (files_in c g.per_cluster e) v is in
+    (ap (λ (x : Extents). Ok x) parts.4, sym (ap (files_in c g.per_cluster) parts.4) ∙ parts.0, parts.1, parts.2, parts.3)
 table_part c g clusters (Err refusal) v is = absurd cc
 
 pub volume_parts : (c : Content) (g : Geometry) (clusters : ℕ) (v : Volume) → volume_of c g clusters ≡ Ok v → VolumeParts c g clusters v
 unfolding volume_of
 volume_parts c g clusters v is =
     let parts = table_part c g clusters (table_of c g) v is in
-    record { table = parts.0; files = parts.1; per = parts.2; count = parts.3 }
+    record { table = parts.0; files = parts.1; per = parts.2; count = parts.3; place = parts.4 }
 
 -- a volume from its parts
-volume_from : (d : Content) (g : Geometry) (clusters : ℕ) (e : Extents) (files : List (Option Record)) → table_of d g ≡ Ok e → files_in d g.per_cluster e ≡ Ok files → volume_of d g clusters ≡ Ok (volume_with g.per_cluster clusters e files)
+volume_from : (d : Content) (g : Geometry) (clusters : ℕ) (e : Extents) (files : List (Option Record)) → table_of d g ≡ Ok e → files_in d g.per_cluster e ≡ Ok files → volume_of d g clusters ≡ Ok (volume_with g.per_cluster clusters g.mft e files)
 unfolding volume_of
 volume_from d g clusters e files table is = rw (table, is) refl
 
@@ -418,8 +419,9 @@ volume_now c d g clusters v touched is boot changes =
     let new : files_in d v.per v.table ≡ Ok files = files_now c d v.per v.table touched v.files changes old in
     let there : files_in d g.per_cluster v.table ≡ Ok files = ap (λ (per : ℕ). files_in d per v.table) parts.per ∙ new in
     volume_from d g clusters v.table files (same_table c d g boot ∙ parts.table) there
-    ∙ ap (λ (per : ℕ). Ok (volume_with per clusters v.table files)) parts.per
-    ∙ ap (λ (count : ℕ). Ok (volume_with v.per count v.table files)) parts.count
+    ∙ ap (λ (per : ℕ). Ok (volume_with per clusters g.mft v.table files)) parts.per
+    ∙ ap (λ (count : ℕ). Ok (volume_with v.per count g.mft v.table files)) parts.count
+    ∙ ap (λ (mft : ℕ). Ok (volume_with v.per v.clusters mft v.table files)) parts.place
 
 record_changes : (c : Content) (writes : List Write) (per : ℕ) (e : Extents) (touched : ℕ → Bool) → HasSizes c → RewritesRecords c writes per e touched → ChangesRecords c (overlay c writes) per e touched
 record_changes c writes per e touched sized rewrites = record {

@@ -43,7 +43,7 @@ changed_file d v touched m = if touched m then new_file d v m else table_in v.fi
 
 -- the volume with other files
 abbrev pub with_files : Volume → List (Option Record) → Volume
-with_files v files = record { per = v.per; clusters = v.clusters; table = v.table; files = files }
+with_files v files = record { per = v.per; clusters = v.clusters; mft = v.mft; table = v.table; files = files }
 
 -- the volume with these records as the content has them, and its other files
 abbrev pub changed_volume : Content → Volume → (ℕ → Bool) → Volume

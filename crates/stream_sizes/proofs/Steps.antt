@@ -19,7 +19,7 @@ use Rattle.volume_model.specs.Sizes.{is_torn_at, begun, has_torn, stream_has_tor
 use Rattle.stream_sizes.specs.declared.fault.SizesFault.{SizesFault}
 use Rattle.stream_sizes.specs.declared.fault.SizesFault.TheVariants as faults
 use Rattle.stream_sizes.specs.Errors.{sizes_cause}
-use Rattle.stream_sizes.specs.Volumes.{volume_with}
+use Rattle.stream_sizes.specs.Volumes.{TablePlace, volume_with}
 
 -- ---- answers
 
@@ -53,22 +53,22 @@ torn_placed known per kind s e count result placed counted h =
 abbrev pub shape : ℕ → ℕ → ℕ → Record → Bool
 shape per clusters n r = list_all (keeps_stream per clusters r.attrs) r.attrs && keeps_whole n r && keeps_table n r
 
-streams_are : (c : Content) (per clusters : ℕ) (e : Extents) (files : List (Option Record)) (n : ℕ) (r : Record) (kept : Bool) → kept ≡ shape per clusters n r → keeps_streams c (volume_with per clusters e files) n r ≡ (kept && keeps_untorn c per n r)
+streams_are : (c : Content) (per clusters : ℕ) (e : TablePlace) (files : List (Option Record)) (n : ℕ) (r : Record) (kept : Bool) → kept ≡ shape per clusters n r → keeps_streams c (volume_with per clusters e files) n r ≡ (kept && keeps_untorn c per n r)
 unfolding keeps_streams
 streams_are c per clusters e files n r kept is = ap (λ (b : Bool). b && keeps_untorn c per n r) (sym is)
 
-pub streams_shapeless : (known : Option Content) (per clusters n : ℕ) (r : Record) (kept : Bool) → kept ≡ shape per clusters n r → kept ≡ false → (e : Extents) (files : List (Option Record)) → IfSome known (λ c. GivesOrFails (λ (x : Bool). x) sizes_cause (Ok false) (Ok (keeps_streams c (volume_with per clusters e files) n r)))
+pub streams_shapeless : (known : Option Content) (per clusters n : ℕ) (r : Record) (kept : Bool) → kept ≡ shape per clusters n r → kept ≡ false → (e : TablePlace) (files : List (Option Record)) → IfSome known (λ c. GivesOrFails (λ (x : Bool). x) sizes_cause (Ok false) (Ok (keeps_streams c (volume_with per clusters e files) n r)))
 streams_shapeless known per clusters n r kept is out e files = always known (λ c. GivesOrFails (λ (x : Bool). x) sizes_cause (Ok false) (Ok (keeps_streams c (volume_with per clusters e files) n r))) (λ c. ap Ok (streams_are c per clusters e files n r kept is ∙ ap (λ (b : Bool). b && keeps_untorn c per n r) out))
 
-pub streams_shaped : (known : Option Content) (per clusters n : ℕ) (r : Record) (kept : Bool) (result : Result Bool SizesFault) → kept ≡ shape per clusters n r → kept ≡ true → IfSome known (λ c. IfOk result (λ x. x ≡ keeps_untorn c per n r)) → (e : Extents) (files : List (Option Record)) → IfSome known (λ c. GivesOrFails (λ (x : Bool). x) sizes_cause result (Ok (keeps_streams c (volume_with per clusters e files) n r)))
+pub streams_shaped : (known : Option Content) (per clusters n : ℕ) (r : Record) (kept : Bool) (result : Result Bool SizesFault) → kept ≡ shape per clusters n r → kept ≡ true → IfSome known (λ c. IfOk result (λ x. x ≡ keeps_untorn c per n r)) → (e : TablePlace) (files : List (Option Record)) → IfSome known (λ c. GivesOrFails (λ (x : Bool). x) sizes_cause result (Ok (keeps_streams c (volume_with per clusters e files) n r)))
 streams_shaped known per clusters n r kept result is whole h e files = one known (λ c. IfOk result (λ x. x ≡ keeps_untorn c per n r)) (λ c. GivesOrFails (λ (x : Bool). x) sizes_cause result (Ok (keeps_streams c (volume_with per clusters e files) n r))) (λ c p. gives result (keeps_untorn c per n r) (keeps_streams c (volume_with per clusters e files) n r) (streams_are c per clusters e files n r kept is ∙ ap (λ (b : Bool). b && keeps_untorn c per n r) whole) p) h
 
 -- ---- a number
 
 -- the file with that number
 pub file_kept : (known : Option Content) (per clusters n : ℕ) (files : List (Option Record)) (r : Record) (result : Result Bool SizesFault) → Some r ≡ file_at (table_in files) n
-    → ((e : Extents) (files : List (Option Record)) → IfSome known (λ c. GivesOrFails (λ (x : Bool). x) sizes_cause result (Ok (keeps_streams c (volume_with per clusters e files) n r))))
-    → (e : Extents) → IfSome known (λ c. IfOk result (λ x. x ≡ at_file (keeps_streams c (volume_with per clusters e files) n) (file_at (table_in files) n)))
+    → ((e : TablePlace) (files : List (Option Record)) → IfSome known (λ c. GivesOrFails (λ (x : Bool). x) sizes_cause result (Ok (keeps_streams c (volume_with per clusters e files) n r))))
+    → (e : TablePlace) → IfSome known (λ c. IfOk result (λ x. x ≡ at_file (keeps_streams c (volume_with per clusters e files) n) (file_at (table_in files) n)))
 file_kept known per clusters n files r result is h e = one known (λ c. GivesOrFails (λ (x : Bool). x) sizes_cause result (Ok (keeps_streams c (volume_with per clusters e files) n r))) (λ c. IfOk result (λ x. x ≡ at_file (keeps_streams c (volume_with per clusters e files) n) (file_at (table_in files) n))) (λ c p. answered result (keeps_streams c (volume_with per clusters e files) n r) (at_file (keeps_streams c (volume_with per clusters e files) n) (file_at (table_in files) n)) (ap (at_file (keeps_streams c (volume_with per clusters e files) n)) (sym is)) p) (h e files)
 
 and_false : (b : Bool) → (b && false) ≡ false
@@ -79,19 +79,19 @@ and_true : (b : Bool) → (b && true) ≡ b
 and_true true = refl
 and_true false = refl
 
-abbrev file_keeps : Content → ℕ → ℕ → List (Option Record) → Extents → ℕ → Bool
+abbrev file_keeps : Content → ℕ → ℕ → List (Option Record) → TablePlace → ℕ → Bool
 file_keeps c per clusters files e n = at_file (keeps_streams c (volume_with per clusters e files) n) (file_at (table_in files) n)
 
-sizes_are : (c : Content) (per clusters : ℕ) (files : List (Option Record)) (e : Extents) (n : ℕ) (kept : Bool) → kept ≡ keeps_bitmaps (volume_with per clusters e files) n → keeps_sizes c (volume_with per clusters e files) n ≡ (file_keeps c per clusters files e n && kept)
+sizes_are : (c : Content) (per clusters : ℕ) (files : List (Option Record)) (e : TablePlace) (n : ℕ) (kept : Bool) → kept ≡ keeps_bitmaps (volume_with per clusters e files) n → keeps_sizes c (volume_with per clusters e files) n ≡ (file_keeps c per clusters files e n && kept)
 unfolding keeps_sizes
 sizes_are c per clusters files e n kept is = ap (λ (b : Bool). file_keeps c per clusters files e n && b) (sym is)
 
-pub bitmap_short : (known : Option Content) (per clusters n : ℕ) (files : List (Option Record)) (kept : Bool) → ((e : Extents) → kept ≡ keeps_bitmaps (volume_with per clusters e files) n) → kept ≡ false → (e : Extents) → IfSome known (λ c. false ≡ keeps_sizes c (volume_with per clusters e files) n)
+pub bitmap_short : (known : Option Content) (per clusters n : ℕ) (files : List (Option Record)) (kept : Bool) → ((e : TablePlace) → kept ≡ keeps_bitmaps (volume_with per clusters e files) n) → kept ≡ false → (e : TablePlace) → IfSome known (λ c. false ≡ keeps_sizes c (volume_with per clusters e files) n)
 bitmap_short known per clusters n files kept is out e = always known (λ c. false ≡ keeps_sizes c (volume_with per clusters e files) n) (λ c. sym (sizes_are c per clusters files e n kept (is e) ∙ ap (λ (b : Bool). file_keeps c per clusters files e n && b) out ∙ and_false (file_keeps c per clusters files e n)))
 
-pub bitmap_long : (known : Option Content) (per clusters n : ℕ) (files : List (Option Record)) (kept : Bool) (result : Result Bool SizesFault) → ((e : Extents) → kept ≡ keeps_bitmaps (volume_with per clusters e files) n) → kept ≡ true
-    → ((e : Extents) → IfSome known (λ c. IfOk result (λ x. x ≡ at_file (keeps_streams c (volume_with per clusters e files) n) (file_at (table_in files) n))))
-    → (e : Extents) → IfSome known (λ c. IfOk result (λ x. x ≡ keeps_sizes c (volume_with per clusters e files) n))
+pub bitmap_long : (known : Option Content) (per clusters n : ℕ) (files : List (Option Record)) (kept : Bool) (result : Result Bool SizesFault) → ((e : TablePlace) → kept ≡ keeps_bitmaps (volume_with per clusters e files) n) → kept ≡ true
+    → ((e : TablePlace) → IfSome known (λ c. IfOk result (λ x. x ≡ at_file (keeps_streams c (volume_with per clusters e files) n) (file_at (table_in files) n))))
+    → (e : TablePlace) → IfSome known (λ c. IfOk result (λ x. x ≡ keeps_sizes c (volume_with per clusters e files) n))
 bitmap_long known per clusters n files kept result is whole h e = one known (λ c. IfOk result (λ x. x ≡ file_keeps c per clusters files e n)) (λ c. IfOk result (λ x. x ≡ keeps_sizes c (volume_with per clusters e files) n)) (λ c p. also result (file_keeps c per clusters files e n) (keeps_sizes c (volume_with per clusters e files) n) (sizes_are c per clusters files e n kept (is e) ∙ ap (λ (b : Bool). file_keeps c per clusters files e n && b) whole ∙ and_true (file_keeps c per clusters files e n)) p) (h e)
 
 -- ---- all numbers

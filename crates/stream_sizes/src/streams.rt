@@ -4,10 +4,9 @@ ghost use Rattle.std.specs.List.{list_all};
 ghost use Rattle.host_base.specs.Answers.{GivesOrFails};
 ghost use Rattle.host_base.specs.Causes.{Rose};
 ghost use Rattle.record_model.specs.Records.{Record as a_record};
-ghost use Rattle.state_model.specs.declared.stream.Extents.{Extents as extents};
 ghost use Rattle.stream_sizes.specs.Errors.{sizes_cause};
 ghost use Rattle.stream_sizes.specs.Views.{KeepsView};
-ghost use Rattle.stream_sizes.specs.Volumes.{volume_with};
+ghost use Rattle.stream_sizes.specs.Volumes.{TablePlace, volume_with};
 ghost use Rattle.volume_model.specs.Sizes.{keeps_stream, keeps_whole, keeps_table, keeps_streams};
 
 use crate::fault::SizesFault;
@@ -67,7 +66,7 @@ pub fn keeps_streams<V: View>(
 ) -> Result<bool, SizesFault>
     requires some { 0 < per }
     requires few { per ≤ 8 }
-    ensures value { (e : extents) (files : List (Option a_record)) → IfSome (V.content view.old) (λ c. GivesOrFails (λ keeps. keeps) sizes_cause result (Ok (keeps_streams c (volume_with per clusters e files) number file.now))) }
+    ensures value { (e : TablePlace) (files : List (Option a_record)) → IfSome (V.content view.old) (λ c. GivesOrFails (λ keeps. keeps) sizes_cause result (Ok (keeps_streams c (volume_with per clusters e files) number file.now))) }
     ensures kept { KeepsView V.content V.kept V.faults view.old view.new }
     ensures fault { IsErrOf result SizesFault.View → Rose (V.faults view.old) (V.faults view.new) }
 {

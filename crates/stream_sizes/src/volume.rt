@@ -4,13 +4,12 @@ ghost use Rattle.std.specs.Option.{option_copied};
 ghost use Rattle.host_base.specs.Answers.{GivesOrFails};
 ghost use Rattle.host_base.specs.Causes.{Rose};
 ghost use Rattle.record_model.specs.Values.{data_type};
-ghost use Rattle.state_model.specs.declared.stream.Extents.{Extents as extents};
 ghost use Rattle.state_model.specs.Files.{is_base_record, only_base, file_at};
 ghost use Rattle.state_model.specs.Loads.{table_in};
 ghost use Rattle.state_model.specs.Rules.{implies, at_file, first_failing};
 ghost use Rattle.stream_sizes.specs.Errors.{sizes_cause};
 ghost use Rattle.stream_sizes.specs.Views.{KeepsView};
-ghost use Rattle.stream_sizes.specs.Volumes.{volume_with};
+ghost use Rattle.stream_sizes.specs.Volumes.{TablePlace, volume_with};
 ghost use Rattle.volume_model.specs.Sizes.{keeps_streams, keeps_bitmaps, keeps_sizes};
 ghost use Rattle.volume_model.specs.Volumes.{file_stream, size_or, bitmap_type, bitmap_file, table_file};
 
@@ -117,7 +116,7 @@ fn keeps_bitmaps(
     files: &[Option<FileRec>],
     number: u64,
 ) -> Result<bool, Memory>
-    ensures { (e : extents) → IfOk result (λ keeps. keeps ≡ keeps_bitmaps (volume_with per clusters e files.now) number) }
+    ensures { (e : TablePlace) → IfOk result (λ keeps. keeps ≡ keeps_bitmaps (volume_with per clusters e files.now) number) }
 {
     Ok(
         keeps_record_bits(alloc, files, number)?
@@ -137,7 +136,7 @@ fn keeps_file<V: View>(
 ) -> Result<bool, SizesFault>
     requires some { 0 < per }
     requires few { per ≤ 8 }
-    ensures value { (e : extents) → IfSome (V.content view.old) (λ c. IfOk result (λ keeps. keeps ≡ at_file (keeps_streams c (volume_with per clusters e files.now) number) (file_at (table_in files.now) number))) }
+    ensures value { (e : TablePlace) → IfSome (V.content view.old) (λ c. IfOk result (λ keeps. keeps ≡ at_file (keeps_streams c (volume_with per clusters e files.now) number) (file_at (table_in files.now) number))) }
     ensures kept { KeepsView V.content V.kept V.faults view.old view.new }
     ensures fault { IsErrOf result SizesFault.View → Rose (V.faults view.old) (V.faults view.new) }
 {
@@ -159,7 +158,7 @@ fn keeps_sizes<V: View>(
 ) -> Result<bool, SizesFault>
     requires some { 0 < per }
     requires few { per ≤ 8 }
-    ensures value { (e : extents) → IfSome (V.content view.old) (λ c. IfOk result (λ keeps. keeps ≡ keeps_sizes c (volume_with per clusters e files.now) number)) }
+    ensures value { (e : TablePlace) → IfSome (V.content view.old) (λ c. IfOk result (λ keeps. keeps ≡ keeps_sizes c (volume_with per clusters e files.now) number)) }
     ensures kept { KeepsView V.content V.kept V.faults view.old view.new }
     ensures fault { IsErrOf result SizesFault.View → Rose (V.faults view.old) (V.faults view.new) }
 {
@@ -190,7 +189,7 @@ pub fn first_broken<V: View>(
 ) -> Result<Option<u64>, SizesFault>
     requires some { 0 < per }
     requires few { per ≤ 8 }
-    ensures value { (e : extents) → IfSome (V.content view.old) (λ c. GivesOrFails (λ number. number) sizes_cause result (Ok (first_failing (keeps_sizes c (volume_with per clusters e files.now)) (max (length files.now) 7)))) }
+    ensures value { (e : TablePlace) → IfSome (V.content view.old) (λ c. GivesOrFails (λ number. number) sizes_cause result (Ok (first_failing (keeps_sizes c (volume_with per clusters e files.now)) (max (length files.now) 7)))) }
     ensures kept { KeepsView V.content V.kept V.faults view.old view.new }
     ensures fault { IsErrOf result SizesFault.View → Rose (V.faults view.old) (V.faults view.new) }
 {

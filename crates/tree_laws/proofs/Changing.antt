@@ -1,5 +1,5 @@
 -- The tree of a volume where several files change at once.
-use Rattle.std.proofs.Common.{◌≡◌, ◌≢◌, ℕ, ◌<◌, max, Bool, true, false, not, eqb, List, [], ◌∷◌, length, Option, Some, None, refl, sym, ap, subst, ◌∙◌, inl, inr}
+use Rattle.std.proofs.Common.{◌≡◌, ◌≢◌, ℕ, ◌<◌, max, Bool, true, false, cond, not, eqb, List, [], ◌∷◌, length, Option, Some, None, refl, sym, ap, subst, ◌∙◌, inl, inr}
 use Rattle.std.specs.List.{list_all, AllByRecursion}
 use Rattle.std.proofs.lemmas.Bool.{cases_Bool, and_parts, and_from, eqb-false, ne_eqb, eq-eqb, not-true, both_ways}
 use Rattle.disk_model.specs.Content.{Content}
@@ -18,7 +18,7 @@ use Rattle.volume_model.specs.Volumes.{Volume, count_of, file_in, file_stream, b
 use Rattle.volume_model.specs.Indexes.{keeps_index}
 use Rattle.volume_model.specs.Nodes.{kind_in, some_node, node_at, spare_at}
 use Rattle.volume_model.specs.Owners.{keeps_record_bit}
-use Rattle.volume_model.specs.Sizes.{keeps_sizes}
+use Rattle.volume_model.specs.Sizes.{keeps_place, keeps_sizes}
 use Rattle.volume_state.specs.Rules.{file_count, broken_1, broken_2, broken_3, broken_4, broken_7, broken_8}
 use Rattle.volume_state.specs.Trees.{Holds, tree_of}
 use Rattle.stream_laws.specs.Rewrites.{with_files}
@@ -34,6 +34,11 @@ use Rattle.tree_laws.proofs.Ruling.{sizes_kept}
 use Rattle.tree_laws.proofs.Agreeing.{same_upper, same_index, kept_sizes, asked_when_clear, spare_with, same_spare_with, same_node}
 use Rattle.tree_laws.proofs.Keeping.{KeepsAll, rules_of, from_rules, still_passes}
 use Rattle.tree_laws.proofs.Standing.{same_every, index_kept}
+
+-- what passes a test and the numbers behind it still does
+where_placed : (placed : Bool) (x y : Option ℕ) → (x ≡ None → y ≡ None) → cond placed x (Some 0) ≡ None → cond placed y (Some 0) ≡ None
+where_placed true x y still none = still none
+where_placed false x y still none = absurd cc
 
 -- ---- which files keep their places
 
@@ -165,11 +170,11 @@ module _ (touched inside : ℕ → Bool) (c d : Content) (v : Volume) (files : L
       none
 
   kept_4 : broken_4 c v ≡ None → broken_4 d (with_files v files) ≡ None
-  unfolding broken_4
-  kept_4 = still_passes (keeps_sizes c v) (keeps_sizes d (with_files v files)) (file_count v) (file_count (with_files v files)) (ap (λ (x : ℕ). max x 7) k.count) (λ m below was. elim (cases_Bool (touched m)) [
+  unfolding broken_4 keeps_place
+  kept_4 = where_placed (keeps_place v) (first_failing (keeps_sizes c v) (file_count v)) (first_failing (keeps_sizes d (with_files v files)) (file_count (with_files v files))) (still_passes (keeps_sizes c v) (keeps_sizes d (with_files v files)) (file_count v) (file_count (with_files v files)) (ap (λ (x : ℕ). max x 7) k.count) (λ m below was. elim (cases_Bool (touched m)) [
     | inl is ↦ new.rule_4 m below is
     | inr other ↦ sizes_kept d v files m k.count (same_file touched inside v files k m other) ∙ kept_sizes c d v m agree.torn was
-  ])
+  ]))
 
   bit_kept : (m : ℕ) → m < count_of v → touched m ≡ false → keeps_record_bit c v m ≡ true → keeps_record_bit d (with_files v files) m ≡ true
   unfolding keeps_record_bit is_in_use record_bytes record_block
