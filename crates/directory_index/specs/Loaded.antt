@@ -7,7 +7,7 @@ use Rattle.volume_model.specs.Volumes.{Volume}
 
 -- so many sectors a cluster, and these files; no clusters and no table, which no index asks for
 abbrev pub volume_with : ℕ → List (Option Record) → Volume
-volume_with per files = record { per = per; clusters = 0; table = no_extents; files = files }
+volume_with per files = record { per = per; clusters = 0; mft = 0; table = no_extents; files = files }
 
 abbrev pub only_directory : Option Record → Option Record
 only_directory None = None

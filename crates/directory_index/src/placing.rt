@@ -45,6 +45,7 @@ fn place_below(alloc: Global, per: u64, file: &FileRec, root: &Bytes) -> Result<
     requires few { per ≤ 8 }
     ensures place { IfOk result (λ found. place_of found ≡ index_place per file.now) }
     ensures root { IfOk result (λ found. found.root ≡ root.now) }
+    ensures used { IfOk result (λ found. found.used ≡ 0) }
 {
     let blocks = index_blocks(alloc, per, file)?;
     Ok(DirPlace {
@@ -57,7 +58,8 @@ fn place_below(alloc: Global, per: u64, file: &FileRec, root: &Bytes) -> Result<
 
 /// Where the index of a directory's names lies (Linux-NTFS documentation, "$INDEX_ROOT" and
 /// "$INDEX_ALLOCATION"), in a volume of `per` sectors a cluster; nowhere if its root isn't there or
-/// isn't resident. `used` is 0, since a file doesn't say it. The error is want of memory.
+/// isn't resident. `used` is 0, since the attributes of a file don't say how many bytes its base record
+/// uses; a caller that plans a change of the index sets it. The error is want of memory.
 ///
 /// It takes time and memory linear in the attributes and runs of the file, and in the blocks that
 /// the allocation has by its real size and that begin in its runs: also where its clusters are
@@ -67,6 +69,7 @@ pub fn index_place(alloc: Global, per: u64, file: &FileRec) -> Result<Option<Dir
     requires few { per ≤ 8 }
     ensures place { IfOk result (λ found. IfSome found (λ dir. place_of dir ≡ index_place per file.now)) }
     ensures root { IfOk result (λ found. root_in found ≡ root_value file.now) }
+    ensures used { IfOk result (λ found. IfSome found (λ dir. dir.used ≡ 0)) }
 {
     match root_value(file) {
         Some(root) => Ok(Some(place_below(alloc, per, file, root)?)),

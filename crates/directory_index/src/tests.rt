@@ -202,6 +202,7 @@ fn places_and_reads_an_index(rt: HostRuntime) -> Result<(), Fail> {
     let place = index_place(alloc, 8, &file)?.ok_or("no place")?;
     assert_eq!(rt; place.blocks.as_slice(), [index_block()].as_slice());
     assert_eq!(rt; place.step, 1);
+    assert_eq!(rt; place.used, 0);
     let up = Upcase::standard(alloc)?;
     let mut view = view_of(alloc)?;
     let links = index_links(alloc, &mut view, 8, &up, &file)?.ok_or("no links")?;

@@ -1,5 +1,5 @@
 //! The names of one record.
-ghost use Rattle.std.specs.Prelude.{◌≡◌, ◌++◌, [], IfOk, OnOk};
+ghost use Rattle.std.specs.Prelude.{◌≡◌, ◌++◌, [], None, IfOk, IsOk, OnOk, OnErr};
 ghost use Rattle.std.specs.List.{cons_option};
 ghost use Rattle.record_model.specs.StdValues.{file_name_of};
 ghost use Rattle.state_model.specs.Files.{named, form_link, attr_link, record_links};
@@ -46,9 +46,12 @@ fn attr_link(alloc: Global, child: FileRef, attr: &Attr) -> Result<Option<Link>,
     }
 }
 
-/// Appends the link, if there is one. The error is want of memory.
+/// Appends the link, if there is one. The error is want of memory, and leaves the list; it never comes
+/// where there is no link. It takes constant time, but for the room that a list takes as it grows.
 pub fn push_some(links: &mut LinkList, link: Option<Link>) -> Result<(), Memory>
     ensures appended { OnOk result (links.new ≡ links.old ++ cons_option link []) }
+    ensures left { OnErr result (links.new ≡ links.old) }
+    ensures nothing { link ≡ None → IsOk result }
 {
     if let Some(link) = link {
         links.push(link)?;

@@ -20,7 +20,7 @@ use Rattle.volume_model.specs.Volumes.{Volume, record_block, count_of, record_bi
 use Rattle.volume_model.specs.Owners.{keeps_record_bit}
 use Rattle.volume_model.specs.Nodes.{spare_at, spare_numbers}
 use Rattle.volume_parts.specs.declared.head.Head.{Head}
-use Rattle.volume_parts.specs.Heads.{head_of, head_at, heads_of, no_head, head_in, keeps_head, spare_of}
+use Rattle.volume_parts.specs.Heads.{head_of, head_at, heads_of, no_head, head_in, keeps_head, spare_of, spares_of}
 
 -- tests that agree on numbers below an end find the same
 find_below : (f g : ℕ → Bool) (end : ℕ) → ((i : ℕ) → i < end → f i ≡ g i) → (a n : ℕ) → a + n ≤ end → find f (range_with_len a n) ≡ find g (range_with_len a n)
@@ -67,7 +67,7 @@ spares_by c v =
     ap (λ (n : ℕ). filter_map (spare_of (heads_of c v) (record_bits c v)) (range_with_len first_user_record (n - first_user_record))) (count_there c v)
     ∙ some_within (spare_of (heads_of c v) (record_bits c v)) (spare_at c v) first_user_record (count_of v - first_user_record) (λ i from to. spare_there c v i (omega (arith, from, to)))
 
-pub spares : (heads : List Head) (bits : List Bool) (c : Content) (v : Volume) → heads ≡ heads_of c v → bits ≡ record_bits c v → filter_map (spare_of heads bits) (range_with_len first_user_record (length heads - first_user_record)) ≡ spare_numbers c v
+pub spares : (heads : List Head) (bits : List Bool) (c : Content) (v : Volume) → heads ≡ heads_of c v → bits ≡ record_bits c v → spares_of heads bits ≡ spare_numbers c v
 spares heads bits c v hs bs = rw hs (rw bs (spares_by c v))
 
 -- a record's block is one of its kind

@@ -1,9 +1,10 @@
 -- The heads of the records of a file table.
-use Rattle.std.specs.Prelude.{ℕ, Bool, true, false, List, map, Option, Some, None, if◌then◌else◌, slice_index_or}
-use Rattle.std.specs.List.{range_with_len}
+use Rattle.std.specs.Prelude.{ℕ, ◌-◌, Bool, true, false, List, length, map, Option, Some, None, if◌then◌else◌, slice_index_or}
+use Rattle.std.specs.List.{range_with_len, filter_map}
 use Rattle.host_base.specs.declared.file_ref.FileRef.{FileRef}
 use Rattle.disk_model.specs.Content.{Content}
 use Rattle.bit_set.specs.Bits.{bit}
+use Rattle.state_model.specs.Trees.{first_user_record}
 use Rattle.state_model.specs.Rules.{implies}
 use Rattle.state_model.specs.Loads.{is_used}
 use Rattle.volume_model.specs.Volumes.{Volume, count_of, record_bytes}
@@ -37,3 +38,7 @@ keeps_head heads bits n = implies (head_in heads n).in_use (bit bits n)
 -- the number with its sequence, where its bit is clear
 unfoldable pub spare_of : List Head → List Bool → ℕ → Option FileRef
 spare_of heads bits n = if bit bits n then None else Some (record { number = n; seq = (head_in heads n).sequence })
+
+-- the numbers of users' records whose bit is clear, in order
+abbrev pub spares_of : List Head → List Bool → List FileRef
+spares_of heads bits = filter_map (spare_of heads bits) (range_with_len first_user_record (length heads - first_user_record))

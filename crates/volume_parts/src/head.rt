@@ -25,7 +25,7 @@ pub struct Head {
 }
 
 // The head of a record with these bytes.
-#[tactic(auto, unfolding(crate::specs::Heads::head_of, volume_model::specs::Nodes::spare_sequence, record_model::specs::Records::is_in_use))]
+#[tactic(auto, unfolding(crate::specs::Heads::head_of, volume_model::specs::Nodes::spare_sequence, record_model::specs::Records::has_in_use_flag))]
 fn head_of(bytes: &[u8]) -> Head
     requires { length bytes.now ≡ 1024 }
     ensures { result ≡ head_of bytes.now }

@@ -1,12 +1,12 @@
 //! Records by their heads and their bits.
-ghost use Rattle.std.specs.Prelude.{◌≡◌, ◌-◌, ◌++◌, ◌∷◌, [], ℕ, length, IfOk, OnOk};
-ghost use Rattle.std.specs.List.{range_with_len, filter_map, cons_option};
+ghost use Rattle.std.specs.Prelude.{◌≡◌, ◌++◌, [], length, IfOk, OnOk};
+ghost use Rattle.std.specs.List.{cons_option};
 ghost use Rattle.disk_model.specs.Content.{Content as the_content};
 ghost use Rattle.state_model.specs.Rules.{first_failing};
 ghost use Rattle.volume_model.specs.Volumes.{Volume as the_volume, count_of, record_bits};
 ghost use Rattle.volume_model.specs.Owners.{keeps_record_bit};
 ghost use Rattle.volume_model.specs.Nodes.{spare_numbers};
-ghost use Rattle.volume_parts.specs.Heads.{heads_of, keeps_head, spare_of};
+ghost use Rattle.volume_parts.specs.Heads.{heads_of, keeps_head, spare_of, spares_of};
 
 use crate::head::Head;
 use bit_set::BitSet;
@@ -36,9 +36,10 @@ fn first_unkept(heads: &[Head], bits: &BitSet) -> Option<u64>
     (0..heads.len() as u64).find(|number| !keeps_head(heads, bits, *number))
 }
 
-/// The least number of a record that is in use and whose bit is clear, if there is one. Linear in
-/// the heads.
+/// The least number of a record that is in use and whose bit is clear, if there is one; a number
+/// behind the bits has none that is set. Linear in the heads.
 pub fn first_unmarked(heads: &[Head], bits: &BitSet) -> Option<u64>
+    ensures heads { result ≡ first_failing (keeps_head heads.now bits.now) (length heads.now) }
     ensures value { (c : the_content) (v : the_volume) → heads.now ≡ heads_of c v → bits.now ≡ record_bits c v → result ≡ first_failing (keeps_record_bit c v) (count_of v) }
 {
     first_unkept(heads, bits)
@@ -73,7 +74,7 @@ fn push_some(spare: &mut FileRefList, file: Option<FileRef>) -> Result<(), Alloc
 
 // The numbers of users whose bit is clear.
 fn spare_from(alloc: Global, heads: &[Head], bits: &BitSet) -> Result<FileRefList, AllocError>
-    ensures { IfOk result (λ spare. spare ≡ filter_map (spare_of heads.now bits.now) (range_with_len FIRST_USER_RECORD (length heads.now - FIRST_USER_RECORD))) }
+    ensures { IfOk result (λ spare. spare ≡ spares_of heads.now bits.now) }
 {
     let mut spare = FileRefList::new(alloc);
     for number in FIRST_USER_RECORD..heads.len() {
@@ -82,13 +83,14 @@ fn spare_from(alloc: Global, heads: &[Head], bits: &BitSet) -> Result<FileRefLis
     Ok(spare)
 }
 
-/// The numbers from 24 on whose bit is clear, with the sequence that a new file would get. Linear in
-/// the heads.
+/// The numbers from 24 on whose bit is clear, in order, with the sequence that a new file would get;
+/// there are as many records as heads. The error is want of memory. Linear in the heads.
 pub fn spare_numbers(
     alloc: Global,
     heads: &[Head],
     bits: &BitSet,
 ) -> Result<FileRefList, AllocError>
+    ensures heads { IfOk result (λ spare. spare ≡ spares_of heads.now bits.now) }
     ensures value { (c : the_content) (v : the_volume) → heads.now ≡ heads_of c v → bits.now ≡ record_bits c v → IfOk result (λ spare. spare ≡ spare_numbers c v) }
 {
     spare_from(alloc, heads, bits)
