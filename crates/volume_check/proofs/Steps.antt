@@ -1,5 +1,5 @@
 -- Steps of a check, by what the parts found.
-use Rattle.std.proofs.Common.{◌≡◌, ℕ, List, Option, Some, None, Result, Ok, sym, ap, ◌∙◌, length}
+use Rattle.std.proofs.Common.{◌≡◌, ℕ, Bool, true, cond, List, Option, Some, None, Result, Ok, sym, ap, ◌∙◌, length}
 use Rattle.std.specs.Prelude.{IfSome}
 use Rattle.bit_set.proofs.Views.{length-bits_of_bytes}
 use Rattle.host_base.proofs.Known.{one}
@@ -9,7 +9,7 @@ use Rattle.state_model.specs.declared.broken.Broken.{Broken}
 use Rattle.state_model.specs.Rules.{broken_or, first_failing}
 use Rattle.volume_model.specs.Volumes.{Volume, cluster_bits, cluster_bitmap, bytes_or}
 use Rattle.volume_model.specs.Owners.{volume_runs, keeps_cluster_bit}
-use Rattle.volume_model.specs.Sizes.{keeps_sizes}
+use Rattle.volume_model.specs.Sizes.{keeps_place, keeps_sizes}
 use Rattle.volume_state.specs.Rules.{broken_4, broken_6, file_count}
 use Rattle.volume_check.specs.declared.marks.Marks.{Marks}
 use Rattle.volume_check.specs.Parts.{AreMarks}
@@ -42,21 +42,27 @@ okay o = Ok o
 okay_is : (x y : Option ℕ) → okay x ≡ okay y → x ≡ y
 okay_is x y e = cc
 
-four_is : (c : Content) (v : Volume) (found : Option ℕ) → okay (first_failing (keeps_sizes c v) (file_count v)) ≡ okay found → found ≡ broken_4 c v
+abbrev where_placed : Bool → Option ℕ → Option ℕ
+where_placed placed found = cond placed found (Some 0)
+
+-- it begins where the boot sector says, and what streams keep decides
+pub in_place : (known : Option Content) (v : Volume) (found : Option ℕ) → keeps_place v ≡ true
+    → IfSome known (λ c. okay (first_failing (keeps_sizes c v) (file_count v)) ≡ okay found) → IfSome known (λ c. found ≡ broken_4 c v)
 unfolding broken_4
-four_is c v found e = sym (okay_is (first_failing (keeps_sizes c v) (file_count v)) found e)
+in_place known v found is h = one known (λ c. okay (first_failing (keeps_sizes c v) (file_count v)) ≡ okay found) (λ c. found ≡ where_placed (keeps_place v) (first_failing (keeps_sizes c v) (file_count v)))
+    (λ c e. sym (okay_is (first_failing (keeps_sizes c v) (file_count v)) found e) ∙ ap (λ (t : Bool). where_placed t (first_failing (keeps_sizes c v) (file_count v))) (sym is)) h
 
 abbrev four_found : Volume → Option ℕ → Content → Type 0
-four_found v found c = okay (first_failing (keeps_sizes c v) (file_count v)) ≡ okay found
+four_found v found c = found ≡ broken_4 c v
 
 -- rule 4 is broken, over a content that may be known
 pub four_stops : (known : Option Content) (v : Volume) (marks : Marks) (found : Option ℕ) (n : ℕ) → found ≡ Some n → IfSome known (four_found v found)
     → IfSome known (λ c. AreMarks c v marks → Some (record { rule = 4; number = n }) ≡ from_4 c v)
 unfolding from_4
-four_stops known v marks found n is h = one known (four_found v found) _ (λ c e are. stops 4 n found (broken_4 c v) (from_5 c v) is (four_is c v found e)) h
+four_stops known v marks found n is h = one known (four_found v found) _ (λ c e are. stops 4 n found (broken_4 c v) (from_5 c v) is e) h
 
 -- and kept
 pub four_goes_on : (known : Option Content) (v : Volume) (marks : Marks) (found : Option ℕ) (broken : Option Broken) → found ≡ None → ((c : Content) → AreMarks c v marks → broken ≡ from_5 c v) → IfSome known (four_found v found)
     → IfSome known (λ c. AreMarks c v marks → broken ≡ from_4 c v)
 unfolding from_4
-four_goes_on known v marks found broken is rest h = one known (four_found v found) _ (λ c e are. goes_on 4 found (broken_4 c v) (from_5 c v) broken is (four_is c v found e) (rest c are)) h
+four_goes_on known v marks found broken is rest h = one known (four_found v found) _ (λ c e are. goes_on 4 found (broken_4 c v) (from_5 c v) broken is e (rest c are)) h

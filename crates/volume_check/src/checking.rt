@@ -69,10 +69,11 @@ fn check_named<V: View>(
 ///
 /// - [`CheckFault::Broken`]: the first rule that the volume breaks, with the least number at which it
 ///   does. Rules 1 to 4, 7 and 8 are broken at a record: 1 the names of a file, 2 the directory of
-///   each name, 3 the index of a directory, 4 the pieces, places and sizes of streams, 7 a record that
-///   is in use and not marked, 8 the way up of a directory. Rules 5 and 6 are broken at a cluster: 5
-///   one that is owned twice, 6 one that is owned and not marked. Rule 9, the change journal, is
-///   broken at an offset in `$J`.
+///   each name, 3 the index of a directory, 4 the pieces, places and sizes of streams, and at record 0
+///   a file table that doesn't begin where the boot sector says, 7 a record that is in use and not
+///   marked, 8 the way up of a directory. Rules 5 and 6 are broken at a cluster: 5 one that is owned
+///   twice, 6 one that is owned and not marked. Rule 9, the change journal, is broken at an offset in
+///   `$J`.
 /// - [`CheckFault::View`]: the view failed.
 /// - [`CheckFault::Memory`]: want of memory.
 ///

@@ -1,5 +1,5 @@
 //! The rules before the ninth, each tried where those before it are kept.
-ghost use Rattle.std.specs.Prelude.{◌≡◌, IfOk, IfSome, IsErrOf};
+ghost use Rattle.std.specs.Prelude.{◌≡◌, ◌+◌, ◌*◌, ◌<◌, IfOk, IfSome, IsErrOf};
 ghost use Rattle.host_base.specs.Causes.{Rose};
 ghost use Rattle.disk_model.specs.Content.{Content as the_content};
 ghost use Rattle.volume_model.specs.Owners.{volume_runs};
@@ -7,6 +7,8 @@ ghost use Rattle.volume_map.specs.Maps.{volume_in, IsMap};
 ghost use Rattle.volume_map.specs.Views.{KeepsView};
 ghost use Rattle.volume_check.specs.Errors.{NeverBroken};
 ghost use Rattle.volume_check.specs.Parts.{AreMarks, AreNames};
+ghost use Rattle.volume_model.specs.Sizes.{is_at, placed_record, keeps_place};
+ghost use Rattle.volume_state.specs.Rules.{broken_4};
 ghost use Rattle.volume_check.specs.Steps.{from_1, from_2, from_3, from_4, from_5, from_6, from_7, from_8};
 
 use crate::fault::CheckFault;
@@ -14,11 +16,12 @@ use crate::marks::Marks;
 use crate::names::Names;
 use block_view::View;
 use cluster_owners::{Run, volume_runs};
-use disk_model::Body;
+use disk_model::{BlockKind, Body};
 use host_base::Memory;
 use record_rules::{Climber, first_misnamed, first_misplaced, first_unrooted};
 use state_model::Broken;
 use std::alloc::Global;
+use stream_map::block_at;
 use volume_map::VolumeMap;
 
 // Rule 8: the way up of each directory.
@@ -82,6 +85,51 @@ fn from_5(
     }
 }
 
+// Whether the record with this number, by the runs of the file table, is that of the boot sector.
+fn is_in_place(map: &VolumeMap, number: u64) -> bool
+    requires map { IsMap map.now }
+    requires number { number < 4 }
+    ensures { result ≡ is_at (map.now.mft * map.now.per_cluster + 2 * number) (placed_record (volume_in map.now) number) }
+{
+    let first = map.mft * map.per_cluster + 2 * number;
+    let runs = map.table.runs.as_slice();
+    match block_at(map.per_cluster, runs, BlockKind::FileRec, number) {
+        Some(block) => block.first == first,
+        None => false,
+    }
+}
+
+// Whether the file table begins where the boot sector says.
+#[tactic(auto, unfolding(volume_model::specs::Sizes::keeps_place))]
+fn keeps_place(map: &VolumeMap) -> bool
+    requires { IsMap map.now }
+    ensures { result ≡ keeps_place (volume_in map.now) }
+{
+    is_in_place(map, 0) && is_in_place(map, 1) && is_in_place(map, 2) && is_in_place(map, 3)
+}
+
+// The least number at which rule 4 is broken: 0 where the file table begins elsewhere.
+#[tactic(auto, unfolding(volume_state::specs::Rules::broken_4))]
+fn first_unfit<V: View>(
+    alloc: Global,
+    view: &mut V,
+    map: &VolumeMap,
+    body: &mut Body,
+) -> Result<Option<u64>, CheckFault>
+    requires map { IsMap map.now }
+    ensures value { IfSome (V.content view.old) (λ c. IfOk result (λ number. number ≡ broken_4 c (volume_in map.now))) }
+    ensures never { NeverBroken result }
+    ensures kept { KeepsView V.content V.kept V.faults view.old view.new }
+    ensures fault { IsErrOf result CheckFault.View → Rose (V.faults view.old) (V.faults view.new) }
+{
+    if !keeps_place(map) {
+        return Ok(Some(0));
+    }
+    let (per, clusters) = (map.per_cluster, map.clusters);
+    let number = stream_sizes::first_broken(alloc, view, per, clusters, &map.files, body)?;
+    Ok(number)
+}
+
 // From rule 4 on: pieces, places and sizes of streams.
 #[tactic(auto, unfolding(crate::specs::Steps::from_4, volume_state::specs::Rules::broken_4))]
 fn from_4<V: View>(
@@ -99,14 +147,7 @@ fn from_4<V: View>(
     ensures kept { KeepsView V.content V.kept V.faults view.old view.new }
     ensures fault { IsErrOf result CheckFault.View → Rose (V.faults view.old) (V.faults view.new) }
 {
-    match stream_sizes::first_broken(
-        alloc,
-        view,
-        map.per_cluster,
-        map.clusters,
-        &map.files,
-        body,
-    )? {
+    match first_unfit(alloc, view, map, body)? {
         Some(number) => Ok(Some(Broken { rule: 4, number })),
         None => Ok(from_5(alloc, map, climber, marks)?),
     }

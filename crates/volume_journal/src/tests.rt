@@ -30,12 +30,12 @@ struct Row(u8, u16, u8);
 
 static LAWFUL: Row = Row(b'l', SPARSE, 64);
 
-// A record of 64 bytes of version 3, and the record of file 26/1 in 25/1 (hexadecimal), which was
+// A record of 64 bytes of version 3, and the record of file 26/1 in 25/1, which was
 // created with the name `f` and closed at 1002.
 static ENTRIES: [u8; 128] = [
     0x40, 0, 0, 0, 3, 0, 0, 0, 0, 0, 0, 0, 0, 0, 0, 0, 0, 0, 0, 0, 0, 0, 0, 0, 0, 0, 0, 0, 0, 0, 0,
     0, 0, 0, 0, 0, 0, 0, 0, 0, 0, 0, 0, 0, 0, 0, 0, 0, 0, 0, 0, 0, 0, 0, 0, 0, 0, 0, 0, 0, 0, 0, 0,
-    0, 0x40, 0, 0, 0, 2, 0, 0, 0, 0x26, 0, 0, 0, 0, 0, 1, 0, 0x25, 0, 0, 0, 0, 0, 1, 0, 0x40, 0, 0,
+    0, 0x40, 0, 0, 0, 2, 0, 0, 0, 0x1A, 0, 0, 0, 0, 0, 1, 0, 0x19, 0, 0, 0, 0, 0, 1, 0, 0x40, 0, 0,
     0, 0, 0, 0, 0, 0xea, 3, 0, 0, 0, 0, 0, 0, 0, 1, 0, 0x80, 0, 0, 0, 0, 0, 0, 0, 0, 0x20, 0, 0, 0,
     2, 0, 0x3c, 0, 0x66, 0, 0, 0,
 ];
@@ -131,6 +131,7 @@ fn map_of(alloc: Global, row: &Row) -> Result<VolumeMap, Fail>
     Ok(VolumeMap {
         per_cluster: 1,
         clusters: 64,
+        mft: 0,
         table,
         files,
     })

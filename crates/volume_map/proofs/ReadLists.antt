@@ -37,7 +37,7 @@ one_step bytes before now End old new false is takes = λ whole. rw is (with_non
 one_step bytes before now Fault old new true is takes = absurd cc
 one_step bytes before now Fault old new false is takes = λ whole. rw is (with_none old.entries.items false) ∙ sym takes.1
 one_step bytes before now (Entry e) old new true is takes =
-    λ whole. (whole_is new _ _ takes.1 ∙ whole, ap (with_more old.entries.items) is ∙ with_one old.entries.items e (list_entries (drop now bytes)) ∙ ap (λ (es : List ListEntry). with_more es (list_entries (drop now bytes))) (sym (entries_is new _ _ takes.1)))
+    λ whole. (whole_is new _ _ takes.1 ∙ whole, ap (with_more old.entries.items) is.0 ∙ with_one old.entries.items e (list_entries (drop now bytes)) ∙ ap (λ (es : List ListEntry). with_more es (list_entries (drop now bytes))) (sym (entries_is new _ _ takes.1)))
 one_step bytes before now (Entry e) old new false is takes = absurd cc
 
 -- one step more of a list

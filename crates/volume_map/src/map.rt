@@ -23,6 +23,8 @@ pub struct VolumeMap {
     pub per_cluster: u64,
     /// How many clusters the volume has.
     pub clusters: u64,
+    /// The cluster at which the boot sector says that the file table begins.
+    pub mft: u64,
     /// The clusters of the file table, and its sizes.
     pub table: Extents,
     /// The files by number: the base records in use, each with all its attributes.
@@ -52,6 +54,7 @@ pub fn load_volume<V: View>(
     Ok(VolumeMap {
         per_cluster: geometry.per_cluster,
         clusters,
+        mft: geometry.mft,
         table,
         files,
     })
