@@ -13,7 +13,7 @@ use Rattle.disk_model.specs.Content.{Content}
 use Rattle.record_model.specs.declared.attribute.Attr.{Attr}
 use Rattle.record_model.specs.declared.record.RecHead.{RecHead}
 use Rattle.record_model.specs.ListEntries.{ReadEntries}
-use Rattle.record_model.specs.Records.{Record, record_at, rec_head_of, is_in_use, record_spelling}
+use Rattle.record_model.specs.Records.{Record, record_at, rec_head_of, has_in_use_flag, record_spelling}
 use Rattle.record_model.specs.Values.{attribute_list}
 use Rattle.record_model.proofs.RecordSpelling.{spelling_signed, record_spells}
 use Rattle.record_writer.proofs.Again.{read_again}
@@ -108,7 +108,7 @@ module _ (v : Layout) (layout : IsLayout v) (time : ℕ) (small : time < 2 ^ 64)
   spelled n = record_spelling (record_of v time n)
 
   pub used_by : (n : ℕ) → n < 64 → is_used (spelled n) ≡ eqb ((record_of v time n).head.flags % 2) 1
-  unfolding is_in_use rec_head_of
+  unfolding has_in_use_flag rec_head_of
   used_by n lt =
       let r = record_of v time n in
       let head = (record_spells r (record_fits v layout time small n lt)).head in
@@ -263,8 +263,8 @@ module _ (v : Layout) (layout : IsLayout v) (time : ℕ) (small : time < 2 ^ 64)
     loaded_here : volume_of c new_geometry v.clusters ≡ Ok (new_volume v time)
     unfolding volume_of
     loaded_here =
-        goes_on _ table (λ e. files_in c 8 e >>= λ files. Ok (record { per = 8; clusters = v.clusters; table = e; files = files })) table_read
-        ∙ goes_on _ (new_files v time) (λ files. Ok (record { per = 8; clusters = v.clusters; table = table; files = files })) files_read
+        goes_on _ table (λ e. files_in c 8 e >>= λ files. Ok (record { per = 8; clusters = v.clusters; mft = table_first; table = e; files = files })) table_read
+        ∙ goes_on _ (new_files v time) (λ files. Ok (record { per = 8; clusters = v.clusters; mft = table_first; table = table; files = files })) files_read
 
 pub volume_loaded : NewVolumeIsLoaded
 volume_loaded = λ v seed time c layout small has. loaded_here v layout time small seed c has

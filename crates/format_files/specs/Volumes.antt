@@ -28,7 +28,7 @@ unfoldable pub new_files : Layout → ℕ → List (Option Record)
 new_files v time = map (new_file v time) (range_with_len 0 64)
 
 abbrev pub new_volume : Layout → ℕ → Volume
-new_volume v time = record { per = 8; clusters = v.clusters; table = extents_at table_first 16 65536; files = new_files v time }
+new_volume v time = record { per = 8; clusters = v.clusters; mft = table_first; table = extents_at table_first 16 65536; files = new_files v time }
 
 -- the name of a system file, in the root
 abbrev pub new_link : ℕ → Link

@@ -18,7 +18,7 @@ use Rattle.volume_state.specs.Trees.{Holds, volume_journal, tree_with, tree_of, 
 use Rattle.volume_format.specs.declared.layout.Layout.{Layout}
 use Rattle.volume_format.specs.Layouts.{IsLayout}
 use Rattle.format_blocks.specs.Blocks.{HasBlocks}
-use Rattle.format_laws.specs.Trees.{new_tree, NewVolumeStands}
+use Rattle.format_laws.specs.Trees.{new_tree, LoadedVolumeStands}
 use Rattle.format_files.proofs.Linking.{vol, count_is, keeps_names_law}
 use Rattle.format_files.proofs.Bits.{free_are}
 use Rattle.format_files.proofs.Owning.{keeps_bits_law}
@@ -79,5 +79,5 @@ module _ (v : Layout) (layout : IsLayout v) (seed time : ℕ) (small : time < 2 
   unfolding checked
   checked_here = ap (reported c (vol v time)) kept ∙ ap (λ (t : Tree). Ok t) report_is
 
-pub stands : NewVolumeStands
+pub stands : LoadedVolumeStands
 stands = λ v seed time c layout small has. record { answer = checked_here v layout seed time small c has; holds = holds_here v layout seed time small c has }

@@ -1,6 +1,6 @@
 -- The streams of a new volume keep what streams have to keep.
 use Rattle.std.specs.Prelude.{◌==◌, not}
-use Rattle.std.proofs.Common.{◌≡◌, ℕ, zero, suc, ◌+◌, ◌*◌, ◌<◌, ◌≤◌, Bool, true, false, eqb, leb, ◌&&◌, ◌||◌, List, [], ◌∷◌, Option, Some, None, refl, ap, ◌∙◌, arith}
+use Rattle.std.proofs.Common.{◌≡◌, ℕ, zero, suc, ◌+◌, ◌*◌, ◌<◌, ◌≤◌, Bool, true, false, cond, eqb, leb, ◌&&◌, ◌||◌, List, [], ◌∷◌, Option, Some, None, refl, ap, ◌∙◌, arith}
 use Rattle.std.specs.List.{AllByRecursion, list_all, list_any, range_with_len}
 use Rattle.std.proofs.lemmas.Bool.{le-leb, eq-eqb, and_from}
 use Rattle.disk_model.specs.declared.block.Body.{Body}
@@ -15,11 +15,11 @@ use Rattle.record_model.specs.Values.{data_type}
 use Rattle.state_model.specs.declared.stream.Stream.{Stream}
 use Rattle.state_model.specs.declared.stream.Stream.TheVariants.{Placed}
 use Rattle.state_model.specs.Indexes.{names_index}
-use Rattle.state_model.specs.Rules.{implies, at_file}
+use Rattle.state_model.specs.Rules.{implies, at_file, first_failing}
 use Rattle.state_model.specs.Streams.{is_piece_of, pieces_of, joined, stream_of, block_at}
 use Rattle.state_model.specs.Loads.{data_stream, index_allocation}
 use Rattle.volume_model.specs.Volumes.{file_in, count_of, bitmap_type, size_or, record_bitmap, cluster_bitmap}
-use Rattle.volume_model.specs.Sizes.{fits_volume, keeps_stream, has_hole, keeps_whole, is_torn_at, begun, has_torn, stream_has_torn, keeps_untorn, is_initialised, keeps_table, keeps_bitmaps, keeps_streams, keeps_sizes}
+use Rattle.volume_model.specs.Sizes.{keeps_place, fits_volume, keeps_stream, has_hole, keeps_whole, is_torn_at, begun, has_torn, stream_has_torn, keeps_untorn, is_initialised, keeps_table, keeps_bitmaps, keeps_streams, keeps_sizes}
 use Rattle.volume_state.specs.Rules.{broken_4, file_count}
 use Rattle.volume_format.specs.declared.layout.Layout.{Layout}
 use Rattle.volume_format.specs.Layouts.{IsLayout, block_first, cluster_bits_first, cluster_bits_bytes}
@@ -237,6 +237,13 @@ module _ (v : Layout) (layout : IsLayout v) (seed time : ℕ) (c : Content) (has
       (of_each v time (λ k o. at_file (keeps_streams c (vol v time) k) o ≡ true) four_kept reserved_kept (λ k le. refl) n)
       (bitmaps_kept n)
 
+-- the file table begins at the cluster that the boot sector says
+table_in_place : (v : Layout) (time : ℕ) → keeps_place (vol v time) ≡ true
+unfolding keeps_place block_at
+table_in_place v time = refl
+
 pub keeps_sizes_law : NewVolumeKeepsSizes
 unfolding broken_4
-keeps_sizes_law = λ v seed time c layout small has. none_failing (keeps_sizes c (vol v time)) (file_count (vol v time)) (λ n lt. rule_4 v layout seed time c has n)
+keeps_sizes_law = λ v seed time c layout small has.
+    ap (λ (t : Bool). cond t (first_failing (keeps_sizes c (vol v time)) (file_count (vol v time))) (Some 0)) (table_in_place v time)
+    ∙ none_failing (keeps_sizes c (vol v time)) (file_count (vol v time)) (λ n lt. rule_4 v layout seed time c has n)

@@ -37,7 +37,7 @@ use Rattle.volume_format.specs.Images.{boot_of, log_bytes, formatted}
 use Rattle.format_blocks.specs.Blocks.{block, HasBlocks}
 use Rattle.format_files.specs.Volumes.{extents_at, new_geometry}
 use Rattle.format_laws.specs.Trees.{new_tree}
-use Rattle.format_laws.specs.Images.{FormattedStands}
+use Rattle.format_laws.specs.Images.{NewVolumeStands}
 use Rattle.format_blocks.proofs.Sizing.{length-log}
 use Rattle.format_blocks.proofs.Standing.{layout_fits, regions_stand}
 use Rattle.format_blocks.proofs.Bodies.{blocks_read}
@@ -163,7 +163,7 @@ device_sectors : (device : ℕ) → (layout_of device).sectors ≤ device
 unfolding layout_of
 device_sectors device = omega arith
 
-pub formatted_stands : FormattedStands
+pub formatted_stands : NewVolumeStands
 unfolding check_of
 formatted_stands = λ old seed time can.
     let disk = formatted old seed time in

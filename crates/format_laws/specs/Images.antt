@@ -6,6 +6,6 @@ use Rattle.image_check.specs.Checks.{check_of}
 use Rattle.format_blocks.specs.Regions.{CanFormat}
 use Rattle.format_laws.specs.Trees.{new_tree}
 
--- a check of a device that was formatted answers the tree of the twelve system files, with all clusters behind them free
-abbrev pub FormattedStands : Type 0
-FormattedStands = (old : List (List ℕ)) (seed time : ℕ) → CanFormat old seed time → check_of (formatted old seed time) ≡ Ok (new_tree (layout_of (length old)) time)
+-- a check of a device that was formatted answers the tree of the twelve system files, with all clusters after them free
+abbrev pub NewVolumeStands : Type 0
+NewVolumeStands = (old : List (List ℕ)) (seed time : ℕ) → CanFormat old seed time → check_of (formatted old seed time) ≡ Ok (new_tree (layout_of (length old)) time)

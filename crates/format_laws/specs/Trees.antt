@@ -36,7 +36,7 @@ new_node time n = record {
 abbrev pub new_spare : ℕ → FileRef
 new_spare n = record { number = n; seq = 1 }
 
--- The twelve system files with their names; the records 24 to 63 are for new files, and all clusters behind the used ones
+-- The twelve system files with their names; the records 24 to 63 are for new files, and all clusters after the used ones
 -- are free.
 abbrev pub new_tree : Layout → ℕ → Tree
 new_tree v time = record {
@@ -53,5 +53,5 @@ pub record StandsForTree (v : Layout) (time : ℕ) (c : Content) : Type 0 where
   pub holds : Holds c (new_volume v time) (new_tree v time)
   pub answer : checked c (new_volume v time) ≡ Ok (new_tree v time)
 
-abbrev pub NewVolumeStands : Type 0
-NewVolumeStands = (v : Layout) (seed time : ℕ) (c : Content) → IsLayout v → time < 2 ^ 64 → HasBlocks v seed time c → StandsForTree v time c
+abbrev pub LoadedVolumeStands : Type 0
+LoadedVolumeStands = (v : Layout) (seed time : ℕ) (c : Content) → IsLayout v → time < 2 ^ 64 → HasBlocks v seed time c → StandsForTree v time c

@@ -1,6 +1,6 @@
-ghost use Rattle.format_laws.specs.Images.{FormattedStands};
+ghost use Rattle.format_laws.specs.Images.{NewVolumeStands};
 ghost use Rattle.format_laws.specs.Rules.{NewVolumeKeepsIndexes, NewVolumeKeepsSizes};
-ghost use Rattle.format_laws.specs.Trees.{NewVolumeStands};
+ghost use Rattle.format_laws.specs.Trees.{LoadedVolumeStands};
 
 /// Law: the streams of a new volume are whole, lie in it and have lawful sizes, and none of its
 /// records and blocks is torn.
@@ -17,11 +17,11 @@ pub fn new_volume_keeps_indexes()
 /// Law: a new volume that was loaded breaks no rule and stands for the tree of its twelve system
 /// files, which a check answers.
 pub fn loaded_volume_stands()
-    ensures { NewVolumeStands }
+    ensures { LoadedVolumeStands }
 {}
 
 /// Law: the image that is written onto a device stands for the tree of a new volume: a check of it
-/// answers the twelve system files, with all clusters behind them free.
+/// answers the twelve system files, with all clusters after them free.
 pub fn new_volume_stands()
-    ensures { FormattedStands }
+    ensures { NewVolumeStands }
 {}

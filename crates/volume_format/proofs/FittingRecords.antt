@@ -106,7 +106,7 @@ bytes_small Absent fits = omega arith
 bytes_small Empty fits = omega arith
 bytes_small (Clusters first clusters bytes) fits = let few : clusters < 2 ^ 32 = fits.1 in let room : bytes ≤ 4096 * clusters = fits.3 in omega arith
 
-name_fits : (v : Layout) → IsLayout v → (time n : ℕ) → time < 2 ^ 64 → n < 12 → FitsFileName (name_fields v time n)
+pub name_fits : (v : Layout) → IsLayout v → (time n : ℕ) → time < 2 ^ 64 → n < 12 → FitsFileName (name_fields v time n)
 unfolding sequence
 name_fits v fits time n small lt = record {
   number = omega arith;

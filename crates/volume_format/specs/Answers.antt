@@ -4,7 +4,7 @@ use Rattle.host_base.specs.Answers.{◌>>=◌, needs, Cause, refused, no_memory,
 use Rattle.boot_sector.specs.BootSectors.{most_clusters}
 use Rattle.volume_format.specs.declared.fault.Formatted.{Formatted}
 use Rattle.volume_format.specs.declared.fault.FormatFault.{FormatFault}
-use Rattle.volume_format.specs.declared.fault.FormatFault.TheVariants.{VolumeLarge, Short, Device, Memory}
+use Rattle.volume_format.specs.declared.fault.FormatFault.TheVariants.{VolumeLarge, Short, Fault, Memory}
 use Rattle.volume_format.specs.Layouts.{clusters_of, least_sectors, layout_of, room}
 
 -- No sector can't hold a boot sector; then the volume may be too large; then the device too short for what is written.
@@ -19,7 +19,7 @@ format_answer device =
 abbrev pub format_cause : FormatFault → Cause FormatFault
 format_cause (VolumeLarge clusters) = refused (VolumeLarge clusters)
 format_cause (Short sectors device) = refused (Short sectors device)
-format_cause Device = failed
+format_cause Fault = failed
 format_cause Memory = no_memory
 
 -- what reads give, the moment and the count of faults stay: the device wasn't called

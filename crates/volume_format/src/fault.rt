@@ -1,5 +1,5 @@
 ghost use Rattle.std.specs.Prelude.{◌≡◌};
-ghost use Rattle.volume_format.specs.declared.fault.FormatFault.TheVariants.{Device as device_failed, Memory as no_memory};
+ghost use Rattle.volume_format.specs.declared.fault.FormatFault.TheVariants.{Fault as device_failed, Memory as no_memory};
 
 use host_base::{Failed, Memory};
 use std::alloc::AllocError;
@@ -23,7 +23,7 @@ pub enum FormatFault {
     #[error("{sectors} sectors are needed and the device has {device}")]
     Short { sectors: u64, device: u64 },
     #[error("the device failed")]
-    Device,
+    Fault,
     #[error("no memory")]
     Memory,
 }
@@ -40,7 +40,7 @@ impl From<Failed> for FormatFault {
     ghost from_gives = { λ _ e. e ≡ device_failed };
 
     fn from(_: Failed) -> Self {
-        FormatFault::Device
+        FormatFault::Fault
     }
 }
 

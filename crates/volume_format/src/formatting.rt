@@ -2,7 +2,7 @@ ghost use Rattle.std.specs.Prelude.{◌≡◌, ◌+◌, ◌*◌, ◌≤◌, ◌�
 ghost use Rattle.std.specs.Option.{option_map};
 ghost use Rattle.host_base.specs.Answers.{GivesOrFails};
 ghost use Rattle.host_base.specs.Causes.{HasFailed};
-ghost use Rattle.volume_format.specs.declared.fault.FormatFault.TheVariants.{Device as device_failed, Memory as no_memory};
+ghost use Rattle.volume_format.specs.declared.fault.FormatFault.TheVariants.{Fault as device_failed, Memory as no_memory};
 ghost use Rattle.volume_format.specs.Layouts.{IsLayout, layout_of, device_calls};
 ghost use Rattle.volume_format.specs.Answers.{format_answer, format_cause, IsUntouched};
 ghost use Rattle.volume_format.specs.Images.{formatted, Puts, regions};
@@ -24,7 +24,8 @@ const LEAST_SECTORS: u64 = 4537;
 fn check(device: u64) -> Result<Formatted, FormatFault>
     ensures answer { result ≡ format_answer device }
     ensures layout { OnOk result (IsLayout (layout_of device)) }
-    ensures never { ¬ IsErrOf result device_failed }
+    ensures never_failed { ¬ IsErrOf result device_failed }
+    ensures never_wanting { ¬ IsErrOf result no_memory }
 {
     if device == 0 {
         return Err(FormatFault::Short {
@@ -59,6 +60,7 @@ fn write_volume<D: Device>(
     requires layout { IsLayout v }
     requires within { 8 * v.clusters ≤ D.sector_count device.old }
     ensures causes { IsErr result → IsErrOf result device_failed ⊎ IsErrOf result no_memory }
+    ensures memory { IsErrOf result no_memory → IsUntouched (D.gives device.old) (D.gives device.new) (D.moment_of device.old) (D.moment_of device.new) (D.fault_count device.old) (D.fault_count device.new) }
     ensures image { OnOk result (Puts (regions v seed time) (D.gives device.old) (D.gives device.new)) }
     ensures moment { OnOk result (D.moment_of device.new ≡ D.moment_of device.old + 2 * device_calls v) }
     ensures sectors { D.sector_count device.new ≡ D.sector_count device.old }
@@ -82,8 +84,9 @@ fn write_volume<D: Device>(
 /// - [`FormatFault::Short`]: the device has no sector, or fewer than 4,537.
 /// - [`FormatFault::VolumeLarge`]: there would be more than 16,777,216 clusters. It comes before
 ///   the second case of `Short`. After these two the device wasn't called.
-/// - [`FormatFault::Device`]: the device failed; what was written until then stands there.
-/// - [`FormatFault::Memory`]: want of memory.
+/// - [`FormatFault::Fault`]: the device failed; what was written until then stands there, of which the
+///   boot sector is the last.
+/// - [`FormatFault::Memory`]: want of memory; the device wasn't called.
 pub fn format<D: Device>(
     alloc: Global,
     device: &mut D,
@@ -93,6 +96,8 @@ pub fn format<D: Device>(
     ensures answer { GivesOrFails (λ formatted. formatted) format_cause result (format_answer (D.sector_count device.old)) }
     ensures image { IfOk result (λ _. D.gives device.new ≡ option_map (λ old. formatted old seed time) (D.gives device.old)) }
     ensures calls { IfOk result (λ _. D.moment_of device.new ≡ D.moment_of device.old + 2 * device_calls (layout_of (D.sector_count device.old))) }
+    ensures only { IsErr (format_answer (D.sector_count device.old)) → result ≡ format_answer (D.sector_count device.old) }
+    ensures memory { IsErrOf result no_memory → IsUntouched (D.gives device.old) (D.gives device.new) (D.moment_of device.old) (D.moment_of device.new) (D.fault_count device.old) (D.fault_count device.new) }
     ensures refused { IsErr (format_answer (D.sector_count device.old)) → IsUntouched (D.gives device.old) (D.gives device.new) (D.moment_of device.old) (D.moment_of device.new) (D.fault_count device.old) (D.fault_count device.new) }
     ensures sectors { D.sector_count device.new ≡ D.sector_count device.old }
     ensures later { D.fault_count device.old ≤ D.fault_count device.new }

@@ -66,7 +66,7 @@ fn answers_by_the_sectors(rt: HostRuntime) -> Result<(), Fail> {
 fn fails_with_the_device(rt: HostRuntime) -> Result<(), Fail> {
     for call in [1, 20, 42] {
         let mut device = blank(rt.alloc(), 4617, &[call])?;
-        let failed = Err(FormatFault::Device);
+        let failed = Err(FormatFault::Fault);
         assert_eq!(rt; format(rt.alloc(), &mut device, 0, 0), failed);
         assert_eq!(rt; device.faults(), 1);
     }
