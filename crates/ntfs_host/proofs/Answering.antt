@@ -1,15 +1,28 @@
 -- The text of an answer, on a device whose sectors may be known.
-use Rattle.std.proofs.Common.{◌≡◌, ℕ, List, Option, Result, Ok, ap, sym}
+use Rattle.std.proofs.Common.{◌≡◌, ℕ, List, Option, Result, Ok, Err, refl, ap, sym}
 use Rattle.std.specs.Global.{Global}
-use Rattle.std.specs.Prelude.{IfSome, String, string_bytes}
+use Rattle.std.specs.Prelude.{IfSome, IsErr, String, string_bytes}
 use Rattle.host_base.specs.Answers.{◌>>=◌, GivesOrFails}
 use Rattle.host_base.proofs.Known.{one}
 use Rattle.image_scan.specs.declared.refusal.Refusal.{Refusal}
 use Rattle.image_scan.specs.declared.refusal.ScanError.{ScanError}
-use Rattle.image_scan.specs.Errors.{scan_cause}
+use Rattle.image_scan.specs.Errors.{scan_cause, refused_as}
+use Rattle.volume_format.specs.declared.fault.FormatFault.{FormatFault}
+use Rattle.volume_format.specs.declared.fault.Formatted.{Formatted}
+use Rattle.volume_format.specs.Answers.{format_answer}
+use Rattle.ntfs_host.specs.Answers.{format_refusal, format_line}
+use Rattle.ntfs_host.specs.Text.{formatted_line}
 
 -- the value is known, and the text is printed of it
 pub text_is : {A : Type 0} (known : Option (List (List ℕ))) (x : A) (text : String Global) (f : List (List ℕ) → Result A Refusal) (print : A → List ℕ)
     → IfSome known (λ disk. f disk ≡ Ok x) → string_bytes text ≡ print x
     → IfSome known (λ disk. GivesOrFails {X = String Global} {E = ScanError} (λ t. string_bytes t) scan_cause (Ok text) (f disk >>= λ y. Ok (print y)))
 text_is known x text f print value is = one known _ _ (λ disk e. rw e (ap (λ t. Ok t) (sym is))) value
+
+-- a format whose line is that of a refusal is refused
+refused_line : (answer : Result Formatted FormatFault) → IsErr (refused_as format_refusal answer >>= λ f. Ok (formatted_line f)) → IsErr answer
+refused_line (Ok f) e = absurd cc
+refused_line (Err fault) e = refl
+
+pub line_is_refused : (sectors : ℕ) → IsErr (format_line sectors) → IsErr (format_answer sectors)
+line_is_refused sectors e = refused_line (format_answer sectors) e

@@ -5,4 +5,5 @@ pub mod Standing
 pub mod Steps
 pub mod RunSteps
 pub mod LoadSteps
+pub mod Losses
 pub mod Worded

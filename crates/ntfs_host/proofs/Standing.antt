@@ -5,7 +5,7 @@ use Rattle.disk_model.specs.declared.block.BlockKind.TheVariants.{FileRec}
 use Rattle.disk_model.specs.declared.fixups.FixupFault.{FixupFault}
 use Rattle.disk_model.specs.Fixups.{fixup_of, body_bytes}
 use Rattle.disk_model.specs.Content.{is_signed, signed_body, whole_or_torn, plain_body, body_of}
-use Rattle.record_model.specs.Records.{record_at, is_in_use}
+use Rattle.record_model.specs.Records.{record_at, has_in_use_flag}
 use Rattle.ntfs_host.specs.declared.piece.Piece.{Piece}
 use Rattle.ntfs_host.specs.declared.piece.Piece.TheVariants.{Torn, Free}
 use Rattle.ntfs_host.specs.Pieces.{piece_in, is_used, piece_of}
@@ -50,4 +50,4 @@ torn_is raw fault signed e =
 
 -- an unsigned record is free
 pub unsigned_is_free : (raw : List ℕ) → is_signed FileRec raw ≡ false → piece_of (body_of FileRec raw) ≡ Free
-unsigned_is_free raw e = ap piece_of (unsigned_is raw e) ∙ free_is (plain_body raw) refl (ap (λ (b : Bool). b && is_in_use raw) e)
+unsigned_is_free raw e = ap piece_of (unsigned_is raw e) ∙ free_is (plain_body raw) refl (ap (λ (b : Bool). b && has_in_use_flag raw) e)

@@ -41,13 +41,13 @@ journal_answer disk = journal_of disk >>= λ j. Ok (journal_text j.entries j.fir
 abbrev pub format_refusal : FormatFault → Refusal
 format_refusal (formats.VolumeLarge clusters) = VolumeLarge clusters
 format_refusal (formats.Short sectors device) = Short sectors device
-format_refusal formats.Device = Unbuilt 0
+format_refusal formats.Fault = Unbuilt 0
 format_refusal formats.Memory = Unbuilt 0
 
 abbrev pub error_of_format : FormatFault → ScanError
 error_of_format (formats.VolumeLarge clusters) = errors.Refused (VolumeLarge clusters)
 error_of_format (formats.Short sectors device) = errors.Refused (Short sectors device)
-error_of_format formats.Device = errors.Device
+error_of_format formats.Fault = errors.Device
 error_of_format formats.Memory = errors.Memory
 
 -- the line of the volume that a format makes on so many sectors

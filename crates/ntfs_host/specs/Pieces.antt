@@ -3,7 +3,7 @@ use Rattle.std.specs.Prelude.{ℕ, Bool, ◌&&◌, List, Result, Ok, Err, if◌t
 use Rattle.disk_model.specs.declared.block.Body.{Body}
 use Rattle.disk_model.specs.declared.block.BlockKind.TheVariants.{FileRec}
 use Rattle.disk_model.specs.Content.{is_signed}
-use Rattle.record_model.specs.Records.{Record, record_at, is_in_use}
+use Rattle.record_model.specs.Records.{Record, record_at, has_in_use_flag}
 use Rattle.ntfs_host.specs.declared.piece.Piece.{Piece}
 use Rattle.ntfs_host.specs.declared.piece.Piece.TheVariants.{Torn, Free, Broken, Used}
 
@@ -13,7 +13,7 @@ piece_in (Err rule) = Broken rule
 
 -- a record in use begins FILE and has the flag in use
 abbrev pub is_used : List ℕ → Bool
-is_used bytes = is_signed FileRec bytes && is_in_use bytes
+is_used bytes = is_signed FileRec bytes && has_in_use_flag bytes
 
 unfoldable pub piece_of : Body → Piece
 piece_of body = if body.torn then Torn else if is_used body.bytes then piece_in (record_at body.bytes) else Free

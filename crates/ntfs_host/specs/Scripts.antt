@@ -1,9 +1,11 @@
 -- A script that is read from a source.
-use Rattle.std.specs.Prelude.{ℕ, List, [], ◌∷◌, ◌++◌, codes}
+use Rattle.std.specs.Prelude.{ℕ, ◌≤◌, List, [], ◌∷◌, ◌++◌, length, codes, Option, IfSome, IsOk}
 use Rattle.std.specs.Fmt.{decimal}
+use Rattle.std.specs.Io.KnownBytes.{Consumes, IsAtEnd}
 use Rattle.host_base.specs.Answers.{Cause, refused, no_memory, failed}
 use Rattle.script_text.specs.declared.fault.ScriptFault.{ScriptFault}
 use Rattle.script_text.specs.declared.fault.ScriptFault.TheVariants as script
+use Rattle.script_text.specs.Scripts.{script_of}
 use Rattle.ntfs_host.specs.declared.scripts.ScriptError.{ScriptError}
 use Rattle.ntfs_host.specs.declared.scripts.ScriptError.TheVariants as errors
 
@@ -12,6 +14,17 @@ abbrev pub script_error_cause : ScriptError → Cause ScriptFault
 script_error_cause errors.Memory = no_memory
 script_error_cause errors.Source = failed
 script_error_cause (errors.Refused fault) = refused fault
+
+-- at most so many bytes of a source were read, from the front of what it had left
+pub record LosesAtMost (most : ℕ) (left left_now : Option (List ℕ)) : Type 0 where
+  pub front : List ℕ
+  pub few : length front ≤ most
+  pub lost : Consumes left left_now front
+
+-- What a source had left is a script, and the source was read to its end.
+pub record IsAccepted (left left_now : Option (List ℕ)) : Type 0 where
+  pub script : IfSome left (λ bytes. IsOk (script_of bytes))
+  pub whole : IsAtEnd left_now
 
 -- the line that says what refuses a script
 unfoldable pub script_line : ScriptFault → List ℕ

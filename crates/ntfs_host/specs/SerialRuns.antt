@@ -1,5 +1,5 @@
 -- A run without threads, on a tree that it doesn't change.
-use Rattle.std.specs.Prelude.{◌≡◌, ◌≢◌, ℕ, ◌+◌, ◌≤◌, List, [], ◌∷◌, ◌++◌, length, take, None}
+use Rattle.std.specs.Prelude.{◌≡◌, ◌≢◌, ℕ, ◌+◌, ◌≤◌, List, [], ◌∷◌, ◌++◌, length, take, None, All}
 use Rattle.host_base.specs.declared.file_ref.FileRef.{FileRef}
 use Rattle.tree_model.specs.declared.node.Node.{Node}
 use Rattle.tree_model.specs.declared.link.Link.{Link}
@@ -17,12 +17,13 @@ use Rattle.run_model.specs.Runs.{SerialRun, IsWhole, IsCounted, own, turn_comman
 abbrev pub tree_with : List Node → List Link → List FileRef → ℕ → ℕ → Tree
 tree_with nodes links spare count room = record { nodes = nodes; links = links; spare = spare; count = count; journal = None; room = room }
 
--- The turns are a serial run of the script from such a tree, in which each command has its turn, and no turn has counted more faults than
--- the device; so none is answered by a fault.
-pub record IsRunOf (upper : List ℕ) (nodes : List Node) (links : List Link) (script : List Command) (faults : ℕ) (turns : List Turn) : Type 0 where
-  pub run : (spare : List FileRef) (count room : ℕ) → SerialRun (record { upper = upper; script = script; base = 0; faults = faults }) turns (tree_with nodes links spare count room) (tree_with nodes links spare count room)
+-- The turns are a serial run of the script from such a tree, of which the one with the serial k is at the time `time + k`, in which each
+-- command has its turn; no turn has counted more faults than the device, and none is answered by a fault.
+pub record IsRunOf (upper : List ℕ) (nodes : List Node) (links : List Link) (script : List Command) (time faults : ℕ) (turns : List Turn) : Type 0 where
+  pub run : (spare : List FileRef) (count room : ℕ) → SerialRun (record { upper = upper; script = script; base = time; faults = faults }) turns (tree_with nodes links spare count room) (tree_with nodes links spare count room)
   pub all : IsWhole script turns
   pub counted : IsCounted faults turns
+  pub no_fault : All (λ (t : Turn). t.reply ≢ Fault) turns
 
 -- the turn of a command's operation on a tree with these nodes and links, at this moment and count of faults of the device
 pub record IsTurnOf (upper : List ℕ) (nodes : List Node) (links : List Link) (moment faults serial : ℕ) (c : Command) (op : Op) (t : Turn) : Type 0 where
@@ -43,9 +44,10 @@ Follows upper nodes links moment faults c (Operation op) old new = (t : Turn) ×
 Follows upper nodes links moment faults c (Find name) old new = new ≡ old
 
 -- the turns of the first commands of a script
-pub record IsRunSoFar (upper : List ℕ) (nodes : List Node) (links : List Link) (script : List Command) (moment faults i : ℕ) (turns : List Turn) : Type 0 where
-  pub run : (spare : List FileRef) (count room : ℕ) → SerialRun (record { upper = upper; script = script; base = 0; faults = faults }) turns (tree_with nodes links spare count room) (tree_with nodes links spare count room)
+pub record IsRunSoFar (upper : List ℕ) (nodes : List Node) (links : List Link) (script : List Command) (time moment faults i : ℕ) (turns : List Turn) : Type 0 where
+  pub run : (spare : List FileRef) (count room : ℕ) → SerialRun (record { upper = upper; script = script; base = time; faults = faults }) turns (tree_with nodes links spare count room) (tree_with nodes links spare count room)
   pub each : (client : ℕ) → length (own turns client) ≡ length (turn_commands (take i script) client)
-  pub time : last_moment 0 turns ≤ moment
+  pub moments : last_moment 0 turns ≤ moment
   pub fault : (client : ℕ) → last_faults faults (own turns client) ≤ faults
   pub counted : IsCounted faults turns
+  pub no_fault : All (λ (t : Turn). t.reply ≢ Fault) turns

@@ -1,5 +1,5 @@
 //! The texts that answer the commands that run no script.
-ghost use Rattle.std.specs.Prelude.{◌≡◌, IfOk, IfErr, IfSome, IsErrOf, string_bytes};
+ghost use Rattle.std.specs.Prelude.{◌≡◌, ◌≤◌, ◌⊎◌, IfOk, IfErr, IfSome, IsErr, IsErrOf, string_bytes};
 ghost use Rattle.std.specs.Option.{option_map};
 ghost use Rattle.host_base.specs.Answers.{GivesOrFails};
 ghost use Rattle.host_base.specs.Causes.{HasFailed};
@@ -58,6 +58,8 @@ fn text_of_journal(alloc: Global, journal: &ReadJournal) -> Result<String, Memor
 fn scan_answer<D: Device>(alloc: Global, device: &mut D) -> Result<String, ScanError>
     ensures answer { IfSome (D.gives device.old) (λ disk. GivesOrFails (λ text. string_bytes text) scan_cause result (scan_answer disk)) }
     ensures gives { D.gives device.new ≡ D.gives device.old }
+    ensures sectors { D.sector_count device.new ≡ D.sector_count device.old }
+    ensures later { D.fault_count device.old ≤ D.fault_count device.new }
     ensures fault { IsErrOf result ScanError.Device → HasFailed (D.fault_count device.old) (D.fault_count device.new) (D.moment_of device.new) }
 {
     let links = scan_image(alloc, device)?;
@@ -68,6 +70,8 @@ fn scan_answer<D: Device>(alloc: Global, device: &mut D) -> Result<String, ScanE
 fn dump_answer<D: Device>(alloc: Global, device: &mut D) -> Result<String, ScanError>
     ensures answer { IfSome (D.gives device.old) (λ disk. GivesOrFails (λ text. string_bytes text) scan_cause result (dump_answer disk)) }
     ensures gives { D.gives device.new ≡ D.gives device.old }
+    ensures sectors { D.sector_count device.new ≡ D.sector_count device.old }
+    ensures later { D.fault_count device.old ≤ D.fault_count device.new }
     ensures fault { IsErrOf result ScanError.Device → HasFailed (D.fault_count device.old) (D.fault_count device.new) (D.moment_of device.new) }
 {
     let tree = check_image(alloc, device)?;
@@ -78,6 +82,8 @@ fn dump_answer<D: Device>(alloc: Global, device: &mut D) -> Result<String, ScanE
 fn check_answer<D: Device>(alloc: Global, device: &mut D) -> Result<String, ScanError>
     ensures answer { IfSome (D.gives device.old) (λ disk. GivesOrFails (λ text. string_bytes text) scan_cause result (check_answer disk)) }
     ensures gives { D.gives device.new ≡ D.gives device.old }
+    ensures sectors { D.sector_count device.new ≡ D.sector_count device.old }
+    ensures later { D.fault_count device.old ≤ D.fault_count device.new }
     ensures fault { IsErrOf result ScanError.Device → HasFailed (D.fault_count device.old) (D.fault_count device.new) (D.moment_of device.new) }
 {
     let tree = check_image(alloc, device)?;
@@ -88,6 +94,8 @@ fn check_answer<D: Device>(alloc: Global, device: &mut D) -> Result<String, Scan
 fn journal_answer<D: Device>(alloc: Global, device: &mut D) -> Result<String, ScanError>
     ensures answer { IfSome (D.gives device.old) (λ disk. GivesOrFails (λ text. string_bytes text) scan_cause result (journal_answer disk)) }
     ensures gives { D.gives device.new ≡ D.gives device.old }
+    ensures sectors { D.sector_count device.new ≡ D.sector_count device.old }
+    ensures later { D.fault_count device.old ≤ D.fault_count device.new }
     ensures fault { IsErrOf result ScanError.Device → HasFailed (D.fault_count device.old) (D.fault_count device.new) (D.moment_of device.new) }
 {
     let journal = read_journal(alloc, device)?;
@@ -104,7 +112,7 @@ fn error_of_format(fault: FormatFault) -> ScanError
         FormatFault::Short { sectors, device } => {
             ScanError::Refused(Refusal::Short { sectors, device })
         }
-        FormatFault::Device => ScanError::Device,
+        FormatFault::Fault => ScanError::Device,
         FormatFault::Memory => ScanError::Memory,
     }
 }
@@ -119,6 +127,10 @@ fn make_volume<D: Device>(
     ensures answer { GivesOrFails (λ f. f) scan_cause result (refused_as format_refusal (format_answer (D.sector_count device.old))) }
     ensures image { IfOk result (λ f. D.gives device.new ≡ option_map (λ disk. formatted disk seed time) (D.gives device.old)) }
     ensures refused { IfErr result (λ e. IsRefusal e → D.gives device.new ≡ D.gives device.old) }
+    ensures left_refused { IsErr (format_answer (D.sector_count device.old)) → D.gives device.new ≡ D.gives device.old }
+    ensures wanting { IsErrOf result ScanError.Memory → D.gives device.new ≡ D.gives device.old }
+    ensures sectors { D.sector_count device.new ≡ D.sector_count device.old }
+    ensures later { D.fault_count device.old ≤ D.fault_count device.new }
     ensures fault { IsErrOf result ScanError.Device → HasFailed (D.fault_count device.old) (D.fault_count device.new) (D.moment_of device.new) }
 {
     match format(alloc, device, seed, time) {
@@ -128,6 +140,7 @@ fn make_volume<D: Device>(
 }
 
 // The line of a volume that was made.
+#[tactic(auto, using(crate::proofs::Answering::line_is_refused))]
 fn format_answer<D: Device>(
     alloc: Global,
     device: &mut D,
@@ -137,6 +150,10 @@ fn format_answer<D: Device>(
     ensures answer { GivesOrFails (λ text. string_bytes text) scan_cause result (format_line (D.sector_count device.old)) }
     ensures image { IfOk result (λ text. D.gives device.new ≡ option_map (λ disk. formatted disk seed time) (D.gives device.old)) }
     ensures refused { IfErr result (λ e. IsRefusal e → D.gives device.new ≡ D.gives device.old) }
+    ensures left_refused { IsErr (format_line (D.sector_count device.old)) → D.gives device.new ≡ D.gives device.old }
+    ensures wanting { IsErrOf result ScanError.Memory → (D.gives device.new ≡ D.gives device.old) ⊎ (D.gives device.new ≡ option_map (λ disk. formatted disk seed time) (D.gives device.old)) }
+    ensures sectors { D.sector_count device.new ≡ D.sector_count device.old }
+    ensures later { D.fault_count device.old ≤ D.fault_count device.new }
     ensures fault { IsErrOf result ScanError.Device → HasFailed (D.fault_count device.old) (D.fault_count device.new) (D.moment_of device.new) }
 {
     let formatted = make_volume(alloc, device, seed, time)?;
@@ -156,7 +173,11 @@ pub fn answer<D: Device>(
     ensures answer { IfSome (D.gives device.old) (λ disk. GivesOrFails (λ text. string_bytes text) scan_cause result (answer_of command.now disk)) }
     ensures leaves { IfOk result (λ text. Leaves command.now (D.gives device.old) (D.gives device.new)) }
     ensures refused { IfErr result (λ e. IsRefusal e → D.gives device.new ≡ D.gives device.old) }
+    ensures left_refused { IfSome (D.gives device.old) (λ disk. IsErr (answer_of command.now disk) → D.gives device.new ≡ D.gives device.old) }
+    ensures wanting { IsErrOf result ScanError.Memory → (D.gives device.new ≡ D.gives device.old) ⊎ Leaves command.now (D.gives device.old) (D.gives device.new) }
     ensures reads { IsReader command.now → D.gives device.new ≡ D.gives device.old }
+    ensures sectors { D.sector_count device.new ≡ D.sector_count device.old }
+    ensures later { D.fault_count device.old ≤ D.fault_count device.new }
     ensures fault { IsErrOf result ScanError.Device → HasFailed (D.fault_count device.old) (D.fault_count device.new) (D.moment_of device.new) }
 {
     match command {

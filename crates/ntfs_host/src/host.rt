@@ -1,5 +1,5 @@
 //! The top call.
-ghost use Rattle.std.specs.Prelude.{◌≡◌, ◌≢◌, ◌⊎◌, ◌↔◌, IsTrue, None, IfOk, IfSome, IsSomeAnd, IsOk, IsErr, IsErrAnd, Ok, ◌≤◌};
+ghost use Rattle.std.specs.Prelude.{◌≡◌, ◌⊎◌, None, IfOk, IfSome, IsSomeAnd, IsOk, IsErr, IsErrAnd, Ok, ◌≤◌};
 ghost use Rattle.std.specs.Io.KnownBytes.{Appends};
 ghost use Rattle.host_base.specs.Causes.{Rose, HasFailed, AppendsPart};
 ghost use Rattle.script_text.specs.Scripts.{script_of};
@@ -7,10 +7,10 @@ ghost use Rattle.upcase_order.specs.Tables.{standard_table};
 ghost use Rattle.ntfs_host.specs.Answers.{answer_of, IsReader, Leaves};
 ghost use Rattle.ntfs_host.specs.Mounts.{mounted_of};
 ghost use Rattle.ntfs_host.specs.Runs.{PrintsScript, PrintsScriptPart, IsRunStatus};
-ghost use Rattle.ntfs_host.specs.Scripts.{script_line};
+ghost use Rattle.ntfs_host.specs.Scripts.{script_line, IsAccepted, LosesAtMost};
 ghost use Rattle.ntfs_host.specs.Text.{printed};
 ghost use Rattle.ntfs_host.specs.Statuses.{IsQuietStatus};
-ghost use Rattle.ntfs_host.specs.Words.{command_in, quiet_some, quiet_in, RunsSome, IsRun, Reads, usage};
+ghost use Rattle.ntfs_host.specs.Words.{command_in, quiet_some, quiet_in, run_some, run_in, IsRun, Reads, usage};
 
 use crate::answers::answer;
 use crate::command::Quiet;
@@ -72,9 +72,12 @@ fn answer_into<K: Sink, D: Device>(
     ensures leaves { result ≡ 0 → Leaves command.now (D.gives device.old) (D.gives device.new) }
     ensures kept { result ≡ 3 → D.gives device.new ≡ D.gives device.old }
     ensures left { result ≡ 7 → Leaves command.now (D.gives device.old) (D.gives device.new) ⊎ (D.gives device.new ≡ D.gives device.old) }
+    ensures left_wanting { result ≡ 6 → (D.gives device.new ≡ D.gives device.old) ⊎ Leaves command.now (D.gives device.old) (D.gives device.new) }
     ensures left_done { result ≡ 7 → IfSome (D.gives device.old) (λ disk. IsOk (answer_of command.now disk) → Leaves command.now (D.gives device.old) (D.gives device.new)) }
-    ensures left_refused { result ≡ 7 → IfSome (D.gives device.old) (λ disk. IsErr (answer_of command.now disk) → D.gives device.new ≡ D.gives device.old) }
+    ensures left_refused { IfSome (D.gives device.old) (λ disk. IsErr (answer_of command.now disk) → D.gives device.new ≡ D.gives device.old) }
     ensures reads { IsReader command.now → D.gives device.new ≡ D.gives device.old }
+    ensures sectors { D.sector_count device.new ≡ D.sector_count device.old }
+    ensures later { D.fault_count device.old ≤ D.fault_count device.new }
 {
     match answer(alloc, command, device) {
         Ok(text) => print_text(sink, text.as_str()),
@@ -144,14 +147,18 @@ pub fn quiet_command<K: Sink, D: Device>(
     ensures device_failed { result.status ≡ 8 → HasFailed (D.fault_count device) (D.fault_count result.device) (D.moment_of result.device) }
     ensures silent { result.status ≡ 8 → K.taken sink.new ≡ K.taken sink.old }
 
-    // What reads of the device give stays, but for a format; a refusal leaves it too. A format whose line
-    // isn't written has made its volume, or was refused.
+    // What reads of the device give stays, but for a format; a refusal leaves it too, whatever comes of its
+    // line. A format whose line isn't written has made its volume, or was refused; one that wants memory has made
+    // its volume, or leaves all. A device has as many sectors as before, and its faults don't fall.
     ensures reads { IsReader command.now → D.gives result.device ≡ D.gives device }
     ensures kept { result.status ≡ 3 → D.gives result.device ≡ D.gives device }
     ensures leaves { result.status ≡ 0 → Leaves command.now (D.gives device) (D.gives result.device) }
     ensures left { result.status ≡ 7 → Leaves command.now (D.gives device) (D.gives result.device) ⊎ (D.gives result.device ≡ D.gives device) }
+    ensures left_wanting { result.status ≡ 6 → (D.gives result.device ≡ D.gives device) ⊎ Leaves command.now (D.gives device) (D.gives result.device) }
     ensures left_done { result.status ≡ 7 → IfSome (D.gives device) (λ disk. IsOk (answer_of command.now disk) → Leaves command.now (D.gives device) (D.gives result.device)) }
-    ensures left_refused { result.status ≡ 7 → IfSome (D.gives device) (λ disk. IsErr (answer_of command.now disk) → D.gives result.device ≡ D.gives device) }
+    ensures left_refused { IfSome (D.gives device) (λ disk. IsErr (answer_of command.now disk) → D.gives result.device ≡ D.gives device) }
+    ensures sectors { D.sector_count result.device ≡ D.sector_count device }
+    ensures later { D.fault_count device ≤ D.fault_count result.device }
 
     // With no refusal and no fault the command is done, or memory is wanting.
     ensures complete { IsSomeAnd (D.gives device) (λ disk. IsOk (answer_of command.now disk)) → ¬ Rose (K.faults sink.old) (K.faults sink.new) → ¬ HasFailed (D.fault_count device) (D.fault_count result.device) (D.moment_of result.device) → (result.status ≡ 0) ⊎ (result.status ≡ 6) }
@@ -192,12 +199,13 @@ fn quiet_of(command: &Option<Command>) -> Option<Quiet>
     }
 }
 
-fn is_run(command: &Option<Command>) -> bool
-    ensures { IsTrue result ↔ RunsSome command.now }
+// The time from which the command runs a script, where it is one that does.
+fn run_of(command: &Option<Command>) -> Option<u64>
+    ensures named { result ≡ run_some command.now }
 {
     match command {
-        Some(Command::Run { .. }) => true,
-        _ => false,
+        Some(Command::Run { time }) => Some(*time),
+        _ => None,
     }
 }
 
@@ -218,9 +226,9 @@ fn write_usage<K: Sink>(sink: &mut K) -> u8
 ///
 /// `words` has the program's name, the image and the command, and its options (`command_line`):
 /// `scan`, `dump`, `check`, `journal` or `format`, which [`quiet_command`] does, or `run`, which runs
-/// the script that the source has left. `enable` and `gen` are no commands yet. `gate.pass` is called
-/// before each command of a script. The status is that of `Outcome`.
-#[tactic(auto, using(crate::proofs::Worded::quiet_is_not_run))]
+/// the script that the source has left, from the time of `--time` on. `enable` and `gen` are no commands
+/// yet. `gate.pass` is called before each command of a script. The status is that of `Outcome`.
+#[tactic(auto, using(crate::proofs::Worded::quiet_is_not_run, crate::proofs::Losses::loses_none))]
 pub fn ntfs_host<R: Threads + Wait + Sync, S: Source, K: Sink, D: Device + Send, G: Gate + Sync>(
     rt: &R,
     alloc: Global,
@@ -247,12 +255,15 @@ pub fn ntfs_host<R: Threads + Wait + Sync, S: Source, K: Sink, D: Device + Send,
     ensures quiet_part { IfSome (quiet_in words.now) (λ command. result.status ≡ 7 → IfSome (D.gives device) (λ disk. AppendsPart (K.taken sink.old) (K.taken sink.new) (printed (answer_of command disk)))) }
     ensures quiet_complete { IfSome (quiet_in words.now) (λ command. IsSomeAnd (D.gives device) (λ disk. IsOk (answer_of command disk)) → ¬ Rose (K.faults sink.old) (K.faults sink.new) → ¬ HasFailed (D.fault_count device) (D.fault_count result.device) (D.moment_of result.device) → (result.status ≡ 0) ⊎ (result.status ≡ 6)) }
 
-    // A run prints the text of a serial run of the script, or the first refusal, or what refuses the script.
-    ensures run_done { IsRun words.now → result.status ≡ 0 → IfSome (S.left source.old) (λ bytes. IsOk (script_of bytes) × IfSome (D.gives device) (λ disk. IsOk (mounted_of standard_table disk) × PrintsScript (K.taken sink.old) (K.taken sink.new) disk (D.fault_count result.device) (script_of bytes))) }
-    ensures run_refused { IsRun words.now → result.status ≡ 3 → IfSome (S.left source.old) (λ bytes. IsOk (script_of bytes) × IfSome (D.gives device) (λ disk. IsErr (mounted_of standard_table disk) × PrintsScript (K.taken sink.old) (K.taken sink.new) disk (D.fault_count result.device) (script_of bytes))) }
+    // A run prints the text of a serial run of the script from the time of the line on, or the first refusal,
+    // or what refuses the script. Its whole source comes first: what the volume, or the text behind it, has
+    // for a status says that the source was read to its end and is a script.
+    ensures run_accepted { IsRun words.now → (result.status ≡ 0) ⊎ (result.status ≡ 3) ⊎ (result.status ≡ 8) → IsAccepted (S.left source.old) (S.left source.new) }
+    ensures run_done { IfSome (run_in words.now) (λ time. result.status ≡ 0 → IfSome (S.left source.old) (λ bytes. IsOk (script_of bytes) × IfSome (D.gives device) (λ disk. IsOk (mounted_of standard_table disk) × PrintsScript (K.taken sink.old) (K.taken sink.new) disk time (D.fault_count result.device) (script_of bytes)))) }
+    ensures run_refused { IfSome (run_in words.now) (λ time. result.status ≡ 3 → IfSome (S.left source.old) (λ bytes. IsOk (script_of bytes) × IfSome (D.gives device) (λ disk. IsErr (mounted_of standard_table disk) × PrintsScript (K.taken sink.old) (K.taken sink.new) disk time (D.fault_count result.device) (script_of bytes)))) }
     ensures no_script { result.status ≡ 4 → IfSome (S.left source.old) (λ bytes. IsErrAnd (script_of bytes) (λ fault. Appends (K.taken sink.old) (K.taken sink.new) (script_line fault))) }
-    ensures run_memory { IsRun words.now → result.status ≡ 6 → IfSome (S.left source.old) (λ bytes. IfSome (D.gives device) (λ disk. (K.taken sink.new ≡ K.taken sink.old) ⊎ PrintsScriptPart (K.taken sink.old) (K.taken sink.new) disk (D.fault_count result.device) (script_of bytes))) }
-    ensures run_part { IsRun words.now → result.status ≡ 7 → IfSome (S.left source.old) (λ bytes. IfSome (D.gives device) (λ disk. PrintsScriptPart (K.taken sink.old) (K.taken sink.new) disk (D.fault_count result.device) (script_of bytes))) }
+    ensures run_memory { IfSome (run_in words.now) (λ time. result.status ≡ 6 → IfSome (S.left source.old) (λ bytes. IfSome (D.gives device) (λ disk. (K.taken sink.new ≡ K.taken sink.old) ⊎ PrintsScriptPart (K.taken sink.old) (K.taken sink.new) disk time (D.fault_count result.device) (script_of bytes)))) }
+    ensures run_part { IfSome (run_in words.now) (λ time. result.status ≡ 7 → IfSome (S.left source.old) (λ bytes. IfSome (D.gives device) (λ disk. PrintsScriptPart (K.taken sink.old) (K.taken sink.new) disk time (D.fault_count result.device) (script_of bytes)))) }
     ensures run_complete { IsRun words.now → IsSomeAnd (S.left source.old) (λ bytes. IsOk (script_of bytes)) → IsSomeAnd (D.gives device) (λ disk. IsOk (mounted_of standard_table disk)) → ¬ Rose (S.faults source.old) (S.faults source.new) → ¬ Rose (K.faults sink.old) (K.faults sink.new) → ¬ HasFailed (D.fault_count device) (D.fault_count result.device) (D.moment_of result.device) → (result.status ≡ 0) ⊎ (result.status ≡ 6) }
 
     // Faults have their cause, and where the source or the device failed nothing is written.
@@ -261,14 +272,24 @@ pub fn ntfs_host<R: Threads + Wait + Sync, S: Source, K: Sink, D: Device + Send,
     ensures device_failed { result.status ≡ 8 → HasFailed (D.fault_count device) (D.fault_count result.device) (D.moment_of result.device) }
     ensures silent { (result.status ≡ 5) ⊎ (result.status ≡ 8) → K.taken sink.new ≡ K.taken sink.old }
 
-    // What reads of the device give stays, but for a format; a refusal leaves it too. A format whose line
-    // isn't written has made its volume, or was refused.
+    // Words that are no line and a source without a script come before the device, and only a run reads the source,
+    // at most a byte more than a script has.
+    ensures untouched { (result.status ≡ 2) ⊎ (result.status ≡ 4) ⊎ (result.status ≡ 5) → result.device ≡ device }
+    ensures unread { ¬ IsRun words.now → source.new ≡ source.old }
+    ensures most_read { LosesAtMost 16777217 (S.left source.old) (S.left source.new) }
+
+    // What reads of the device give stays, but for a format; a refusal leaves it too, whatever comes of its
+    // line. A format whose line isn't written has made its volume, or was refused; one that wants memory has made
+    // its volume, or leaves all. A device has as many sectors as before, and its faults don't fall.
     ensures reads { Reads (quiet_in words.now) → D.gives result.device ≡ D.gives device }
     ensures kept { result.status ≡ 3 → D.gives result.device ≡ D.gives device }
     ensures leaves { IfSome (quiet_in words.now) (λ command. result.status ≡ 0 → Leaves command (D.gives device) (D.gives result.device)) }
     ensures left { IfSome (quiet_in words.now) (λ command. result.status ≡ 7 → Leaves command (D.gives device) (D.gives result.device) ⊎ (D.gives result.device ≡ D.gives device)) }
+    ensures left_wanting { result.status ≡ 6 → (D.gives result.device ≡ D.gives device) ⊎ IfSome (quiet_in words.now) (λ command. Leaves command (D.gives device) (D.gives result.device)) }
     ensures left_done { IfSome (quiet_in words.now) (λ command. result.status ≡ 7 → IfSome (D.gives device) (λ disk. IsOk (answer_of command disk) → Leaves command (D.gives device) (D.gives result.device))) }
-    ensures left_refused { IfSome (quiet_in words.now) (λ command. result.status ≡ 7 → IfSome (D.gives device) (λ disk. IsErr (answer_of command disk) → D.gives result.device ≡ D.gives device)) }
+    ensures left_refused { IfSome (quiet_in words.now) (λ command. IfSome (D.gives device) (λ disk. IsErr (answer_of command disk) → D.gives result.device ≡ D.gives device)) }
+    ensures sectors { D.sector_count result.device ≡ D.sector_count device }
+    ensures later { D.fault_count device ≤ D.fault_count result.device }
 {
     let command = match command_in(alloc, words) {
         Ok(command) => command,
@@ -283,10 +304,9 @@ pub fn ntfs_host<R: Threads + Wait + Sync, S: Source, K: Sink, D: Device + Send,
         return quiet_command(alloc, &quiet, sink, device);
     }
     let mut device = device;
-    let status = if is_run(&command) {
-        run_command(rt, alloc, source, sink, &mut device, gate)
-    } else {
-        write_usage(sink)
+    let status = match run_of(&command) {
+        Some(time) => run_command(rt, alloc, time, source, sink, &mut device, gate),
+        None => write_usage(sink),
     };
     Outcome { status, device }
 }

@@ -36,3 +36,4 @@ mod write_error;
 
 pub use command::Quiet;
 pub use host::{Outcome, ntfs_host, quiet_command};
+pub use status::MEMORY;

@@ -43,7 +43,7 @@ fn is_signed(bytes: &[u8]) -> bool
     bytes.starts_with(b"FILE")
 }
 
-#[tactic(auto, unfolding(record_model::specs::Records::is_in_use))]
+#[tactic(auto, unfolding(record_model::specs::Records::has_in_use_flag))]
 fn is_used(body: &[u8]) -> bool
     requires { length body.now ≡ 1024 }
     ensures { result ≡ is_used body.now }

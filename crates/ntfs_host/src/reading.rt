@@ -2,6 +2,7 @@
 ghost use Rattle.std.specs.Prelude.{◌≡◌, ◌≤◌, ◌<◌, ◌++◌, IfOk, IsErrOf, length, take};
 ghost use Rattle.std.specs.Io.KnownBytes.{Consumes, IsAtEnd};
 ghost use Rattle.host_base.specs.Causes.{Rose};
+ghost use Rattle.ntfs_host.specs.Scripts.{LosesAtMost};
 
 use host_base::{Failed, Source};
 use std::alloc::{AllocError, Global};
@@ -51,6 +52,7 @@ fn read_more<S: Source>(
 ) -> Result<usize, SourceError>
     requires some { 0 < room }
     requires inside { room ≤ length chunk.old }
+    ensures most_read { LosesAtMost room (S.left source.old) (S.left source.new) }
     ensures consumed { IfOk result (λ count. Consumes (S.left source.old) (S.left source.new) (take count chunk.new)) }
     ensures grown { IfOk result (λ count. bytes.new.items ≡ bytes.old.items ++ take count chunk.new) }
     ensures few { IfOk result (λ count. count ≤ room) }
@@ -71,6 +73,7 @@ fn read_through<S: Source>(
     chunk: &mut [u8],
 ) -> Result<Vec<u8>, SourceError>
     requires { 0 < length chunk.old }
+    ensures most_read { LosesAtMost 16777217 (S.left source.old) (S.left source.new) }
     ensures consumed { IfOk result (λ bytes. Consumes (S.left source.old) (S.left source.new) bytes.items) }
     ensures end { IfOk result (λ bytes. length bytes.items < 16777217 → IsAtEnd (S.left source.new)) }
     ensures most { IfOk result (λ bytes. length bytes.items ≤ 16777217) }
@@ -89,8 +92,10 @@ fn read_through<S: Source>(
 }
 
 /// The bytes that a source has left, or the first 16,777,217 of them, one more than a script has at
-/// most; in reads of 64 KiB.
+/// most; in reads of 64 KiB. No more is read, also where it fails.
+#[tactic(auto, using(crate::proofs::Losses::loses_none))]
 pub fn read_source<S: Source>(alloc: Global, source: &mut S) -> Result<Vec<u8>, SourceError>
+    ensures most_read { LosesAtMost 16777217 (S.left source.old) (S.left source.new) }
     ensures consumed { IfOk result (λ bytes. Consumes (S.left source.old) (S.left source.new) bytes.items) }
     ensures end { IfOk result (λ bytes. length bytes.items < 16777217 → IsAtEnd (S.left source.new)) }
     ensures most { IfOk result (λ bytes. length bytes.items ≤ 16777217) }

@@ -6,7 +6,7 @@ ghost use Rattle.script_text.specs.Scripts.{script_of};
 ghost use Rattle.run_model.specs.Texts.{IsRunText};
 ghost use Rattle.upcase_order.specs.Tables.{standard_table};
 ghost use Rattle.ntfs_host.specs.Mounts.{mounted_of};
-ghost use Rattle.ntfs_host.specs.Scripts.{script_line};
+ghost use Rattle.ntfs_host.specs.Scripts.{script_line, IsAccepted, LosesAtMost};
 ghost use Rattle.ntfs_host.specs.Runs.{IsPrintedRun, PrintsVolume, PrintsVolumePart, PrintsScript, PrintsScriptPart, IsRunStatus};
 ghost use Rattle.ntfs_host.specs.Statuses.{IsQuietStatus};
 
@@ -46,14 +46,15 @@ fn run_text<R: Threads + Wait, D: Device, G: Gate>(
     upper: &[u16],
     records: &[Option<FileRec>],
     script: &Script,
+    time: u64,
     device: &D,
     gate: &G,
 ) -> Result<String, Memory>
     requires { upper.now ≡ standard_table }
-    ensures { IfOk result (λ text. IsPrintedRun records.now script.now (D.fault_count device.now) (string_bytes text)) }
+    ensures { IfOk result (λ text. IsPrintedRun records.now script.now time (D.fault_count device.now) (string_bytes text)) }
 {
     let tree = RecordTree::new(alloc, upper.to_vec(alloc)?, records)?;
-    let turns = serial_run(rt, alloc, &tree, script, device, gate)?;
+    let turns = serial_run(rt, alloc, &tree, script, time, device, gate)?;
     text_of(alloc, &turns)
 }
 
@@ -64,19 +65,20 @@ fn print_run<R: Threads + Wait, K: Sink, D: Device, G: Gate>(
     upper: &[u16],
     records: &[Option<FileRec>],
     script: &Script,
+    time: u64,
     sink: &mut K,
     device: &D,
     gate: &G,
 ) -> u8
     requires { upper.now ≡ standard_table }
     ensures status { (result ≡ 0) ⊎ (result ≡ 6) ⊎ (result ≡ 7) }
-    ensures done { result ≡ 0 → PrintsVolume (K.taken sink.old) (K.taken sink.new) (Ok records.now) script.now (D.fault_count device.now) }
+    ensures done { result ≡ 0 → PrintsVolume (K.taken sink.old) (K.taken sink.new) (Ok records.now) script.now time (D.fault_count device.now) }
     ensures memory { result ≡ 6 → K.taken sink.new ≡ K.taken sink.old }
-    ensures part { result ≡ 7 → PrintsVolumePart (K.taken sink.old) (K.taken sink.new) (Ok records.now) script.now (D.fault_count device.now) }
+    ensures part { result ≡ 7 → PrintsVolumePart (K.taken sink.old) (K.taken sink.new) (Ok records.now) script.now time (D.fault_count device.now) }
     ensures failed { result ≡ 7 → Rose (K.faults sink.old) (K.faults sink.new) }
     ensures later { K.faults sink.old ≤ K.faults sink.new }
 {
-    let text = match run_text(rt, alloc, upper, records, script, device, gate) {
+    let text = match run_text(rt, alloc, upper, records, script, time, device, gate) {
         Ok(text) => text,
         Err(Memory) => return MEMORY,
     };
@@ -91,19 +93,22 @@ fn run_mounted<R: Threads + Wait, K: Sink, D: Device, G: Gate>(
     rt: &R,
     alloc: Global,
     script: &Script,
+    time: u64,
     sink: &mut K,
     device: &mut D,
     gate: &G,
 ) -> u8
     ensures status { IsQuietStatus result }
-    ensures done { result ≡ 0 → IfSome (D.gives device.old) (λ disk. IsOk (mounted_of standard_table disk) × PrintsVolume (K.taken sink.old) (K.taken sink.new) (mounted_of standard_table disk) script.now (D.fault_count device.new)) }
-    ensures refused { result ≡ 3 → IfSome (D.gives device.old) (λ disk. IsErr (mounted_of standard_table disk) × PrintsVolume (K.taken sink.old) (K.taken sink.new) (mounted_of standard_table disk) script.now (D.fault_count device.new)) }
-    ensures memory { result ≡ 6 → IfSome (D.gives device.old) (λ disk. (K.taken sink.new ≡ K.taken sink.old) ⊎ PrintsVolumePart (K.taken sink.old) (K.taken sink.new) (mounted_of standard_table disk) script.now (D.fault_count device.new)) }
-    ensures part { result ≡ 7 → IfSome (D.gives device.old) (λ disk. PrintsVolumePart (K.taken sink.old) (K.taken sink.new) (mounted_of standard_table disk) script.now (D.fault_count device.new)) }
+    ensures done { result ≡ 0 → IfSome (D.gives device.old) (λ disk. IsOk (mounted_of standard_table disk) × PrintsVolume (K.taken sink.old) (K.taken sink.new) (mounted_of standard_table disk) script.now time (D.fault_count device.new)) }
+    ensures refused { result ≡ 3 → IfSome (D.gives device.old) (λ disk. IsErr (mounted_of standard_table disk) × PrintsVolume (K.taken sink.old) (K.taken sink.new) (mounted_of standard_table disk) script.now time (D.fault_count device.new)) }
+    ensures memory { result ≡ 6 → IfSome (D.gives device.old) (λ disk. (K.taken sink.new ≡ K.taken sink.old) ⊎ PrintsVolumePart (K.taken sink.old) (K.taken sink.new) (mounted_of standard_table disk) script.now time (D.fault_count device.new)) }
+    ensures part { result ≡ 7 → IfSome (D.gives device.old) (λ disk. PrintsVolumePart (K.taken sink.old) (K.taken sink.new) (mounted_of standard_table disk) script.now time (D.fault_count device.new)) }
     ensures sink_failed { result ≡ 7 → Rose (K.faults sink.old) (K.faults sink.new) }
     ensures device_failed { result ≡ 8 → HasFailed (D.fault_count device.old) (D.fault_count device.new) (D.moment_of device.new) }
     ensures silent { result ≡ 8 → K.taken sink.new ≡ K.taken sink.old }
     ensures gives { D.gives device.new ≡ D.gives device.old }
+    ensures sectors { D.sector_count device.new ≡ D.sector_count device.old }
+    ensures later { D.fault_count device.old ≤ D.fault_count device.new }
 {
     let upper = match Upcase::standard(alloc) {
         Ok(upper) => upper,
@@ -116,6 +121,7 @@ fn run_mounted<R: Threads + Wait, K: Sink, D: Device, G: Gate>(
             upper.as_slice(),
             &records,
             script,
+            time,
             sink,
             device,
             gate,
@@ -130,29 +136,37 @@ fn run_mounted<R: Threads + Wait, K: Sink, D: Device, G: Gate>(
 /// what refuses the script or the volume, goes to the sink. The answer is the status.
 ///
 /// The whole source is read first, then the volume is mounted, then the commands have their turns,
-/// and then the text is written, a line at a time. The device is only read.
+/// from the time `time` on, in units of 100 ns since 1601-01-01, and then the text is written, a line
+/// at a time. So a refusal or a failure of the device comes only of a script that is accepted, and
+/// without one the device isn't called. The device is only read.
 pub fn run_command<R: Threads + Wait, S: Source, K: Sink, D: Device, G: Gate>(
     rt: &R,
     alloc: Global,
+    time: u64,
     source: &mut S,
     sink: &mut K,
     device: &mut D,
     gate: &G,
 ) -> u8
     ensures status { IsRunStatus result }
-    ensures done { result ≡ 0 → IfSome (S.left source.old) (λ bytes. IsOk (script_of bytes) × IfSome (D.gives device.old) (λ disk. IsOk (mounted_of standard_table disk) × PrintsScript (K.taken sink.old) (K.taken sink.new) disk (D.fault_count device.new) (script_of bytes))) }
-    ensures refused { result ≡ 3 → IfSome (S.left source.old) (λ bytes. IsOk (script_of bytes) × IfSome (D.gives device.old) (λ disk. IsErr (mounted_of standard_table disk) × PrintsScript (K.taken sink.old) (K.taken sink.new) disk (D.fault_count device.new) (script_of bytes))) }
+    ensures accepted { (result ≡ 0) ⊎ (result ≡ 3) ⊎ (result ≡ 8) → IsAccepted (S.left source.old) (S.left source.new) }
+    ensures most_read { LosesAtMost 16777217 (S.left source.old) (S.left source.new) }
+    ensures untouched { (result ≡ 4) ⊎ (result ≡ 5) → device.new ≡ device.old }
+    ensures done { result ≡ 0 → IfSome (S.left source.old) (λ bytes. IsOk (script_of bytes) × IfSome (D.gives device.old) (λ disk. IsOk (mounted_of standard_table disk) × PrintsScript (K.taken sink.old) (K.taken sink.new) disk time (D.fault_count device.new) (script_of bytes))) }
+    ensures refused { result ≡ 3 → IfSome (S.left source.old) (λ bytes. IsOk (script_of bytes) × IfSome (D.gives device.old) (λ disk. IsErr (mounted_of standard_table disk) × PrintsScript (K.taken sink.old) (K.taken sink.new) disk time (D.fault_count device.new) (script_of bytes))) }
     ensures no_script { result ≡ 4 → IfSome (S.left source.old) (λ bytes. IsErrAnd (script_of bytes) (λ fault. Appends (K.taken sink.old) (K.taken sink.new) (script_line fault))) }
     ensures source_failed { result ≡ 5 → Rose (S.faults source.old) (S.faults source.new) }
-    ensures memory { result ≡ 6 → IfSome (S.left source.old) (λ bytes. IfSome (D.gives device.old) (λ disk. (K.taken sink.new ≡ K.taken sink.old) ⊎ PrintsScriptPart (K.taken sink.old) (K.taken sink.new) disk (D.fault_count device.new) (script_of bytes))) }
-    ensures part { result ≡ 7 → IfSome (S.left source.old) (λ bytes. IfSome (D.gives device.old) (λ disk. PrintsScriptPart (K.taken sink.old) (K.taken sink.new) disk (D.fault_count device.new) (script_of bytes))) }
+    ensures memory { result ≡ 6 → IfSome (S.left source.old) (λ bytes. IfSome (D.gives device.old) (λ disk. (K.taken sink.new ≡ K.taken sink.old) ⊎ PrintsScriptPart (K.taken sink.old) (K.taken sink.new) disk time (D.fault_count device.new) (script_of bytes))) }
+    ensures part { result ≡ 7 → IfSome (S.left source.old) (λ bytes. IfSome (D.gives device.old) (λ disk. PrintsScriptPart (K.taken sink.old) (K.taken sink.new) disk time (D.fault_count device.new) (script_of bytes))) }
     ensures sink_failed { result ≡ 7 → Rose (K.faults sink.old) (K.faults sink.new) }
     ensures device_failed { result ≡ 8 → HasFailed (D.fault_count device.old) (D.fault_count device.new) (D.moment_of device.new) }
     ensures silent { (result ≡ 5) ⊎ (result ≡ 8) → K.taken sink.new ≡ K.taken sink.old }
     ensures gives { D.gives device.new ≡ D.gives device.old }
+    ensures sectors { D.sector_count device.new ≡ D.sector_count device.old }
+    ensures later { D.fault_count device.old ≤ D.fault_count device.new }
 {
     match read_script(alloc, source) {
-        Ok(script) => run_mounted(rt, alloc, &script, sink, device, gate),
+        Ok(script) => run_mounted(rt, alloc, &script, time, sink, device, gate),
         Err(ScriptError::Refused(fault)) => status_of(
             write_script_fault(alloc, sink, fault),
             NO_SCRIPT,

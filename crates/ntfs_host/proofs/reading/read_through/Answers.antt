@@ -1,6 +1,7 @@
 use Rattle.std.proofs.Common.{arith, take}
 use Rattle.std.proofs.KnownBytes.{Consumes-nil, Consumes-trans}
 use Rattle.std.proofs.lemmas.List.{length-append, length-take}
+use Rattle.ntfs_host.proofs.Losses.{loses_more}
 use Rattle.ntfs_host.proofs.reading.read_through.Goals as goal
 
 pub loop-bytes-init : goal.loop-bytes-init
@@ -16,3 +17,6 @@ loop-bytes-preserved g c = (
   omega (arith, c.read_more.auto.chunk, c.loop-bytes.invariant.2),
   omega (arith, c.loop-bytes.invariant.3, c.in_ok-count.ensures.later),
 )
+
+pub returns-in_err-count-clause-most_read : goal.returns-in_err-count-clause-most_read
+returns-in_err-count-clause-most_read g c = loses_more _ _ _ _ _ _ c.loop-bytes.invariant.0 (omega (arith, c.min-room.ensures)) c.in_err-count.ensures.most_read
