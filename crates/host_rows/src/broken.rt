@@ -1,6 +1,6 @@
 //! Volumes that break one of the nine rules, each at its least number.
 use crate::image::{file_name, index_entry, index_root, mapped, put, put_word, resident};
-use crate::runs::answers;
+use crate::runs::{answers, run};
 use crate::volume::{
     JOURNAL_RECORD, Stored, in_clusters, information, name_in, named_value, put_directory,
     put_file, whole_volume,
@@ -277,6 +277,27 @@ fn with_sparse_bitmap(alloc: Global) -> Result<Vec<u8>, AllocError> {
     let data = piece(alloc, 0, 0, &[0x01, 1, 0])?;
     put_file(&mut image, 6, 6, 1, &[data.as_slice()]);
     Ok(image)
+}
+
+// The boot sector says that the file table begins at a copy of the records 0 to 3.
+fn with_copied_records(alloc: Global) -> Result<Vec<u8>, AllocError> {
+    let mut image = whole_volume(alloc)?;
+    let first = image[4096..8192].to_vec(alloc)?;
+    put(&mut image, 104 * 512, &first);
+    put(&mut image, 0x30, &[104]);
+    Ok(image)
+}
+
+#[test]
+fn a_table_elsewhere_breaks_rule_4(rt: HostRuntime) -> Result<(), Fail> {
+    let alloc = rt.alloc();
+    let image = with_copied_records(alloc)?;
+    breaks(&rt, &image, 4, 0)?;
+    answers(&rt, "journal", &image, 3, b"refused 15 BadVolume 4 0\n")?;
+    let whole = whole_volume(alloc)?;
+    let (status, text) = run(&rt, &["ntfshost", "tiny.img", "scan"], &whole, &[], &[])?;
+    assert_eq!(rt; status, 0);
+    answers(&rt, "scan", &image, 0, text.as_slice())
 }
 
 // A VCN is left out; a piece stands twice; clusters past the volume; a sparse bitmap; a torn mirror.

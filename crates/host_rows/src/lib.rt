@@ -19,6 +19,8 @@ mod checks;
 #[cfg(test)]
 mod faults;
 #[cfg(test)]
+mod gates;
+#[cfg(test)]
 mod names;
 #[cfg(test)]
 mod refusals;

@@ -1,6 +1,6 @@
 //! A run of the top call, in memory.
 use crate::image::{put, tiny_image};
-use host_base::{MemorySink, MemorySource, NoGate};
+use host_base::{Gate, MemorySink, MemorySource, NoGate};
 use ntfs_host::ntfs_host;
 use sector_device::MemoryDevice;
 use std::alloc::{AllocError, Global};
@@ -76,6 +76,25 @@ pub struct Faults<'a> {
     pub sink: &'a [u64],
 }
 
+// A run with these words of a script on a device of these bytes, with these faults and behind this gate.
+pub fn run_behind<R: Threads + Wait + Sync + Abort + AllocGlobal, G: Gate + Sync>(
+    rt: &R,
+    words: &[&str],
+    image: &[u8],
+    script: Vec<u8>,
+    faults: &Faults,
+    gate: &G,
+) -> Result<(u8, Vec<u8>), Fail> {
+    let alloc = rt.alloc();
+    assert_eq!(rt; image.len() % 512, 0);
+    let device = MemoryDevice::new(image.to_vec(alloc)?, faults.device.to_vec(alloc)?);
+    let mut source = MemorySource::new(script, faults.source.to_vec(alloc)?);
+    let mut sink = MemorySink::new(alloc, faults.sink.to_vec(alloc)?);
+    let words = words_of(alloc, words)?;
+    let outcome = ntfs_host(rt, alloc, &words, &mut source, &mut sink, device, gate);
+    Ok((outcome.status, sink.bytes().to_vec(alloc)?))
+}
+
 // A run of a script on a device of these bytes, with these faults.
 pub fn run_script<R: Threads + Wait + Sync + Abort + AllocGlobal>(
     rt: &R,
@@ -83,14 +102,14 @@ pub fn run_script<R: Threads + Wait + Sync + Abort + AllocGlobal>(
     script: Vec<u8>,
     faults: &Faults,
 ) -> Result<(u8, Vec<u8>), Fail> {
-    let alloc = rt.alloc();
-    assert_eq!(rt; image.len() % 512, 0);
-    let device = MemoryDevice::new(image.to_vec(alloc)?, faults.device.to_vec(alloc)?);
-    let mut source = MemorySource::new(script, faults.source.to_vec(alloc)?);
-    let mut sink = MemorySink::new(alloc, faults.sink.to_vec(alloc)?);
-    let words = words_of(alloc, &["ntfshost", "tiny.img", "run"])?;
-    let outcome = ntfs_host(rt, alloc, &words, &mut source, &mut sink, device, &NoGate);
-    Ok((outcome.status, sink.bytes().to_vec(alloc)?))
+    run_behind(
+        rt,
+        &["ntfshost", "tiny.img", "run"],
+        image,
+        script,
+        faults,
+        &NoGate,
+    )
 }
 
 // A run of a script with no fault.
