@@ -112,6 +112,8 @@ pub struct Journal {
     pub next: u64,
     /// The allocated size.
     pub reach: u64,
+    /// Whether a record owns the bytes before `next` in its page; no where `next` begins a page.
+    pub owned: bool,
     pub entries: UsnList,
 }
 
@@ -125,6 +127,7 @@ impl Clone for Journal {
             first: self.first,
             next: self.next,
             reach: self.reach,
+            owned: self.owned,
             entries: self.entries.clone()?,
         })
     }
