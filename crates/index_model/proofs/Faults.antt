@@ -103,6 +103,9 @@ Reader = ℕ → Result (List Entry) ℕ
 abbrev HungChild : Reader → List Entry → ℕ → ℕ → Type 0
 HungChild read root v child = (level : ℕ) × (entries : List Entry) × Hangs read root level v entries × HasChild child entries
 
+abbrev HungBelow : Reader → List Entry → ℕ → Type 0
+HungBelow read root v = (above : ℕ) × HungChild read root above v
+
 abbrev HungLink : Reader → List Entry → ℕ → Link → Type 0
 HungLink read root v l = (level : ℕ) × (entries : List Entry) × Hangs read root level v entries × HasLink l entries
 
@@ -114,7 +117,7 @@ abbrev True : Reader → List Entry → (ℕ → Type 0) → List Event → Type
 True read root seen [] = Unit {0}
 True read root seen (Child v child ∷ events) = HungChild read root v child × True read root (λ x. seen x ⊎ (x ≡ child)) events
 True read root seen (Deep v ∷ events) = LowChild read root v × True read root seen events
-True read root seen (Faulty v rule ∷ events) = seen v × (read v ≡ Err rule) × True read root seen events
+True read root seen (Faulty v rule ∷ events) = seen v × HungBelow read root v × (read v ≡ Err rule) × True read root seen events
 True read root seen (Named v l ∷ events) = HungLink read root v l × True read root seen events
 True read root seen (Found l ∷ events) = True read root seen events
 
@@ -122,7 +125,7 @@ still_true : (read : Reader) (root : List Entry) (seen more : ℕ → Type 0) �
 still_true read root seen more f [] t = tt
 still_true read root seen more f (Child v child ∷ events) t = (t.0, still_true read root (λ x. seen x ⊎ (x ≡ child)) (λ x. more x ⊎ (x ≡ child)) (λ x h. elim h [ inl a ↦ inl (f x a) | inr b ↦ inr b ]) events t.1)
 still_true read root seen more f (Deep v ∷ events) t = (t.0, still_true read root seen more f events t.1)
-still_true read root seen more f (Faulty v rule ∷ events) t = (f v t.0, t.1, still_true read root seen more f events t.2)
+still_true read root seen more f (Faulty v rule ∷ events) t = (f v t.0, t.1, t.2, still_true read root seen more f events t.3)
 still_true read root seen more f (Named v l ∷ events) t = (t.0, still_true read root seen more f events t.1)
 still_true read root seen more f (Found l ∷ events) t = still_true read root seen more f events t
 
@@ -130,7 +133,7 @@ both_true : (read : Reader) (root : List Entry) (seen : ℕ → Type 0) (xs ys :
 both_true read root seen [] ys t u = u
 both_true read root seen (Child v child ∷ xs) ys t u = (t.0, both_true read root (λ x. seen x ⊎ (x ≡ child)) xs ys t.1 (still_true read root seen (λ x. seen x ⊎ (x ≡ child)) (λ x h. inl h) ys u))
 both_true read root seen (Deep v ∷ xs) ys t u = (t.0, both_true read root seen xs ys t.1 u)
-both_true read root seen (Faulty v rule ∷ xs) ys t u = (t.0, t.1, both_true read root seen xs ys t.2 u)
+both_true read root seen (Faulty v rule ∷ xs) ys t u = (t.0, t.1, t.2, both_true read root seen xs ys t.3 u)
 both_true read root seen (Named v l ∷ xs) ys t u = (t.0, both_true read root seen xs ys t.1 u)
 both_true read root seen (Found l ∷ xs) ys t u = both_true read root seen xs ys t u
 
@@ -140,7 +143,7 @@ true_later read root seen (Child v child ∷ before) later t =
     still_true read root (λ x. (seen x ⊎ (x ≡ child)) ⊎ HasMet x before) (λ x. seen x ⊎ ((x ≡ child) ⊎ HasMet x before))
     (λ x h. elim h [ inl a ↦ elim a [ inl s ↦ inl s | inr e ↦ inr (inl e) ] | inr b ↦ inr (inr b) ]) later (true_later read root (λ x. seen x ⊎ (x ≡ child)) before later t.1)
 true_later read root seen (Deep v ∷ before) later t = true_later read root seen before later t.1
-true_later read root seen (Faulty v rule ∷ before) later t = true_later read root seen before later t.2
+true_later read root seen (Faulty v rule ∷ before) later t = true_later read root seen before later t.3
 true_later read root seen (Named v l ∷ before) later t = true_later read root seen before later t.1
 true_later read root seen (Found l ∷ before) later t = true_later read root seen before later t
 
@@ -176,7 +179,7 @@ child_true read root seen met level v child entries hangs has low = ((level, ent
   where
     inside_true : (r : Result (List Entry) ℕ) → read child ≡ r → True read root (λ x. seen x ⊎ (x ≡ child)) (inside child (met child) r)
     inside_true (Ok lower) is = low lower (below_node level v child entries lower hangs has is)
-    inside_true (Err rule) is = (inr refl, is, tt)
+    inside_true (Err rule) is = (inr refl, (v, (level, entries, hangs, has)), is, tt)
 
 met_by_kids : (read : Reader) (root : List Entry) (levels level v : ℕ) (entries : List Entry) → Hangs read root level v entries → (seen : ℕ → Type 0) → KidsTrue read root seen (kid_met read levels v) entries → True read root seen (met_in read levels v entries)
 met_by_kids read root levels level v entries hangs seen kids =
@@ -265,9 +268,9 @@ none_first p x h = let one : one_if (met_before p (nothing_met p) x) ≡ 1 = ap 
 met_among : (p : Place) (n : Met) (before : List Event) → Left p (nothing_met p) n before → (x : ℕ) → met_before p n x ≡ true → HasMet x before
 met_among p n before left x h = elim (left.marks x h) [ inl first ↦ absurd (none_first p x first) | inr later ↦ later ]
 
-by_own_bytes : (c : Content) (p : Place) (upper : List ℕ) (root : List Entry) (events : List Event) (v rule : ℕ) (o : Option Block) → block_at p v ≡ o → is_some o ≡ true → node_of_part c v o ≡ Err rule → Breaks c p upper root events (record { vcn = v; rule = rule })
-by_own_bytes c p upper root events v rule None is h e = absurd cc
-by_own_bytes c p upper root events v rule (Some b) is h e = by_bytes v rule b is e
+by_own_bytes : (c : Content) (p : Place) (upper : List ℕ) (root : List Entry) (events : List Event) (v rule : ℕ) (o : Option Block) → HungBelow (node_of_block c p) root v → block_at p v ≡ o → is_some o ≡ true → node_of_part c v o ≡ Err rule → Breaks c p upper root events (record { vcn = v; rule = rule })
+by_own_bytes c p upper root events v rule None hung is h e = absurd cc
+by_own_bytes c p upper root events v rule (Some b) hung is h e = let a = hung.1 in by_bytes a.0 hung.0 v rule a.1 b a.2 a.3 is e
 
 read_part : (c : Content) (p : Place) (v rule : ℕ) → node_of_block c p v ≡ Err rule → node_of_part c v (block_at p v) ≡ Err rule
 unfolding node_of_block
@@ -294,7 +297,7 @@ breaks_at c p upper root events before (Faulty v rule) later m b placed left t h
     let is : record { vcn = v; rule = rule } ≡ b = cc in
     let P : Broken → Type 0 = λ d. Breaks c p upper root events d in
     let met : HasMet v before = elim t.0 [ inl none ↦ absurd none | inr here ↦ here ] in
-    subst P is (by_own_bytes c p upper root events v rule (block_at p v) refl (left.inside_all v met) (read_part c p v rule t.1))
+    subst P is (by_own_bytes c p upper root events v rule (block_at p v) t.1 refl (left.inside_all v met) (read_part c p v rule t.2))
 breaks_at c p upper root events before (Named v l) later m b placed left t h =
     let f = needs_false (follows upper (final m.links) l) (record { vcn = v; rule = 8 }) b (with_link m l) h in
     let P : Broken → Type 0 = λ d. Breaks c p upper root events d in

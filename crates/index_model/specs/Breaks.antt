@@ -41,10 +41,10 @@ links_met (Faulty v rule ∷ events) = links_met events
 links_met (Named v l ∷ events) = l ∷ links_met events
 links_met (Found l ∷ events) = l ∷ links_met events
 
--- A node below the root breaks a rule from 1 to 6 by its own bytes. One breaks rule 7 by a child outside the allocation or
+-- A child of a node breaks a rule from 1 to 6 by its own bytes. A node breaks rule 7 by a child outside the allocation or
 -- one that was met before, or by a child on level 17; and rule 8 by a key that stands before the last one that was met.
 pub data Breaks (c : Content) (p : Place) (upper : List ℕ) (root : List Entry) (events : List Event) : Broken → Type 0 where
-  by_bytes : (v rule : ℕ) (b : Block) → block_at p v ≡ Some b → node_of_body v (c b) ≡ Err rule → Breaks c p upper root events (record { vcn = v; rule = rule })
+  by_bytes : (level above v rule : ℕ) (entries : List Entry) (b : Block) → Hangs (node_of_block c p) root level above entries → HasChild v entries → block_at p v ≡ Some b → node_of_body v (c b) ≡ Err rule → Breaks c p upper root events (record { vcn = v; rule = rule })
   by_child : (level v child : ℕ) (entries : List Entry) (before behind : List Event) → Hangs (node_of_block c p) root level v entries → HasChild child entries → events ≡ before ++ Child v child ∷ behind → (block_at p child ≡ None) ⊎ HasMet child before
       → Breaks c p upper root events (record { vcn = v; rule = 7 })
   by_depth : (v child : ℕ) (entries : List Entry) → Hangs (node_of_block c p) root most_levels v entries → HasChild child entries → Breaks c p upper root events (record { vcn = v; rule = 7 })
