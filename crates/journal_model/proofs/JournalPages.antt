@@ -1,5 +1,6 @@
 -- Journals page by page.
-use Rattle.std.proofs.Common.{◌≡◌, ℕ, zero, suc, ◌+◌, ◌-◌, ◌*◌, ◌/◌, ◌%◌, ◌<◌, ◌≤◌, List, [], ◌∷◌, ◌++◌, map, drop, Ok, refl, sym, ap, ◌∙◌, arith}
+use Rattle.std.proofs.Common.{◌≡◌, ℕ, zero, suc, ◌+◌, ◌-◌, ◌*◌, ◌/◌, ◌%◌, ◌<◌, ◌≤◌, List, [], ◌∷◌, ◌++◌, map, take, drop, Ok, refl, sym, ap, ◌∙◌, arith}
+use Rattle.std.specs.Prelude.{min}
 use Rattle.std.specs.List.{range_with_len}
 use Rattle.host_base.specs.Answers.{◌>>=◌}
 use Rattle.journal_model.specs.UsnRecords.{page_size}
@@ -28,6 +29,13 @@ range_dropped f (suc j) a (suc n) =
     let e : a + 1 + j ≡ a + suc j = omega arith in
     let m : n - j ≡ suc n - suc j = omega arith in
     range_dropped f j (a + 1) n ∙ ap (λ (i : ℕ). map f (range_with_len i (n - j))) e ∙ ap (λ (i : ℕ). map f (range_with_len (a + suc j) i)) m
+
+range_taken : {X : Type 0} (f : ℕ → X) (j a n : ℕ) → take j (map f (range_with_len a n)) ≡ map f (range_with_len a (min j n))
+range_taken f zero a n = let m : min zero n ≡ zero = omega arith in sym (ap (λ (i : ℕ). map f (range_with_len a i)) m)
+range_taken f (suc j) a zero = let m : min (suc j) zero ≡ zero = omega arith in sym (ap (λ (i : ℕ). map f (range_with_len a i)) m)
+range_taken {X} f (suc j) a (suc n) =
+    let m : min (suc j) (suc n) ≡ suc (min j n) = omega arith in
+    ap (λ (l : List X). f a ∷ l) (range_taken f j (a + 1) n) ∙ sym (ap (λ (i : ℕ). map f (range_with_len a i)) m)
 
 -- ---- pages
 
@@ -58,15 +66,23 @@ unfolding journal_in journal_from
 journal_same byte byte' first next same =
     ap joined (range_same (page_entries byte first next) (page_entries byte' first next) (first / page_size) (pages_before next - first / page_size) (λ k le lt. page_same byte byte' first next k same))
 
--- a page's bytes from an offset on
-pub page_from_offset : (byte : ℕ → ℕ) (k at to : ℕ) → page_size * k ≤ at → at < page_size * k + page_size → page_records (bytes_between byte (page_size * k) to) at ≡ records_of (bytes_between byte at to) at
+-- a page's bytes from an offset on, up to its end
+pub page_from_min : (byte : ℕ → ℕ) (k at to : ℕ) → page_size * k ≤ at → at < page_size * k + page_size → page_records (bytes_between byte (page_size * k) to) at ≡ records_of (bytes_between byte at (min to (page_size * k + page_size))) at
 unfolding page_records bytes_between
-page_from_offset byte k at to low high =
+page_from_min byte k at to low high =
+    let n = min page_size (to - page_size * k) in
     let place : at % page_size ≡ at - page_size * k = omega arith in
     let start : page_size * k + (at - page_size * k) ≡ at = omega arith in
-    let count : to - page_size * k - (at - page_size * k) ≡ to - at = omega arith in
+    let count : n - (at - page_size * k) ≡ min to (page_size * k + page_size) - at = omega arith in
     ap (λ (l : List ℕ). records_of l at)
-    (ap (λ (j : ℕ). drop j (map byte (range_with_len (page_size * k) (to - page_size * k)))) place
-    ∙ range_dropped byte (at - page_size * k) (page_size * k) (to - page_size * k)
-    ∙ ap (λ (i : ℕ). map byte (range_with_len i (to - page_size * k - (at - page_size * k)))) start
-    ∙ ap (λ (n : ℕ). map byte (range_with_len at n)) count)
+    (ap (drop (at % page_size)) (range_taken byte page_size (page_size * k) (to - page_size * k))
+    ∙ ap (λ (j : ℕ). drop j (map byte (range_with_len (page_size * k) n))) place
+    ∙ range_dropped byte (at - page_size * k) (page_size * k) n
+    ∙ ap (λ (i : ℕ). map byte (range_with_len i (n - (at - page_size * k)))) start
+    ∙ ap (λ (m : ℕ). map byte (range_with_len at m)) count)
+
+-- the same where no byte is given behind the page
+pub page_from_offset : (byte : ℕ → ℕ) (k at to : ℕ) → page_size * k ≤ at → at < page_size * k + page_size → to ≤ page_size * k + page_size → page_records (bytes_between byte (page_size * k) to) at ≡ records_of (bytes_between byte at to) at
+page_from_offset byte k at to low high inside =
+    let e : min to (page_size * k + page_size) ≡ to = omega arith in
+    page_from_min byte k at to low high ∙ ap (λ (m : ℕ). records_of (bytes_between byte at m) at) e

@@ -8,9 +8,10 @@ use Rattle.host_base.specs.Answers.{◌>>=◌}
 use Rattle.disk_model.specs.Numbers.{field}
 use Rattle.disk_model.specs.Bytes.{AreBytes, zeros}
 use Rattle.disk_model.proofs.Fields.{field_same, AreBytes-drop}
+use Rattle.record_model.proofs.Pieces.{AreBytes-take}
 use Rattle.tree_model.specs.declared.journal.Usn.{Usn}
 use Rattle.journal_model.specs.declared.fault.UsnFault.{UsnFault}
-use Rattle.journal_model.specs.UsnRecords.{page_size, all_zeros, usn_in, IsRecord, BeginsRecord}
+use Rattle.journal_model.specs.UsnRecords.{page_size, page_rest, all_zeros, usn_in, IsRecord, BeginsRecord}
 use Rattle.journal_model.specs.Pages.{with_entry, records_in, records_of, page_records, Piece, StandFrom, piece_bytes, piece_entries, HasRecords, HasFault}
 use Rattle.journal_model.proofs.UsnRead.{zeros_from_test, zeros_pass, found_length, read_table, table_read}
 
@@ -274,11 +275,11 @@ table_faults bytes at fault h =
 
 module _ (page : List ℕ) (at : ℕ) where
   abbrev here : List ℕ
-  here = drop (at % page_size) page
+  here = page_rest page at
 
   pub page_table : (entries : List Usn) → AreBytes page → page_records page at ≡ Ok entries → HasRecords here at entries
   unfolding page_records
-  page_table entries each e = records_table here at entries (AreBytes-drop (at % page_size) page each) e
+  page_table entries each e = records_table here at entries (AreBytes-drop (at % page_size) (take page_size page) (AreBytes-take page_size page each)) e
 
   pub table_page : (entries : List Usn) → HasRecords here at entries → page_records page at ≡ Ok entries
   unfolding page_records
@@ -286,7 +287,7 @@ module _ (page : List ℕ) (at : ℕ) where
 
   pub page_refused : (fault : UsnFault) → AreBytes page → page_records page at ≡ Err fault → HasFault here at fault
   unfolding page_records
-  page_refused fault each e = faults_table here at fault (AreBytes-drop (at % page_size) page each) e
+  page_refused fault each e = faults_table here at fault (AreBytes-drop (at % page_size) (take page_size page) (AreBytes-take page_size page each)) e
 
   pub refused_page : (fault : UsnFault) → HasFault here at fault → page_records page at ≡ Err fault
   unfolding page_records

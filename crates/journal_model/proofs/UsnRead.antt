@@ -21,7 +21,7 @@ use Rattle.record_model.proofs.Pieces.{AreBytes-take}
 use Rattle.tree_model.specs.declared.journal.Usn.{Usn}
 use Rattle.journal_model.specs.declared.fault.UsnFault.{UsnFault}
 use Rattle.journal_model.specs.declared.fault.UsnFault.TheVariants.{Cut, Shape, Memory}
-use Rattle.journal_model.specs.UsnRecords.{known_version, page_size, is_whole, is_length, own_bytes, all_zeros, name_units, padding, has_layout, is_usn, usn_of, entry_in, usn_in, usn_at, IsUsn, IsRecord, BeginsRecord}
+use Rattle.journal_model.specs.UsnRecords.{known_version, page_size, page_rest, is_whole, is_length, own_bytes, all_zeros, name_units, padding, has_layout, is_usn, usn_of, entry_in, usn_in, usn_at, IsUsn, IsRecord, BeginsRecord}
 use Rattle.journal_model.specs.UsnLaws.{BeginsNone}
 
 -- ---- zeros
@@ -346,26 +346,26 @@ no_record bytes at k e = λ found n b. let ok = table_read bytes at found n b in
 
 -- ---- of a page
 
-pub page_read : (page : List ℕ) (at : ℕ) (found : Option Usn) (n : ℕ) → AreBytes page → usn_at page at ≡ Ok (found, n) → BeginsRecord (drop (at % page_size) page) at found n
+pub page_read : (page : List ℕ) (at : ℕ) (found : Option Usn) (n : ℕ) → AreBytes page → usn_at page at ≡ Ok (found, n) → BeginsRecord (page_rest page at) at found n
 unfolding usn_at
-page_read page at found n each e = read_table (drop (at % page_size) page) at found n (AreBytes-drop (at % page_size) page each) e
+page_read page at found n each e = read_table (page_rest page at) at found n (AreBytes-drop (at % page_size) (take page_size page) (AreBytes-take page_size page each)) e
 
-pub page_spelled : (page : List ℕ) (at : ℕ) (found : Option Usn) (n : ℕ) → BeginsRecord (drop (at % page_size) page) at found n → usn_at page at ≡ Ok (found, n)
+pub page_spelled : (page : List ℕ) (at : ℕ) (found : Option Usn) (n : ℕ) → BeginsRecord (page_rest page at) at found n → usn_at page at ≡ Ok (found, n)
 unfolding usn_at
-page_spelled page at found n b = table_read (drop (at % page_size) page) at found n b
+page_spelled page at found n b = table_read (page_rest page at) at found n b
 
-pub page_cut : (page : List ℕ) (at k : ℕ) → usn_at page at ≡ Err (Cut k) → (k ≡ at) × (is_whole (drop (at % page_size) page) ≢ true)
+pub page_cut : (page : List ℕ) (at k : ℕ) → usn_at page at ≡ Err (Cut k) → (k ≡ at) × (is_whole (page_rest page at) ≢ true)
 unfolding usn_at
-page_cut page at k e = let c = cut_from (drop (at % page_size) page) at k e in (c.0, not_true (is_whole (drop (at % page_size) page)) c.1)
+page_cut page at k e = let c = cut_from (page_rest page at) at k e in (c.0, not_true (is_whole (page_rest page at)) c.1)
 
-pub page_cut_off : (page : List ℕ) (at k : ℕ) → (k ≡ at) × (is_whole (drop (at % page_size) page) ≢ true) → usn_at page at ≡ Err (Cut k)
+pub page_cut_off : (page : List ℕ) (at k : ℕ) → (k ≡ at) × (is_whole (page_rest page at) ≢ true) → usn_at page at ≡ Err (Cut k)
 unfolding usn_at
-page_cut_off page at k h = cut_to (drop (at % page_size) page) at k h
+page_cut_off page at k h = cut_to (page_rest page at) at k h
 
-pub page_shape : (page : List ℕ) (at k : ℕ) → usn_at page at ≡ Err (Shape k) → (k ≡ at) × (is_whole (drop (at % page_size) page) ≡ true) × BeginsNone (drop (at % page_size) page) at
+pub page_shape : (page : List ℕ) (at k : ℕ) → usn_at page at ≡ Err (Shape k) → (k ≡ at) × (is_whole (page_rest page at) ≡ true) × BeginsNone (page_rest page at) at
 unfolding usn_at
-page_shape page at k e = let s = shape_from (drop (at % page_size) page) at k e in (s.0, s.1, no_record (drop (at % page_size) page) at k e)
+page_shape page at k e = let s = shape_from (page_rest page at) at k e in (s.0, s.1, no_record (page_rest page at) at k e)
 
-pub page_misshapen : (page : List ℕ) (at k : ℕ) → AreBytes page → (k ≡ at) × (is_whole (drop (at % page_size) page) ≡ true) × BeginsNone (drop (at % page_size) page) at → usn_at page at ≡ Err (Shape k)
+pub page_misshapen : (page : List ℕ) (at k : ℕ) → AreBytes page → (k ≡ at) × (is_whole (page_rest page at) ≡ true) × BeginsNone (page_rest page at) at → usn_at page at ≡ Err (Shape k)
 unfolding usn_at
-page_misshapen page at k each h = shape_to (drop (at % page_size) page) at k (AreBytes-drop (at % page_size) page each) h
+page_misshapen page at k each h = shape_to (page_rest page at) at k (AreBytes-drop (at % page_size) (take page_size page) (AreBytes-take page_size page each)) h

@@ -1,5 +1,5 @@
 -- The written spelling of a record is in the table, and is the only one.
-use Rattle.std.proofs.Common.{◌≡◌, ℕ, zero, suc, ◌+◌, ◌-◌, ◌*◌, ◌%◌, ◌^◌, ◌<◌, ◌≤◌, List, [], ◌∷◌, ◌++◌, length, take, drop, Some, Ok, refl, sym, ap, ◌∙◌, subst, arith, rules, ℤ}
+use Rattle.std.proofs.Common.{◌≡◌, ℕ, zero, suc, ◌+◌, ◌-◌, ◌*◌, ◌^◌, ◌<◌, ◌≤◌, List, [], ◌∷◌, ◌++◌, length, take, drop, Some, Ok, refl, sym, ap, ◌∙◌, subst, arith, rules, ℤ}
 use Rattle.std.specs.Prelude.{All, FitsSigned}
 use Rattle.std.specs.Int.{w64, cast_signed, cast_unsigned}
 use Rattle.std.specs.List.{flat_map}
@@ -17,7 +17,7 @@ use Rattle.record_model.specs.Attributes.{units_at, unit_bytes, filled}
 use Rattle.record_model.proofs.UnitBytes.{field_here, units_here, length-unit_bytes, length-filled}
 use Rattle.record_model.proofs.RecordSpelling.{unpacked-packed}
 use Rattle.tree_model.specs.declared.journal.Usn.{Usn}
-use Rattle.journal_model.specs.UsnRecords.{known_version, page_size, usn_at, IsUsn, BeginsRecord, usn_size, head_spelling, usn_spelling, FitsUsn}
+use Rattle.journal_model.specs.UsnRecords.{known_version, page_rest, usn_at, IsUsn, BeginsRecord, usn_size, head_spelling, usn_spelling, FitsUsn}
 use Rattle.journal_model.proofs.UsnRead.{table_read}
 
 -- ---- signed times
@@ -159,9 +159,9 @@ module _ (entry : Usn) (fits : FitsUsn entry) where
       let front : take (length s) bytes ≡ s = ap (take (length s)) e ∙ take_at s rest (length s) refl in
       record { inside = omega (arith, ap length e, length-append s rest); own = (subst (λ (x : List ℕ). IsUsn x entry) (sym front) spelled_table, refl) }
 
-  pub spelled_read : (page rest : List ℕ) → drop (entry.usn % page_size) page ≡ s ++ rest → usn_at page entry.usn ≡ Ok (Some entry, length s)
+  pub spelled_read : (page rest : List ℕ) → page_rest page entry.usn ≡ s ++ rest → usn_at page entry.usn ≡ Ok (Some entry, length s)
   unfolding usn_at
-  spelled_read page rest e = table_read (drop (entry.usn % page_size) page) entry.usn (Some entry) (length s) (spelled_begins (drop (entry.usn % page_size) page) rest e)
+  spelled_read page rest e = table_read (page_rest page entry.usn) entry.usn (Some entry) (length s) (spelled_begins (page_rest page entry.usn) rest e)
 
 -- ---- what the table says fits
 

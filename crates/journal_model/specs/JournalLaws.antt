@@ -1,17 +1,17 @@
 -- The laws of pages and of journals.
-use Rattle.std.specs.Prelude.{◌≡◌, ◌↔◌, ℕ, ◌*◌, ◌%◌, ◌+◌, ◌<◌, ◌≤◌, List, [], ◌∷◌, ◌++◌, length, drop, Ok, Err}
+use Rattle.std.specs.Prelude.{◌≡◌, ◌↔◌, ℕ, ◌*◌, ◌+◌, ◌<◌, ◌≤◌, List, [], ◌∷◌, ◌++◌, length, min, Ok, Err}
 use Rattle.host_base.specs.Answers.{◌>>=◌}
 use Rattle.disk_model.specs.Bytes.{AreBytes, zeros}
 use Rattle.tree_model.specs.declared.journal.Usn.{Usn}
 use Rattle.journal_model.specs.declared.fault.UsnFault.{UsnFault}
-use Rattle.journal_model.specs.UsnRecords.{page_size, usn_spelling, FitsUsn}
+use Rattle.journal_model.specs.UsnRecords.{page_size, page_rest, usn_spelling, FitsUsn}
 use Rattle.journal_model.specs.Pages.{page_records, records_of, HasRecords, AreRecords, HasFault}
 use Rattle.journal_model.specs.Journals.{bytes_between, page_entries, pages_before, journal_from, journal_in}
 
 -- a page is read exactly where it is records and then zeros, and refused exactly at the first record that is refused
 pub record PageIsTable : Type 0 where
-  pub read : (page : List ℕ) (at : ℕ) (entries : List Usn) → AreBytes page → (page_records page at ≡ Ok entries) ↔ HasRecords (drop (at % page_size) page) at entries
-  pub refused : (page : List ℕ) (at : ℕ) (fault : UsnFault) → AreBytes page → (page_records page at ≡ Err fault) ↔ HasFault (drop (at % page_size) page) at fault
+  pub read : (page : List ℕ) (at : ℕ) (entries : List Usn) → AreBytes page → (page_records page at ≡ Ok entries) ↔ HasRecords (page_rest page at) at entries
+  pub refused : (page : List ℕ) (at : ℕ) (fault : UsnFault) → AreBytes page → (page_records page at ≡ Err fault) ↔ HasFault (page_rest page at) at fault
 
 -- records that stand one behind the other are read one behind the other
 pub record RecordsJoin : Type 0 where
@@ -31,8 +31,8 @@ pub record JournalIsPages : Type 0 where
   pub last : (byte : ℕ → ℕ) (first next k : ℕ) → pages_before next ≤ k → journal_from byte first next k ≡ Ok []
   -- bytes outside it don't count
   pub same : (byte byte' : ℕ → ℕ) (first next : ℕ) → ((i : ℕ) → first ≤ i → i < next → byte i ≡ byte' i) → journal_in byte first next ≡ journal_in byte' first next
-  -- a page's bytes are read from an offset on as those that stand there
-  pub from : (byte : ℕ → ℕ) (k at to : ℕ) → page_size * k ≤ at → at < page_size * k + page_size → page_records (bytes_between byte (page_size * k) to) at ≡ records_of (bytes_between byte at to) at
+  -- a page's bytes are read from an offset on as those that stand there, up to the page's end
+  pub from : (byte : ℕ → ℕ) (k at to : ℕ) → page_size * k ≤ at → at < page_size * k + page_size → page_records (bytes_between byte (page_size * k) to) at ≡ records_of (bytes_between byte at (min to (page_size * k + page_size))) at
   -- a journal is that before the begin of a page, and that from there on
   pub split : (byte : ℕ → ℕ) (first next k : ℕ) → first ≤ page_size * k → page_size * k ≤ next → journal_in byte first next ≡ (journal_in byte first (page_size * k) >>= λ front. journal_in byte (page_size * k) next >>= λ behind. Ok (front ++ behind))
   -- zeros behind a journal that is read add nothing

@@ -1,12 +1,12 @@
 -- The records of a stream that is a change journal, page after page. The stream is a byte at each offset.
-use Rattle.std.specs.Prelude.{ℕ, ◌+◌, ◌-◌, ◌*◌, ◌/◌, max, min, List, [], ◌∷◌, ◌++◌, map, Result, Ok, Err}
+use Rattle.std.specs.Prelude.{ℕ, ◌+◌, ◌-◌, ◌*◌, ◌/◌, max, min, Bool, List, [], ◌∷◌, ◌++◌, length, map, Result, Ok, Err}
 use Rattle.std.specs.List.{range_with_len}
 use Rattle.host_base.specs.Answers.{◌>>=◌}
 use Rattle.tree_model.specs.declared.journal.Usn.{Usn}
 use Rattle.journal_model.specs.declared.fault.UsnFault.{UsnFault}
 use Rattle.journal_model.specs.declared.fault.UsnFault.TheVariants.{Cut, Shape, Memory}
 use Rattle.journal_model.specs.UsnRecords.{page_size}
-use Rattle.journal_model.specs.Pages.{records_of}
+use Rattle.journal_model.specs.Pages.{records_of, ends_in_record}
 
 -- the bytes of a stream from one offset on to another
 unfoldable pub bytes_between : (ℕ → ℕ) → ℕ → ℕ → List ℕ
@@ -49,3 +49,7 @@ journal_from byte first next k = joined (map (page_entries byte first next) (ran
 -- the entries of the stream from first on and before next, or the offset of the first fault
 unfoldable pub journal_in : (ℕ → ℕ) → ℕ → ℕ → Result (List Usn) ℕ
 journal_in byte first next = journal_from byte first next (first / page_size)
+
+-- whether a record owns the bytes before next in its page, from first on: they end in one, rather than in zeros
+unfoldable pub is_owned : (ℕ → ℕ) → ℕ → ℕ → Bool
+is_owned byte first next = let bytes : List ℕ = bytes_between byte (page_from first (next / page_size)) next in ends_in_record (length bytes) bytes

@@ -1,11 +1,12 @@
 -- The records of a page of the change journal: whole records one behind the other, and then zeros.
-use Rattle.std.specs.Prelude.{◌≡◌, ⊤, ℕ, zero, suc, ◌+◌, ◌%◌, false, if◌then◌else◌, List, [], ◌∷◌, ◌++◌, length, map, drop, Option, Some, None, Result, Ok, Err}
+use Rattle.std.specs.Prelude.{◌≡◌, ⊤, ℕ, zero, suc, ◌+◌, ◌==◌, ◌&&◌, ◌||◌, not, Bool, false, if◌then◌else◌, List, [], ◌∷◌, ◌++◌, length, map, drop, Option, Some, None, Result, Ok, Err}
 use Rattle.std.specs.List.{concat, filter_map}
 use Rattle.host_base.specs.Answers.{◌>>=◌}
+use Rattle.disk_model.specs.Numbers.{field}
 use Rattle.disk_model.specs.Bytes.{zeros}
 use Rattle.tree_model.specs.declared.journal.Usn.{Usn}
 use Rattle.journal_model.specs.declared.fault.UsnFault.{UsnFault}
-use Rattle.journal_model.specs.UsnRecords.{page_size, all_zeros, usn_in, IsRecord}
+use Rattle.journal_model.specs.UsnRecords.{page_rest, is_whole, all_zeros, usn_in, IsRecord}
 
 -- ---- the reader
 
@@ -25,7 +26,13 @@ records_of bytes at = records_in (length bytes) bytes at
 
 -- the entries from this offset of the journal on to the end of its page's bytes, or the first fault
 unfoldable pub page_records : List ℕ → ℕ → Result (List Usn) UsnFault
-page_records page at = records_of (drop (at % page_size) page) at
+page_records page at = records_of (page_rest page at) at
+
+-- Whether the last of the records in these bytes, of so many at most, ends where the bytes end. Else zeros that no record owns
+-- stand there, or there are no bytes. A record of another version counts by its length.
+unfoldable pub ends_in_record : ℕ → List ℕ → Bool
+ends_in_record zero bytes = false
+ends_in_record (suc most) bytes = not (all_zeros bytes) && is_whole bytes && (field 0x00 4 bytes == length bytes || ends_in_record most (drop (field 0x00 4 bytes) bytes))
 
 -- ---- the table
 

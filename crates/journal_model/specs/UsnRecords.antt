@@ -86,9 +86,13 @@ usn_in bytes at =
     needs (is_length (field 0x00 4 bytes)) (Shape at) >>= λ _.
     entry_in at (own_bytes bytes) >>= λ entry. Ok (entry, field 0x00 4 bytes)
 
--- the record at this offset of the journal, in the bytes of its page
+-- the bytes of a page from this offset of the journal on; bytes that are given behind its 4,096 are none of it
+abbrev pub page_rest : List ℕ → ℕ → List ℕ
+page_rest page at = drop (at % page_size) (take page_size page)
+
+-- the record at this offset of the journal, in the bytes of its page, behind whose end no record ends
 unfoldable pub usn_at : List ℕ → ℕ → Result (Option Usn × ℕ) UsnFault
-usn_at page at = usn_in (drop (at % page_size) page) at
+usn_at page at = usn_in (page_rest page at) at
 
 -- ---- the table
 
