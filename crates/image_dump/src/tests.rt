@@ -76,6 +76,7 @@ fn journal(alloc: Global) -> Journal {
         first: 0,
         next: 64,
         reach: 4096,
+        owned: true,
         entries: UsnList::new(alloc),
     }
 }
