@@ -33,8 +33,10 @@ fn put(bytes: &mut [u8], at: usize, new: &[u8])
 #[derive(Drop)]
 pub struct MemoryDevice {
     bytes: Vec<u8>,
-    failing: Vec<u64>,
-    calls: u64,
+    /// The numbers of the calls that fail.
+    pub failing: Vec<u64>,
+    /// The calls begun so far.
+    pub calls: u64,
     moment: u64,
     faults: u64,
     ghost whole: { length bytes.items % 512 ≡ 0 },
@@ -71,8 +73,8 @@ impl MemoryDevice {
         ensures moment { self.new.moment ≡ moment_after self.old.moment }
         ensures cause { FailsByCause self.old.faults self.new.faults self.new.moment result }
         ensures failing { self.new.failing.items ≡ self.old.failing.items }
-        ensures calls { self.new.calls ≡ calls_after self.old }
-        ensures due { IsErr result ↔ FailsNext self.old }
+        ensures calls { self.new.calls ≡ calls_after self.old.moment self.old.calls }
+        ensures due { IsErr result ↔ FailsNext self.old.moment self.old.failing.items self.old.calls }
         ensures ended { last_moment ≤ self.old.moment → self.new.faults ≡ self.old.faults }
     {
         if self.moment >= LAST_MOMENT {
@@ -124,9 +126,9 @@ impl Device for MemoryDevice {
         ensures cause { FailsByCause (⟦<MemoryDevice as Device>⟧.fault_count self.old) (⟦<MemoryDevice as Device>⟧.fault_count self.new) (⟦<MemoryDevice as Device>⟧.moment_of self.new) result }
         ensures ended { last_moment ≤ ⟦<MemoryDevice as Device>⟧.moment_of self.old → DoesNothing (⟦<MemoryDevice as Device>⟧.gives self.old) (⟦<MemoryDevice as Device>⟧.gives self.new) (⟦<MemoryDevice as Device>⟧.fault_count self.old) (⟦<MemoryDevice as Device>⟧.fault_count self.new) result }
         ensures untouched { last_moment ≤ ⟦<MemoryDevice as Device>⟧.moment_of self.old → out.new ≡ out.old }
-        ensures due { IsErr result ↔ FailsNext self.old }
+        ensures due { IsErr result ↔ FailsNext (⟦<MemoryDevice as Device>⟧.moment_of self.old) self.old.failing.items self.old.calls }
         ensures failing { self.new.failing.items ≡ self.old.failing.items }
-        ensures calls { self.new.calls ≡ calls_after self.old }
+        ensures calls { self.new.calls ≡ calls_after (⟦<MemoryDevice as Device>⟧.moment_of self.old) self.old.calls }
     {
         self.begin()?;
         get(&self.bytes, SECTOR_BYTES * first as usize, out);
@@ -145,9 +147,9 @@ impl Device for MemoryDevice {
         ensures cause { FailsByCause (⟦<MemoryDevice as Device>⟧.fault_count self.old) (⟦<MemoryDevice as Device>⟧.fault_count self.new) (⟦<MemoryDevice as Device>⟧.moment_of self.new) result }
         ensures ended { last_moment ≤ ⟦<MemoryDevice as Device>⟧.moment_of self.old → DoesNothing (⟦<MemoryDevice as Device>⟧.gives self.old) (⟦<MemoryDevice as Device>⟧.gives self.new) (⟦<MemoryDevice as Device>⟧.fault_count self.old) (⟦<MemoryDevice as Device>⟧.fault_count self.new) result }
         ensures nothing { OnErr result (⟦<MemoryDevice as Device>⟧.gives self.new ≡ ⟦<MemoryDevice as Device>⟧.gives self.old) }
-        ensures due { IsErr result ↔ FailsNext self.old }
+        ensures due { IsErr result ↔ FailsNext (⟦<MemoryDevice as Device>⟧.moment_of self.old) self.old.failing.items self.old.calls }
         ensures failing { self.new.failing.items ≡ self.old.failing.items }
-        ensures calls { self.new.calls ≡ calls_after self.old }
+        ensures calls { self.new.calls ≡ calls_after (⟦<MemoryDevice as Device>⟧.moment_of self.old) self.old.calls }
     {
         // A failing write writes nothing.
         self.begin()?;
@@ -163,9 +165,9 @@ impl Device for MemoryDevice {
         ensures moment { ⟦<MemoryDevice as Device>⟧.moment_of self.new ≡ moment_after (⟦<MemoryDevice as Device>⟧.moment_of self.old) }
         ensures cause { FailsByCause (⟦<MemoryDevice as Device>⟧.fault_count self.old) (⟦<MemoryDevice as Device>⟧.fault_count self.new) (⟦<MemoryDevice as Device>⟧.moment_of self.new) result }
         ensures ended { last_moment ≤ ⟦<MemoryDevice as Device>⟧.moment_of self.old → DoesNothing (⟦<MemoryDevice as Device>⟧.gives self.old) (⟦<MemoryDevice as Device>⟧.gives self.new) (⟦<MemoryDevice as Device>⟧.fault_count self.old) (⟦<MemoryDevice as Device>⟧.fault_count self.new) result }
-        ensures due { IsErr result ↔ FailsNext self.old }
+        ensures due { IsErr result ↔ FailsNext (⟦<MemoryDevice as Device>⟧.moment_of self.old) self.old.failing.items self.old.calls }
         ensures failing { self.new.failing.items ≡ self.old.failing.items }
-        ensures calls { self.new.calls ≡ calls_after self.old }
+        ensures calls { self.new.calls ≡ calls_after (⟦<MemoryDevice as Device>⟧.moment_of self.old) self.old.calls }
     {
         // What was written stands there already.
         self.begin()
