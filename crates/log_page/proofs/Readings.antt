@@ -1,5 +1,5 @@
 -- The entries of a page, one after the other.
-use Rattle.std.proofs.Common.{◌≡◌, ℕ, zero, suc, ◌+◌, ◌≤◌, true, false, List, [], ◌∷◌, ◌++◌, length, Option, Some, None, refl, sym, ap, ◌∙◌, subst, append_assoc, arith}
+use Rattle.std.proofs.Common.{◌≡◌, ℕ, zero, suc, ◌+◌, ◌-◌, ◌≤◌, true, false, List, [], ◌∷◌, ◌++◌, length, take, Option, Some, None, refl, sym, ap, ◌∙◌, subst, append_assoc, arith}
 use Rattle.std.specs.Prelude.{All, IfSome}
 use Rattle.std.proofs.lemmas.List.{append-nil, length-take, length-drop}
 use Rattle.std.proofs.lemmas.List.Elements.{All-push}
@@ -82,6 +82,23 @@ ends_free fuel page first at front old whole less read =
     let same : with_front old whole ≡ with_front front no_reading = sym read ∙ ap (with_front front) (stop fuel page first at less) in
     (ap (λ (r : Reading). r.foreign) same, sym (append-nil front) ∙ sym (ap (λ (r : Reading). r.entries) same))
 
+take_front : (front rest : List Entry) → take (length front) (front ++ rest) ≡ front
+take_front [] rest = refl
+take_front (x ∷ front) rest = ap (λ l. x ∷ l) (take_front front rest)
+
+-- of two lists that go on to the same one, the longer one is the shorter one with a front of what follows that
+longer_front : (old front rest entries : List Entry) → front ++ rest ≡ old ++ entries → length old ≤ length front → front ≡ old ++ take (length front - length old) entries
+longer_front [] front rest entries same le =
+    let all : length front - 0 ≡ length front = omega arith in
+    sym (ap (λ (k : ℕ). take k entries) all ∙ ap (take (length front)) (sym same) ∙ take_front front rest)
+longer_front (x ∷ old) [] rest entries same le = absurd (omega arith)
+longer_front (x ∷ old) (y ∷ front) rest entries same le =
+    let first : y ≡ x = cc in
+    let behind : front ++ rest ≡ old ++ entries = cc in
+    let fewer : length old ≤ length front = omega arith in
+    let left : length (y ∷ front) - length (x ∷ old) ≡ length front - length old = omega arith in
+    ap (λ (z : Entry). z ∷ front) first ∙ ap (λ l. x ∷ l) (longer_front old front rest entries behind fewer) ∙ ap (λ (k : ℕ). x ∷ (old ++ take k entries)) (sym left)
+
 -- wherever it is left, a front of the entries was read
-pub left_early : (rest : Reading) (front old : List Entry) (whole : Reading) → with_front front rest ≡ with_front old whole → AppendsFront whole.entries old front
-left_early rest front old whole read = (rest.entries, ap (λ (r : Reading). r.entries) read)
+pub left_early : (rest : Reading) (front old : List Entry) (whole : Reading) → length old ≤ length front → with_front front rest ≡ with_front old whole → AppendsFront whole.entries old front
+left_early rest front old whole le read = (length front - length old, longer_front old front rest.entries whole.entries (ap (λ (r : Reading). r.entries) read) le)

@@ -106,7 +106,7 @@ page_entries pages raw first = if is_whole_page pages raw first then all_or_fore
 
 -- a front of these entries was appended
 abbrev pub AppendsFront : List Entry → List Entry → List Entry → Type 0
-AppendsFront entries old new = (rest : List Entry) × (new ++ rest ≡ old ++ entries)
+AppendsFront entries old new = (n : ℕ) × (new ≡ old ++ take n entries)
 
 abbrev pub AppendsReading : Reading → List Entry → List Entry → Result (Unit {0}) PageFault → Type 0
 AppendsReading reading old new (Ok done) = (reading.foreign ≡ None) × (new ≡ old ++ reading.entries)

@@ -86,6 +86,7 @@ fn keep(entries: &mut Vec<Entry>, entry: Entry) -> Result<(), AllocError>
 }
 
 // Appends the entries of a page whose update sequence was undone from an offset on.
+#[tactic(auto, using(crate::proofs::Readings::left_early))]
 fn append_from(
     alloc: Global,
     entries: &mut Vec<Entry>,
