@@ -1,17 +1,10 @@
--- What a call leaves of a view, and what its faults are here.
-use Rattle.std.specs.Prelude.{◌≡◌, ℕ, ◌≤◌, ⊤, Option}
+-- What the faults of a view are here.
+use Rattle.std.specs.Prelude.{⊤}
 use Rattle.host_base.specs.Answers.{Cause, refused, no_memory, failed}
-use Rattle.disk_model.specs.Content.{Content}
 use Rattle.block_view.specs.declared.fault.ViewFault.{ViewFault}
 use Rattle.block_view.specs.declared.fault.ViewFault.TheVariants as views
 use Rattle.log_reading.specs.declared.fault.RecoveryFault.{RecoveryFault}
 use Rattle.log_reading.specs.declared.fault.RecoveryFault.TheVariants.{LogVersion, NoRestart, ForeignLog, Fault, Memory}
-
--- its content is the same, and what it keeps, and its count of faults didn't fall
-pub record KeepsView {V Kept : Type 0} (content : V → Option Content) (kept : V → Kept) (faults : V → ℕ) (old new : V) : Type 0 where
-  pub same : content new ≡ content old
-  pub stays : kept new ≡ kept old
-  pub later : faults old ≤ faults new
 
 abbrev pub fault_of_view : ViewFault → RecoveryFault
 fault_of_view views.Fault = Fault

@@ -3,7 +3,8 @@ ghost use Rattle.std.specs.Prelude.{◌≡◌, ◌∷◌, [], ◌^◌, ◌<◌, 
 ghost use Rattle.std.specs.Option.{option_map};
 ghost use Rattle.host_base.specs.Causes.{Rose};
 ghost use Rattle.log_page.specs.LiveLogs.{said_lsn, greater, greatest_lsn};
-ghost use Rattle.log_reading.specs.Views.{KeepsView, NeverForeign};
+ghost use Rattle.block_view.specs.Views.{KeepsView};
+ghost use Rattle.log_reading.specs.Views.{NeverForeign};
 ghost use Rattle.log_reading.specs.LogPages.{sector_in, sector_below, sector_bytes, page_in, IsSmall, IsLogPlace};
 ghost use Rattle.log_reading.specs.Laps.{is_read, NoneBetween, IsNext, IsBehind};
 

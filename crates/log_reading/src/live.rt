@@ -5,7 +5,8 @@ ghost use Rattle.log_model.specs.Entries.{FitsEntry};
 ghost use Rattle.log_page.specs.Places.{lap_of, page_of, page_lsn, is_in_ring, page_after, lap_after};
 ghost use Rattle.log_page.specs.RecordPages.{is_whole_page, page_reading, AppendsPage};
 ghost use Rattle.log_page.specs.LiveLogs.{live_log, start_in_page};
-ghost use Rattle.log_reading.specs.Views.{KeepsView, NeverForeign};
+ghost use Rattle.block_view.specs.Views.{KeepsView};
+ghost use Rattle.log_reading.specs.Views.{NeverForeign};
 ghost use Rattle.log_reading.specs.LogPages.{page_in, IsLogPlace};
 ghost use Rattle.log_reading.specs.Live.{reading_of};
 

@@ -2,7 +2,8 @@
 ghost use Rattle.std.specs.Prelude.{◌≡◌, ◌+◌, ◌*◌, ◌^◌, ◌<◌, ◌++◌, All, OnOk, IfErr, IfSome, IsErrOf, length};
 ghost use Rattle.host_base.specs.Causes.{Rose};
 ghost use Rattle.disk_model.specs.Sectors.{zero_sector};
-ghost use Rattle.log_reading.specs.Views.{KeepsView, NeverForeign};
+ghost use Rattle.block_view.specs.Views.{KeepsView};
+ghost use Rattle.log_reading.specs.Views.{NeverForeign};
 ghost use Rattle.log_reading.specs.LogPages.{sector_in, log_sector, sector_bytes, page_in, IsSmall, IsLogPlace};
 
 use crate::fault::RecoveryFault;

@@ -1,7 +1,7 @@
 use Rattle.std.proofs.Common.{◌≡◌, ◌-◌, ◌≤◌}
 use Rattle.std.specs.Prelude.{◌^◌, IfSome}
 use Rattle.log_page.specs.LiveLogs.{greatest_lsn}
-use Rattle.log_reading.specs.Views.{KeepsView}
+use Rattle.block_view.specs.Views.{KeepsView}
 use Rattle.log_reading.specs.LogPages.{page_in}
 use Rattle.log_reading.proofs.Said.{left_of}
 use Rattle.log_reading.proofs.laps.greatest_lsn.Given as goal

@@ -1,7 +1,7 @@
 use Rattle.std.proofs.Common.{◌≡◌, ◌+◌, ◌-◌, ◌*◌, ◌++◌}
 use Rattle.std.specs.Prelude.{IfSome, length}
 use Rattle.disk_model.specs.Sectors.{raw_from}
-use Rattle.log_reading.specs.Views.{KeepsView}
+use Rattle.block_view.specs.Views.{KeepsView}
 use Rattle.log_reading.specs.LogPages.{log_sector, sector_bytes}
 use Rattle.log_reading.proofs.pages.read_page.Given as goal
 
