@@ -4,7 +4,7 @@ ghost use Rattle.std.specs.Ordering.{nat_cmp};
 ghost use Rattle.std.specs.BTreeSet.{contains};
 ghost use Rattle.host_base.specs.Causes.{Rose};
 ghost use Rattle.log_model.specs.Logs.{IsLevel, is_ended};
-ghost use Rattle.log_reading.specs.Views.{KeepsView};
+ghost use Rattle.block_view.specs.Views.{KeepsView};
 ghost use Rattle.log_recovery.specs.Blocks.{Lies};
 ghost use Rattle.log_recovery.specs.Groups.{HasGroups};
 ghost use Rattle.log_recovery.specs.Places.{HasMet};
