@@ -1,14 +1,14 @@
 -- The spelling of a root is in the table.
-use Rattle.std.proofs.Common.{◌≡◌, ℕ, ◌+◌, ◌-◌, ◌%◌, ◌^◌, ◌<◌, ◌≤◌, List, [], ◌∷◌, ◌++◌, length, take, drop, All, Option, Some, None, Ok, refl, sym, ap, ◌∙◌, subst, arith}
-use Rattle.std.specs.List.{concat, flat_map}
+use Rattle.std.proofs.Common.{◌≡◌, ℕ, ◌+◌, ◌-◌, ◌%◌, ◌≤◌, List, [], ◌∷◌, ◌++◌, length, take, drop, All, Option, Some, None, refl, sym, ap, ◌∙◌, subst, arith}
+use Rattle.std.specs.List.{flat_map}
 use Rattle.std.proofs.lemmas.List.{append-nil, length-append, length-drop, take_at}
 use Rattle.disk_model.specs.Numbers.{field, spell}
 use Rattle.disk_model.specs.Bytes.{part, written, zeros}
 use Rattle.index_node.proofs.Placing.{put_first, put_next, all_put}
 use Rattle.record_model.specs.declared.entry.Entry.{Entry}
-use Rattle.record_model.specs.Nodes.{Node, first_entry, used_end, allocated_end, children_flag, entry_bytes, down_flag, entry_spelling, entries_length, node_used, node_room, children_of, node_head, node_spelling, root_at, HoldsEntries, IsNode, IsRoot, FitsNode}
-use Rattle.record_model.proofs.UnitBytes.{field_here, length-zeros}
-use Rattle.record_model.proofs.NodeSpelling.{length-entry_spellings, length-node_spelling, node_spells}
+use Rattle.record_model.specs.Nodes.{Node, first_entry, used_end, allocated_end, children_flag, entry_bytes, down_flag, entry_spelling, entries_length, node_used, node_room, children_of, node_head, node_spelling, HoldsEntries, IsRoot, FitsNode}
+use Rattle.record_model.proofs.UnitBytes.{field_here}
+use Rattle.record_model.proofs.NodeSpelling.{length-entry_spellings, node_spells}
 use Rattle.record_model.proofs.NodeTables.{ok_from_root}
 use Rattle.index_root.specs.Roots.{root_used, root_head, root_spelling, new_node, HaveSpelling}
 use Rattle.index_root.specs.RootLaws.{RootReadAgain, SpelledInEachBlock}

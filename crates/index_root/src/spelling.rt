@@ -1,4 +1,4 @@
-ghost use Rattle.std.specs.Prelude.{◌≡◌, ◌↔◌, ◌+◌, ◌<◌, ◌≤◌, All, true, false, ◌^◌, length};
+ghost use Rattle.std.specs.Prelude.{◌≡◌, ◌↔◌, ◌+◌, ◌<◌, ◌≤◌, All, true, false, ◌^◌};
 ghost use Rattle.record_model.specs.declared.entry.Entry.{Entry as EntryOf};
 ghost use Rattle.record_model.specs.Values.{is_file_name};
 ghost use Rattle.record_model.specs.Nodes.{down_flag, children_of, entry_length, node_room, node_used, no_file, FitsDown, FitEntries, FitsEntry, FitsLast};

@@ -1,9 +1,7 @@
-ghost use Rattle.std.specs.Prelude.{List, ◌≡◌, ◌+◌, ◌++◌, ◌-◌, ◌≤◌, ◌<◌, IfOk, length, take, drop};
-ghost use Rattle.std.specs.List.{flat_map};
+ghost use Rattle.std.specs.Prelude.{◌≡◌, ◌+◌, ◌++◌, ◌-◌, ◌≤◌, ◌<◌, IfOk, length};
 ghost use Rattle.disk_model.specs.Bytes.{part, written};
-ghost use Rattle.record_model.specs.declared.entry.Entry.{Entry};
-ghost use Rattle.record_model.specs.Nodes.{children_of, entries_length, entry_spelling, node_spelling, FitsNode};
-ghost use Rattle.index_root.specs.Roots.{root_head, root_spelling, root_used, HaveSpelling};
+ghost use Rattle.record_model.specs.Nodes.{children_of, node_spelling, FitsNode};
+ghost use Rattle.index_root.specs.Roots.{root_head, root_spelling, HaveSpelling};
 
 use crate::spelling::children_of;
 use disk_model::{put_bytes, put_u32};

@@ -1,8 +1,7 @@
-use Rattle.std.proofs.Common.{◌≡◌, ℕ, ◌+◌, ◌-◌, ◌≤◌, List, length, ap, sym, ◌∙◌, subst, arith}
+use Rattle.std.proofs.Common.{◌≡◌, ◌+◌, ◌-◌, length, ap, ◌∙◌, arith}
 use Rattle.disk_model.specs.Bytes.{part}
-use Rattle.record_model.specs.declared.entry.Entry.{Entry}
-use Rattle.record_model.specs.Nodes.{Node, node_used, node_spelling, children_of, entries_length, entry_spelling}
-use Rattle.index_root.specs.Roots.{root_spelling, new_node}
+use Rattle.record_model.specs.Nodes.{Node, node_used, node_spelling, children_of, entries_length}
+use Rattle.index_root.specs.Roots.{new_node}
 use Rattle.index_root.proofs.Spelled.{node_used_is, entries_part, root_is}
 use Rattle.record_model.proofs.NodeSpelling.{length-node_spelling}
 use Rattle.index_root.proofs.writing.write_root.Goals as goal
