@@ -7,7 +7,9 @@ use Rattle.block_view.specs.declared.fault.ViewFault.TheVariants.{Fault, Memory}
 use Rattle.index_model.specs.declared.side.Side.{Side}
 use Rattle.index_model.specs.declared.side.Side.TheVariants.{Unnamed, Before, Same, Behind}
 use Rattle.record_model.specs.declared.entry.Entry.{Entry}
-use Rattle.record_model.specs.Nodes.{Node as NodeOf}
+use Rattle.record_model.specs.Nodes.{Node as NodeOf, node_at}
+use Rattle.disk_model.specs.declared.block.Block.{Block}
+use Rattle.disk_model.specs.Content.{Content}
 use Rattle.index_model.specs.Walks.{Broken}
 use Rattle.index_tree.specs.declared.fault.TreeFault.{TreeFault}
 use Rattle.index_tree.specs.declared.fault.TreeFault.TheVariants.{Node, Present, Absent, Deep, View}
@@ -64,6 +66,11 @@ abbrev pub IsRead : Result (List Entry) ℕ → Option NodeOf → Type 0
 IsRead read (Some n) = read ≡ Ok n.entries
 IsRead (Ok entries) None = ⊥
 IsRead (Err rule) None = ⊤
+
+-- the bytes of this block spell the node, with its VCN and LSN
+abbrev pub StandsAt : Content → Option Block → NodeOf → Type 0
+StandsAt c None n = ⊥
+StandsAt c (Some b) n = node_at (c b).bytes ≡ Ok n
 
 -- what a call that reads a node answers, without the rules
 abbrev pub ViewOf : Result (Option NodeOf) ViewFault → Result NodeOf TreeFault → Type 0

@@ -40,7 +40,7 @@ fn side_of_link(up: &Upcase, name: &[u16], link: &Link) -> Side
     }
 }
 
-/// Where an entry with this link stands to a name.
+/// Where an entry with this link stands to a name. Linear in the two names; it takes no memory.
 pub fn side_of(up: &Upcase, name: &[u16], link: &Option<Link>) -> Side
     ensures { result ≡ side_of up.now name.now link.now }
 {

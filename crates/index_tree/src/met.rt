@@ -30,7 +30,8 @@ impl Model for Met {
     ghost view = { λ m. record { links = m.links; marks = m.marks.items } };
 }
 
-/// The link that an entry holds; the last entry of a node holds none.
+/// The link that an entry holds; the last entry of a node holds none, and so does one whose key is
+/// no file-name value. The error is want of memory. Linear in the bytes of the key.
 #[tactic(auto, unfolding(index_model::specs::Indexes::entry_link))]
 pub fn entry_link(alloc: Global, entry: &Entry) -> Result<Option<Link>, AllocError>
     ensures { IfOk result (λ link. link ≡ entry_link entry.now) }

@@ -2,9 +2,9 @@ ghost use Rattle.std.specs.Prelude.{◌≡◌, IfOk, IfSome, Ok, length};
 ghost use Rattle.host_base.specs.Answers.{Gives, GivesOrFails};
 ghost use Rattle.record_model.specs.Nodes.{node_at, root_at};
 ghost use Rattle.index_model.specs.Walks.{root_vcn};
-ghost use Rattle.index_model.specs.Indexes.{entries_in, is_index_body, node_of_body, node_of_block};
+ghost use Rattle.index_model.specs.Indexes.{block_at, entries_in, is_index_body, node_of_body, node_of_block};
 ghost use Rattle.index_tree.specs.Places.{place_of};
-ghost use Rattle.index_tree.specs.Faults.{tree_cause, FailsByView, FailsAsView, ViewOf, IsRead, broken_at};
+ghost use Rattle.index_tree.specs.Faults.{tree_cause, FailsByView, FailsAsView, ViewOf, IsRead, StandsAt, broken_at};
 
 use crate::fault::TreeFault;
 use crate::place::DirPlace;
@@ -24,7 +24,10 @@ pub const ROOT_VCN: u64 = u64::MAX;
 // The bytes of an index block.
 const BLOCK_BYTES: usize = 4096;
 
-/// The entries of the index root. `Node` has the least rule that it breaks.
+/// The entries of the index root, in time and memory linear in the bytes of its value.
+///
+/// - [`TreeFault::Node`]: the root, by the VCN 2^64 - 1, and the least rule that it breaks.
+/// - [`TreeFault::View`]: there is no memory left.
 pub fn read_root(alloc: Global, dir: &DirPlace) -> Result<EntryList, TreeFault>
     ensures { Gives (λ entries. entries) tree_cause result (broken_at root_vcn (root_at dir.now.root)) }
 {
@@ -54,7 +57,8 @@ fn read_body<V: View>(alloc: Global, v: &mut V, block: Block) -> Result<Body, Tr
 // The node of an index block's 4,096 bytes.
 fn node_of(alloc: Global, vcn: u64, body: &[u8]) -> Result<Node, TreeFault>
     requires { length body.now ≡ 4096 }
-    ensures { Gives (λ n. n.entries) tree_cause result (broken_at vcn (entries_in (node_at body.now))) }
+    ensures value { Gives (λ n. n.entries) tree_cause result (broken_at vcn (entries_in (node_at body.now))) }
+    ensures whole { IfOk result (λ n. node_at body.now ≡ Ok n) }
 {
     match Node::read(alloc, body) {
         Ok(node) => Ok(node),
@@ -74,7 +78,8 @@ fn is_index(body: &Body) -> bool
 // The node with this VCN in a block's body. `Node` has the first rule that it breaks.
 #[tactic(auto, unfolding(index_model::specs::Indexes::node_of_body))]
 fn node_in(alloc: Global, vcn: u64, body: &Body) -> Result<Node, TreeFault>
-    ensures { Gives (λ n. n.entries) tree_cause result (broken_at vcn (node_of_body vcn body.now)) }
+    ensures value { Gives (λ n. n.entries) tree_cause result (broken_at vcn (node_of_body vcn body.now)) }
+    ensures whole { IfOk result (λ n. node_at body.now.bytes ≡ Ok n) }
 {
     if !is_index(body) {
         return Err(TreeFault::Node { vcn, rule: 1 });
@@ -95,6 +100,7 @@ pub fn read_node<V: View>(
     vcn: u64,
 ) -> Result<Node, TreeFault>
     ensures value { IfSome (V.content v.old) (λ c. GivesOrFails (λ n. n.entries) tree_cause result (broken_at vcn (node_of_block c (place_of dir.now) vcn))) }
+    ensures whole { IfSome (V.content v.old) (λ c. IfOk result (StandsAt c (block_at (place_of dir.now) vcn))) }
     ensures same { V.content v.new ≡ V.content v.old }
     ensures kept { V.kept v.new ≡ V.kept v.old }
     ensures cause { FailsByView (V.faults v.old) (V.faults v.new) result }
@@ -120,7 +126,12 @@ fn some_node(read: Result<Node, TreeFault>) -> Result<Option<Node>, ViewFault>
     }
 }
 
-/// The node with this VCN, where it breaks no rule.
+/// The node with this VCN, where it breaks no rule: that of its block's bytes, with the LSN that
+/// stands there. There is none where the VCN lies outside the allocation, or where the node breaks a rule.
+/// It reads the one block, in time and memory linear in its bytes.
+///
+/// - [`ViewFault::Fault`]: the view failed and counts it.
+/// - [`ViewFault::Memory`]: there is no memory left.
 pub fn node_if_any<V: View>(
     alloc: Global,
     v: &mut V,
@@ -128,6 +139,7 @@ pub fn node_if_any<V: View>(
     vcn: u64,
 ) -> Result<Option<Node>, ViewFault>
     ensures value { IfSome (V.content v.old) (λ c. IfOk result (IsRead (node_of_block c (place_of dir.now) vcn))) }
+    ensures whole { IfSome (V.content v.old) (λ c. IfOk result (λ node. IfSome node (StandsAt c (block_at (place_of dir.now) vcn)))) }
     ensures same { V.content v.new ≡ V.content v.old }
     ensures kept { V.kept v.new ≡ V.kept v.old }
     ensures cause { FailsAsView (V.faults v.old) (V.faults v.new) result }
