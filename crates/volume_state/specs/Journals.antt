@@ -18,7 +18,7 @@ use Rattle.state_model.specs.declared.stream.Stream.TheVariants.{Held, Placed}
 use Rattle.state_model.specs.Files.{is_sparse}
 use Rattle.state_model.specs.Trees.{all_links}
 use Rattle.state_model.specs.Streams.{pieces_of, stream_of, byte_at}
-use Rattle.journal_model.specs.Journals.{journal_in}
+use Rattle.journal_model.specs.Journals.{journal_in, is_owned}
 use Rattle.volume_model.specs.Volumes.{Volume, files_by_number, count_of, file_in}
 use Rattle.volume_model.specs.Sizes.{is_hole}
 use Rattle.volume_model.specs.Nodes.{first_flags}
@@ -91,11 +91,23 @@ entries_in per flags (Placed e) = needs (has_journal_shape per flags e) 0 >>= λ
 unfoldable pub journal_entries : Content → ℕ → Extents → Result (List Usn) ℕ
 journal_entries c per e = journal_in (byte_at c per e) (journal_first per e) e.real
 
+-- whether a record of $J, of any version, owns the bytes before its end in their page
+unfoldable pub journal_owned : Content → ℕ → Extents → Bool
+journal_owned c per e = is_owned (byte_at c per e) (journal_first per e) e.real
+
 -- ---- the journal
 
 -- a journal with these limits, in these clusters, of these records
-abbrev pub journal_with : ℕ → JournalMax → Extents → List Usn → Journal
-journal_with per limits e entries = record { max = limits.max; delta = limits.delta; first = journal_first per e; next = e.real; reach = e.allocated; entries = entries }
+abbrev pub journal_with : Content → ℕ → JournalMax → Extents → List Usn → Journal
+journal_with c per limits e entries = record {
+  max = limits.max;
+  delta = limits.delta;
+  first = journal_first per e;
+  next = e.real;
+  reach = e.allocated;
+  owned = journal_owned c per e;
+  entries = entries;
+}
 
 abbrev pub journal_of_streams : Content → ℕ → ℕ → Option Stream → Option Stream → Result (Option Journal) ℕ
 journal_of_streams c per flags None j = Ok None
@@ -104,7 +116,7 @@ journal_of_streams c per flags (Some max) (Some j) =
     limits_in max
     >>= λ limits. entries_in per flags j
     >>= λ e. journal_entries c per e
-    >>= λ entries. Ok (Some (journal_with per limits e entries))
+    >>= λ entries. Ok (Some (journal_with c per limits e entries))
 
 -- the flags of $J, which are those of its first piece
 unfoldable pub entries_flags : Record → ℕ

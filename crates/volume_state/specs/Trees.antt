@@ -39,7 +39,7 @@ pub record Holds (c : Content) (v : Volume) (t : Tree) : Type 0 where
 -- ---- what a check reports
 
 abbrev pub without_records : Journal → Journal
-without_records j = record { max = j.max; delta = j.delta; first = j.first; next = j.next; reach = j.reach; entries = [] }
+without_records j = record { max = j.max; delta = j.delta; first = j.first; next = j.next; reach = j.reach; owned = j.owned; entries = [] }
 
 -- the tree of a volume, without the bytes of its nodes and the records of its journal
 unfoldable pub report_of : Content → Volume → Tree
