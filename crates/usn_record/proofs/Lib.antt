@@ -2,3 +2,4 @@ pub mod Judged
 pub mod Chained
 pub mod Walked
 pub mod Appended
+pub mod Ending

@@ -1,11 +1,11 @@
 -- Walks over the records of a page: one record more, and where they end.
-use Rattle.std.proofs.Common.{◌≡◌, ℕ, ◌+◌, ◌%◌, true, false, List, [], ◌∷◌, ◌++◌, drop, Option, Some, None, Result, Ok, Err, refl, sym, ap, ◌∙◌, append_assoc}
+use Rattle.std.proofs.Common.{◌≡◌, ℕ, ◌+◌, true, false, List, [], ◌∷◌, ◌++◌, drop, Option, Some, None, Result, Ok, Err, refl, sym, ap, ◌∙◌, append_assoc}
 use Rattle.std.proofs.lemmas.List.{append-nil}
 use Rattle.host_base.specs.Answers.{◌>>=◌, Explains}
 use Rattle.tree_model.specs.declared.journal.Usn.{Usn}
 use Rattle.journal_model.specs.declared.fault.UsnFault.{UsnFault}
 use Rattle.journal_model.specs.declared.fault.UsnFault.TheVariants.{Cut, Shape, Memory}
-use Rattle.journal_model.specs.UsnRecords.{usn_cause, page_size, all_zeros, usn_in}
+use Rattle.journal_model.specs.UsnRecords.{usn_cause, page_rest, all_zeros, usn_in}
 use Rattle.journal_model.specs.Pages.{with_entry, records_of, page_records}
 use Rattle.journal_model.proofs.PageRead.{records_end, records_next, records_fault}
 use Rattle.usn_record.specs.Checking.{length_in, page_check, listed}
@@ -23,7 +23,7 @@ moved_front front (Some entry) (Ok entries) = ap (λ (l : List Usn). Ok l) (sym 
 moved_front front (Some entry) (Err fault) = refl
 
 -- before the first record
-pub begun : (front : List Usn) (page rest : List ℕ) (at : ℕ) → front ≡ [] → rest ≡ drop (at % page_size) page → with_front front (records_of rest at) ≡ page_records page at
+pub begun : (front : List Usn) (page rest : List ℕ) (at : ℕ) → front ≡ [] → rest ≡ page_rest page at → with_front front (records_of rest at) ≡ page_records page at
 unfolding page_records
 begun front page rest at none is = ap (λ (l : List Usn). with_front l (records_of rest at)) none ∙ alone (records_of rest at) ∙ ap (λ (l : List ℕ). records_of l at) is
   where
@@ -71,7 +71,7 @@ forgets None r = refl
 forgets (Some entry) (Ok entries) = refl
 forgets (Some entry) (Err fault) = refl
 
-pub check_begun : (page rest : List ℕ) (at : ℕ) → rest ≡ drop (at % page_size) page → no_entries (records_of rest at) ≡ page_check page at
+pub check_begun : (page rest : List ℕ) (at : ℕ) → rest ≡ page_rest page at → no_entries (records_of rest at) ≡ page_check page at
 unfolding page_check page_records
 check_begun page rest at is = ap (λ (l : List ℕ). no_entries (records_of l at)) is
 

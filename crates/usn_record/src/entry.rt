@@ -65,8 +65,9 @@ pub fn first_record(alloc: Global, bytes: &[u8], at: u64) -> Result<(Option<Usn>
 }
 
 /// Reads the record at the offset `at` of the journal (Microsoft's reference, "USN_RECORD_V2") in the
-/// bytes of its page, of which there are 4,096, or fewer where the journal ends inside it. The answer
-/// is the entry and the record's length; no entry where the major version isn't 2.
+/// bytes of its page, of which there are 4,096, or fewer where the journal ends inside it; bytes that
+/// are given behind these are none of the page. The answer is the entry and the record's length; no
+/// entry where the major version isn't 2.
 ///
 /// - `Cut`: the length, or the record, runs past the page.
 /// - `Shape`: the length is below 8 or no multiple of 8; or a record of version 2 has a minor version

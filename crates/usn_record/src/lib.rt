@@ -16,6 +16,6 @@ mod writing;
 
 pub use entry::read;
 pub use journal_model::UsnFault;
-pub use page::{check_page, read_page};
+pub use page::{check_page, ends_in_record, read_page};
 pub use tree_model::{Usn, UsnList};
 pub use writing::write;

@@ -1,11 +1,11 @@
 ghost use Rattle.std.specs.Prelude.{◌≡◌, ◌≢◌, ◌+◌, ◌<◌, ◌^◌, ◌++◌, length, OnOk, IfErr};
 ghost use Rattle.host_base.specs.Answers.{Gives};
 ghost use Rattle.journal_model.specs.UsnRecords.{usn_cause};
-ghost use Rattle.journal_model.specs.Pages.{page_records};
+ghost use Rattle.journal_model.specs.Pages.{page_records, ends_in_record};
 ghost use Rattle.usn_record.specs.Checking.{page_check, listed};
 
 use crate::entry::first_record;
-use crate::front::{all_zeros, from_offset};
+use crate::front::{all_zeros, from_offset, is_whole, own_length};
 use crate::judging::checked_length;
 use journal_model::UsnFault;
 use std::alloc::{AllocError, Global};
@@ -23,8 +23,9 @@ fn keep(entries: &mut UsnList, entry: Option<Usn>) -> Result<(), AllocError>
 
 /// Reads the records of a page of the journal (Microsoft's reference, "USN_RECORD_V2") from the
 /// offset `at` of the journal on, in the bytes of the page, of which there are 4,096, or fewer where
-/// the journal ends inside it. Records of another version than 2 are passed over, and where only
-/// zeros are left, the page ends. The offset behind the page is below 2^64.
+/// the journal ends inside it; bytes that are given behind these are none of the page. Records of
+/// another version than 2 are passed over, and where only zeros are left, the page ends. The offset
+/// behind the page is below 2^64.
 ///
 /// The errors are those of `read`, of the first record that is refused. It takes time and memory
 /// linear in the page.
@@ -59,4 +60,27 @@ pub fn check_page(page: &[u8], at: u64) -> Result<(), UsnFault>
         rest = rest.split_at(length as usize).1;
     }
     Ok(())
+}
+
+/// Whether a record of any version ends where these bytes end, which are records and then zeros, as
+/// `check_page` takes them. Else zeros stand there that no record owns, or there are no bytes. It
+/// takes no memory, and time linear in such bytes.
+pub fn ends_in_record(bytes: &[u8]) -> bool
+    ensures { result ≡ ends_in_record (length bytes.now) bytes.now }
+{
+    let mut rest = bytes;
+    for _ in 0..bytes.len() {
+        if all_zeros(rest) {
+            return false;
+        }
+        if !is_whole(rest) {
+            return false;
+        }
+        let length = own_length(rest);
+        if length == rest.len() {
+            return true;
+        }
+        rest = rest.split_at(length).1;
+    }
+    false
 }

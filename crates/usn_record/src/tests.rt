@@ -69,6 +69,9 @@ fn whole_page(rt: HostRuntime) -> Result<(), Fail> {
 
 #[test]
 fn refused_records(rt: HostRuntime) -> Result<(), Fail> {
+    // a record that runs past byte 4,096 of its page, where more bytes are given
+    let long = page(rt.alloc(), 511)?;
+    assert_eq!(rt; check_page(&long, 4088), Err(UsnFault::Cut { at: 4088 }));
     let page = page(rt.alloc(), 7)?;
     assert_eq!(rt; check_page(&page, 0), Err(UsnFault::Shape { at: 56 }));
     assert_eq!(rt;

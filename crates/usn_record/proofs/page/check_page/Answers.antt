@@ -1,5 +1,5 @@
-use Rattle.std.proofs.Common.{ℕ, ◌+◌, ◌%◌, length, sym, ap, ◌∙◌, arith}
-use Rattle.std.proofs.lemmas.List.{length-drop}
+use Rattle.std.proofs.Common.{ℕ, ◌+◌, ◌%◌, length, take, sym, ap, ◌∙◌, arith}
+use Rattle.std.proofs.lemmas.List.{length-drop, length-take}
 use Rattle.std.proofs.lemmas.Result.{err_from_is_err_and}
 use Rattle.journal_model.specs.UsnRecords.{page_size}
 use Rattle.journal_model.specs.Pages.{records_of}
@@ -8,7 +8,7 @@ use Rattle.usn_record.proofs.page.check_page.Goals as goal
 
 pub loop-rest-init : goal.loop-rest-init
 loop-rest-init c = record {
-  inside = omega (arith, ap length c.from_offset-rest.ensures, length-drop (c.args.at % page_size) c.args.page.now);
+  inside = omega (arith, ap length c.from_offset-rest.ensures, length-drop (c.args.at % page_size) (take page_size c.args.page.now), length-take page_size c.args.page.now);
   checked = check_begun c.args.page.now c.from_offset-rest.result.now c.args.at c.from_offset-rest.ensures;
 }
 
