@@ -1,6 +1,5 @@
 pub mod Errors
 pub mod Pieces
-pub mod Views
 pub mod Stages
 pub mod Lists
 pub mod Maps

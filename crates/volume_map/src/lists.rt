@@ -10,7 +10,7 @@ ghost use Rattle.state_model.specs.Loads.{attr_name, list_stream, entries_in, en
 ghost use Rattle.stream_map.specs.Runs.{HasSmallRuns};
 ghost use Rattle.volume_map.specs.Errors.{NeverRefused};
 ghost use Rattle.volume_map.specs.Lists.{read_of, list_at, lists_of, Takes, GoesOn};
-ghost use Rattle.volume_map.specs.Views.{KeepsView};
+ghost use Rattle.block_view.specs.Views.{KeepsView};
 
 use crate::fault::MapFault;
 use crate::files::file_at;

@@ -10,7 +10,7 @@ ghost use Rattle.volume_map.specs.Errors.{map_cause};
 ghost use Rattle.volume_map.specs.Lists.{read_of, judged_files};
 ghost use Rattle.volume_map.specs.Names.{links_in, loaded_links};
 ghost use Rattle.volume_map.specs.Scans.{verdict_of};
-ghost use Rattle.volume_map.specs.Views.{KeepsView};
+ghost use Rattle.block_view.specs.Views.{KeepsView};
 
 use crate::extras::extras_of;
 use crate::fault::MapFault;

@@ -5,7 +5,7 @@ ghost use Rattle.host_base.specs.Causes.{Rose};
 ghost use Rattle.volume_model.specs.Volumes.{volume_of};
 ghost use Rattle.volume_map.specs.Errors.{map_cause};
 ghost use Rattle.volume_map.specs.Maps.{volume_in, IsMap};
-ghost use Rattle.volume_map.specs.Views.{KeepsView};
+ghost use Rattle.block_view.specs.Views.{KeepsView};
 
 use crate::fault::MapFault;
 use crate::loading::files_in;

@@ -7,7 +7,7 @@ ghost use Rattle.state_model.specs.Loads.{Free, Used, most_records, record_count
 ghost use Rattle.stream_map.specs.Runs.{AreSmall};
 ghost use Rattle.volume_map.specs.Errors.{NeverRefused};
 ghost use Rattle.volume_map.specs.Scans.{IsUnread, IsSeen, Judges, ScannedBelow, ScansOrFails, ScansAll};
-ghost use Rattle.volume_map.specs.Views.{KeepsView};
+ghost use Rattle.block_view.specs.Views.{KeepsView};
 
 use crate::fault::MapFault;
 use crate::files::is_base_record;

@@ -8,7 +8,7 @@ ghost use Rattle.stream_map.specs.Runs.{AreSmall};
 ghost use Rattle.volume_map.specs.Errors.{map_cause};
 ghost use Rattle.volume_map.specs.Pieces.{seen};
 ghost use Rattle.volume_map.specs.Stages.{WalkedBelow, WalksOrFails, WalksAll, Notes};
-ghost use Rattle.volume_map.specs.Views.{KeepsView};
+ghost use Rattle.block_view.specs.Views.{KeepsView};
 
 use crate::fault::MapFault;
 use crate::piece::Piece;

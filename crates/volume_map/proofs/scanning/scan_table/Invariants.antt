@@ -1,7 +1,7 @@
 use Rattle.std.specs.Prelude.{IfSome}
 use Rattle.state_model.specs.Loads.{table_piece}
 use Rattle.volume_map.specs.Scans.{ScannedBelow}
-use Rattle.volume_map.specs.Views.{KeepsView}
+use Rattle.block_view.specs.Views.{KeepsView}
 use Rattle.volume_map.proofs.scanning.scan_table.Given as goal
 
 abbrev pub invariant-loop-number : goal.invariant-loop-number
