@@ -6,7 +6,7 @@ ghost use Rattle.state_model.specs.Streams.{stream_bytes};
 ghost use Rattle.stream_map.specs.Runs.{HasSmallRuns};
 ghost use Rattle.volume_map.specs.Errors.{NeverRefused};
 ghost use Rattle.volume_map.specs.Maps.{volume_in, IsMap};
-ghost use Rattle.volume_map.specs.Views.{KeepsView};
+ghost use Rattle.block_view.specs.Views.{KeepsView};
 ghost use Rattle.volume_model.specs.Volumes.{cluster_bits, record_bits};
 
 use crate::streams::{BITMAP, DATA, file_stream, stream_or_empty};

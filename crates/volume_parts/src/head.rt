@@ -3,7 +3,7 @@ ghost use Rattle.std.specs.Prelude.{◌≡◌, ◌*◌, ◌++◌, ◌∷◌, [],
 ghost use Rattle.host_base.specs.Causes.{Rose};
 ghost use Rattle.volume_map.specs.Errors.{NeverRefused};
 ghost use Rattle.volume_map.specs.Maps.{volume_in, IsMap};
-ghost use Rattle.volume_map.specs.Views.{KeepsView};
+ghost use Rattle.block_view.specs.Views.{KeepsView};
 ghost use Rattle.volume_model.specs.Volumes.{record_block};
 ghost use Rattle.volume_model.specs.Nodes.{spare_sequence};
 ghost use Rattle.volume_parts.specs.Heads.{head_of, head_at, heads_of};

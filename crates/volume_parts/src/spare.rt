@@ -83,8 +83,8 @@ fn spare_from(alloc: Global, heads: &[Head], bits: &BitSet) -> Result<FileRefLis
     Ok(spare)
 }
 
-/// The numbers from 24 on whose bit is clear, in order, with the sequence that a new file would get;
-/// there are as many records as heads. The error is want of memory. Linear in the heads.
+/// The numbers from 24 on whose bit is clear, in order, with the sequence that a new file would
+/// get; there are as many records as heads. The error is want of memory. Linear in the heads.
 pub fn spare_numbers(
     alloc: Global,
     heads: &[Head],

@@ -6,7 +6,7 @@ ghost use Rattle.stream_map.specs.Runs.{HasSmallRuns};
 ghost use Rattle.upcase_order.specs.Tables.{upcase_of};
 ghost use Rattle.volume_map.specs.Errors.{NeverRefused};
 ghost use Rattle.volume_map.specs.Maps.{volume_in, IsMap};
-ghost use Rattle.volume_map.specs.Views.{KeepsView};
+ghost use Rattle.block_view.specs.Views.{KeepsView};
 ghost use Rattle.volume_model.specs.Volumes.{table_or_standard, upper_of};
 
 use crate::streams::{DATA, file_stream, stream_or_empty};

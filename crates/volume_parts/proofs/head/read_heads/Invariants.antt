@@ -2,7 +2,7 @@ use Rattle.std.proofs.Common.{◌≡◌, length, map}
 use Rattle.std.specs.Prelude.{IfSome}
 use Rattle.std.specs.List.{range_with_len}
 use Rattle.volume_map.specs.Maps.{volume_in}
-use Rattle.volume_map.specs.Views.{KeepsView}
+use Rattle.block_view.specs.Views.{KeepsView}
 use Rattle.volume_parts.specs.Heads.{head_at}
 use Rattle.volume_parts.proofs.head.read_heads.Given as goal
 
