@@ -26,7 +26,7 @@ page_there : (byte : ℕ → ℕ) (first next k n : ℕ) (page : List ℕ) → f
 unfolding page_entries bytes_between
 page_there byte first next k n page begun size read =
     ap (λ (bytes : List ℕ). placed (page_records bytes (max first (4096 * k)))) (read ∙ ap (λ (m : ℕ). map byte (range_with_len (4096 * k) m)) size)
-    ∙ ap placed (page_from_offset byte k (max first (4096 * k)) (min next (4096 * k + 4096)) (omega arith) (omega arith))
+    ∙ ap placed (page_from_offset byte k (max first (4096 * k)) (min next (4096 * k + 4096)) (omega arith) (omega arith) (omega arith))
 
 -- whether a page is read, or its fault
 abbrev checked : Result (List Usn) UsnFault → Result (Unit {0}) UsnFault

@@ -1,5 +1,5 @@
 -- A journal that is judged, without its records.
-use Rattle.std.specs.Prelude.{ℕ, List, Option, Some, Result, Ok, Err}
+use Rattle.std.specs.Prelude.{ℕ, Bool, List, Option, Some, Result, Ok, Err}
 use Rattle.std.specs.Option.{option_map}
 use Rattle.host_base.specs.Answers.{◌>>=◌}
 use Rattle.disk_model.specs.Content.{Content}
@@ -7,7 +7,7 @@ use Rattle.record_model.specs.declared.values.JournalMax.{JournalMax}
 use Rattle.tree_model.specs.declared.journal.Journal.{Journal}
 use Rattle.state_model.specs.declared.stream.Extents.{Extents}
 use Rattle.volume_model.specs.Volumes.{Volume}
-use Rattle.volume_state.specs.Journals.{journal_entries, journal_with, journal_of}
+use Rattle.volume_state.specs.Journals.{journal_entries, journal_owned, journal_with, journal_of}
 use Rattle.volume_state.specs.Trees.{without_records}
 
 -- whether there is an answer, or its refusal
@@ -15,13 +15,17 @@ abbrev pub judged : {X : Type 0} → Result X ℕ → Result (Unit {0}) ℕ
 judged (Ok x) = Ok tt
 judged (Err place) = Err place
 
+-- whether a record owns the bytes before the journal's end in their page, or the offset of the first record at fault
+abbrev pub owned_in : Content → ℕ → Extents → Result Bool ℕ
+owned_in c per e = judged (journal_entries c per e) >>= λ _. Ok (journal_owned c per e)
+
 -- a journal without its records
 abbrev pub bare : Result (Option Journal) ℕ → Result (Option Journal) ℕ
 bare journal = journal >>= λ j. Ok (option_map without_records j)
 
 -- the journal with these limits in these clusters, without its records, or the offset of the first at fault
 abbrev pub journal_in_place : Content → ℕ → JournalMax → Extents → Result (Option Journal) ℕ
-journal_in_place c per limits e = bare (journal_entries c per e >>= λ entries. Ok (Some (journal_with per limits e entries)))
+journal_in_place c per limits e = bare (journal_entries c per e >>= λ entries. Ok (Some (journal_with c per limits e entries)))
 
 -- the journal of a volume without its records, if it has one, or the offset at which it is at fault
 unfoldable pub bare_journal : Content → List ℕ → Volume → Result (Option Journal) ℕ

@@ -1,14 +1,14 @@
 //! The pages of the journal.
-ghost use Rattle.std.specs.Prelude.{◌≡◌, ◌+◌, ◌-◌, ◌*◌, ◌/◌, ◌^◌, ◌<◌, ◌≤◌, min, length, IfOk, IfSome, IsErrOf};
+ghost use Rattle.std.specs.Prelude.{◌≡◌, ◌+◌, ◌-◌, ◌*◌, ◌/◌, ◌^◌, ◌<◌, ◌≤◌, min, length, Ok, IfOk, IfSome, IsErrOf};
 ghost use Rattle.host_base.specs.Answers.{GivesOrFails};
 ghost use Rattle.host_base.specs.Causes.{Rose};
 ghost use Rattle.journal_model.specs.Journals.{page_entries, journal_from};
 ghost use Rattle.state_model.specs.Streams.{byte_at};
 ghost use Rattle.stream_map.specs.Runs.{AreSmall};
-ghost use Rattle.volume_map.specs.Views.{KeepsView};
-ghost use Rattle.volume_state.specs.Journals.{journal_first, journal_entries};
+ghost use Rattle.block_view.specs.Views.{KeepsView};
+ghost use Rattle.volume_state.specs.Journals.{journal_first, journal_entries, journal_owned};
 ghost use Rattle.volume_journal.specs.Errors.{journal_cause};
-ghost use Rattle.volume_journal.specs.Judging.{judged};
+ghost use Rattle.volume_journal.specs.Judging.{judged, owned_in};
 
 use crate::fault::JournalFault;
 use block_view::View;
@@ -16,7 +16,7 @@ use disk_model::Body;
 use state_model::Extents;
 use std::alloc::{AllocError, Global};
 use stream_map::fill;
-use usn_record::check_page;
+use usn_record::{check_page, ends_in_record};
 
 // The bytes of a page of the journal.
 const PAGE: u64 = 4096;
@@ -111,9 +111,37 @@ fn check_pages<V: View>(
     Ok(())
 }
 
-/// Checks the records of a journal that begins at its byte `first`. A volume has `per` sectors a
-/// cluster; `body` is room for a body. It reads each byte once, from the page of `first` on to the
-/// real size, and keeps one page: linear in those bytes.
+// Whether a record owns the bytes before the journal's end in their page; `room` is room for a page.
+#[tactic(auto, unfolding(volume_state::specs::Journals::journal_owned, journal_model::specs::Journals::is_owned, journal_model::specs::Journals::bytes_between))]
+fn last_owned<V: View>(
+    view: &mut V,
+    per: u64,
+    extents: &Extents,
+    first: u64,
+    body: &mut Body,
+    room: &mut [u8],
+) -> Result<bool, JournalFault>
+    requires some { 0 < per }
+    requires few { per ≤ 8 }
+    requires small { AreSmall extents.now.runs }
+    requires first { first ≡ journal_first per extents.now }
+    requires left { first ≤ extents.now.real }
+    requires room { extents.now.real + 8192 < 2 ^ 64 }
+    requires size { length room.old ≡ PAGE }
+    ensures value { IfSome (V.content view.old) (λ c. GivesOrFails (λ owned. owned) journal_cause result (Ok (journal_owned c per extents.now))) }
+    ensures kept { KeepsView V.content V.kept V.faults view.old view.new }
+    ensures fault { IsErrOf result JournalFault.View → Rose (V.faults view.old) (V.faults view.new) }
+{
+    let begin = first.max(PAGE * (extents.real / PAGE));
+    let page = &mut room[..(extents.real - begin) as usize];
+    fill(view, per, extents, begin, body, page)?;
+    Ok(ends_in_record(page))
+}
+
+/// Checks the records of a journal that begins at its byte `first`, and answers whether a record of
+/// any version owns the bytes before its end in their page. A volume has `per` sectors a cluster;
+/// `body` is room for a body. It reads each byte once, from the page of `first` on to the real size,
+/// those of the last page twice, and keeps one page: linear in those bytes.
 ///
 /// - `Broken`: the record at this offset is the first at fault.
 /// - `View`: the view failed.
@@ -127,13 +155,13 @@ pub fn check_entries<V: View>(
     extents: &Extents,
     first: u64,
     body: &mut Body,
-) -> Result<(), JournalFault>
+) -> Result<bool, JournalFault>
     requires some { 0 < per }
     requires few { per ≤ 8 }
     requires small { AreSmall extents.now.runs }
     requires first { first ≡ journal_first per extents.now }
     requires left { first ≤ extents.now.real }
-    ensures value { IfSome (V.content view.old) (λ c. GivesOrFails (λ done. done) journal_cause result (judged (journal_entries c per extents.now))) }
+    ensures value { IfSome (V.content view.old) (λ c. GivesOrFails (λ owned. owned) journal_cause result (owned_in c per extents.now)) }
     ensures kept { KeepsView V.content V.kept V.faults view.old view.new }
     ensures fault { IsErrOf result JournalFault.View → Rose (V.faults view.old) (V.faults view.new) }
 {
@@ -141,5 +169,6 @@ pub fn check_entries<V: View>(
         return Err(JournalFault::Memory);
     }
     let mut room = page_room(alloc)?;
-    check_pages(view, per, extents, first, body, &mut room)
+    check_pages(view, per, extents, first, body, &mut room)?;
+    last_owned(view, per, extents, first, body, &mut room)
 }

@@ -24,11 +24,12 @@ const DATA: u32 = 0x80;
 // The flag of sparse data.
 const SPARSE: u16 = 0x8000;
 
-// What a row changes: the last unit of the file's name, the flags of `$J`, and the low byte of the
-// USN of its second record.
-struct Row(u8, u16, u8);
+// What a row changes: the last unit of the file's name, the flags of `$J`, the low byte of the USN
+// of its second record, and its real size.
+#[derive(Drop)]
+struct Row(u8, u16, u8, u64);
 
-static LAWFUL: Row = Row(b'l', SPARSE, 64);
+static LAWFUL: Row = Row(b'l', SPARSE, 64, 128);
 
 // A record of 64 bytes of version 3, and the record of file 26/1 in 25/1, which was
 // created with the name `f` and closed at 1002.
@@ -76,15 +77,15 @@ fn resident(alloc: Global, value: &[u8]) -> Result<OwnForm, AllocError> {
     })
 }
 
-// 128 bytes in the cluster 16.
-fn mapped(alloc: Global) -> Result<OwnForm, AllocError> {
+// So many bytes in the cluster 16.
+fn mapped(alloc: Global, real: u64) -> Result<OwnForm, AllocError> {
     let sizes = Sizes {
         first: 0,
         last: 0,
         unit: 0,
         allocated: 512,
-        real: 128,
-        initialised: 128,
+        real,
+        initialised: real,
         held: None,
     };
     Ok(OwnForm::Mapped {
@@ -109,7 +110,7 @@ fn file_of(alloc: Global, row: &Row) -> Result<FileRec, Fail> {
     let limits = Units::copy_of(alloc, &[0x24, 0x4d, 0x61, 0x78])?;
     file.push(attribute(DATA, 0, limits, resident(alloc, &LIMITS)?))?;
     let entries = Units::copy_of(alloc, &[0x24, 0x4a])?;
-    file.push(attribute(DATA, row.1, entries, mapped(alloc)?))?;
+    file.push(attribute(DATA, row.1, entries, mapped(alloc, row.3)?))?;
     Ok(file)
 }
 
@@ -169,18 +170,39 @@ fn a_journal_has_its_limits(rt: HostRuntime) -> Result<(), Fail> {
     assert_eq!(rt; (journal.max, journal.delta), (4096, 256));
     assert_eq!(rt; (journal.first, journal.next, journal.reach), (0, 128, 512));
     assert!(rt; journal.entries.as_slice().is_empty());
-    let same = answer(rt.alloc(), &Row(b'L', SPARSE, 64))??;
+    let same = answer(rt.alloc(), &Row(b'L', SPARSE, 64, 128))??;
     assert!(rt; same.is_some(), "a name is the same in upper case");
     Ok(())
 }
 
 #[test]
 fn a_journal_is_at_fault(rt: HostRuntime) -> Result<(), Fail> {
-    let record = answer(rt.alloc(), &Row(b'l', SPARSE, 65))?;
+    let record = answer(rt.alloc(), &Row(b'l', SPARSE, 65, 128))?;
     assert_eq!(rt; record.err(), Some(JournalFault::Broken { at: 64 }));
-    let shape = answer(rt.alloc(), &Row(b'l', 0, 64))?;
+    let shape = answer(rt.alloc(), &Row(b'l', 0, 64, 128))?;
     assert_eq!(rt; shape.err(), Some(JournalFault::Broken { at: 0 }));
-    let none = answer(rt.alloc(), &Row(b'm', SPARSE, 64))??;
+    let none = answer(rt.alloc(), &Row(b'm', SPARSE, 64, 128))??;
     assert!(rt; none.is_none(), "no file has the name");
+    Ok(())
+}
+
+// Whether a record owns the bytes before the end of a journal of so many bytes.
+fn is_owned(alloc: Global, real: u64) -> Result<bool, Fail> {
+    let journal = answer(alloc, &Row(b'l', SPARSE, 64, real))??.ok_or("no journal")?;
+    Ok(journal.owned)
+}
+
+#[test]
+fn a_record_owns_the_last_bytes(rt: HostRuntime) -> Result<(), Fail> {
+    let rows = [
+        (0, false),
+        (64, true),
+        (128, true),
+        (136, false),
+        (512, false),
+    ];
+    for (real, owned) in rows {
+        assert_eq!(rt; is_owned(rt.alloc(), real)?, owned, "{real} bytes");
+    }
     Ok(())
 }

@@ -2,12 +2,13 @@
 ghost use Rattle.std.specs.Prelude.{◌≡◌, ◌<◌, ◌≤◌, ℕ, [], length, Some, IfSome, IsErrOf};
 ghost use Rattle.host_base.specs.Answers.{GivesOrFails};
 ghost use Rattle.host_base.specs.Causes.{Rose};
+ghost use Rattle.disk_model.specs.Content.{Content};
 ghost use Rattle.state_model.specs.Loads.{table_in};
 ghost use Rattle.state_model.specs.Trees.{all_links};
 ghost use Rattle.stream_map.specs.Runs.{AreSmall, HasSmallRuns};
 ghost use Rattle.volume_map.specs.Maps.{volume_in, IsMap};
-ghost use Rattle.volume_map.specs.Views.{KeepsView};
-ghost use Rattle.volume_state.specs.Journals.{journal_first, journal_with, journal_of_streams, journal_of_file};
+ghost use Rattle.block_view.specs.Views.{KeepsView};
+ghost use Rattle.volume_state.specs.Journals.{journal_first, journal_owned, journal_with, journal_of_streams, journal_of_file};
 ghost use Rattle.volume_state.specs.Trees.{without_records};
 ghost use Rattle.volume_journal.specs.Errors.{journal_cause};
 ghost use Rattle.volume_journal.specs.Judging.{bare, journal_in_place, bare_journal};
@@ -37,8 +38,14 @@ pub const LIMITS_NAME: [u16; 4] = [0x24, 0x4d, 0x61, 0x78];
 pub const ENTRIES_NAME: [u16; 2] = [0x24, 0x4a];
 
 // The journal with these limits in these clusters, without records.
-fn journal_with(alloc: Global, limits: JournalMax, extents: &Extents, first: u64) -> Journal
-    ensures { (per : ℕ) → first ≡ journal_first per extents.now → result ≡ without_records (journal_with per limits extents.now []) }
+fn journal_with(
+    alloc: Global,
+    limits: JournalMax,
+    extents: &Extents,
+    first: u64,
+    owned: bool,
+) -> Journal
+    ensures { (c : Content) (per : ℕ) → first ≡ journal_first per extents.now → owned ≡ journal_owned c per extents.now → result ≡ without_records (journal_with c per limits extents.now []) }
 {
     Journal {
         max: limits.max,
@@ -46,6 +53,7 @@ fn journal_with(alloc: Global, limits: JournalMax, extents: &Extents, first: u64
         first,
         next: extents.real,
         reach: extents.allocated,
+        owned,
         entries: UsnList::new(alloc),
     }
 }
@@ -68,8 +76,8 @@ fn placed_journal<V: View>(
     ensures fault { IsErrOf result JournalFault.View → Rose (V.faults view.old) (V.faults view.new) }
 {
     let first = first_byte(per, extents);
-    check_entries(alloc, view, per, extents, first, body)?;
-    Ok(Some(journal_with(alloc, limits, extents, first)))
+    let owned = check_entries(alloc, view, per, extents, first, body)?;
+    Ok(Some(journal_with(alloc, limits, extents, first, owned)))
 }
 
 // The journal of `$Max` and `$J`, which has these flags.

@@ -1,5 +1,5 @@
 use Rattle.std.proofs.Common.{◌/◌, ◌≤◌}
-use Rattle.volume_map.specs.Views.{KeepsView}
+use Rattle.block_view.specs.Views.{KeepsView}
 use Rattle.volume_journal.proofs.PagesLeft.{IsLeft}
 use Rattle.volume_journal.proofs.pages.check_pages.Given as goal
 
