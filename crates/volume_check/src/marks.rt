@@ -2,7 +2,7 @@
 ghost use Rattle.std.specs.Prelude.{IfOk, IfSome, IsErrOf};
 ghost use Rattle.host_base.specs.Causes.{Rose};
 ghost use Rattle.volume_map.specs.Maps.{volume_in, IsMap};
-ghost use Rattle.volume_map.specs.Views.{KeepsView};
+ghost use Rattle.block_view.specs.Views.{KeepsView};
 ghost use Rattle.volume_check.specs.Errors.{NeverBroken};
 ghost use Rattle.volume_check.specs.Parts.{AreMarks};
 

@@ -7,7 +7,7 @@ ghost use Rattle.state_model.specs.Loads.{table_in};
 ghost use Rattle.state_model.specs.Trees.{all_links};
 ghost use Rattle.volume_model.specs.Nodes.{bare_nodes};
 ghost use Rattle.volume_map.specs.Maps.{volume_in, IsMap};
-ghost use Rattle.volume_map.specs.Views.{KeepsView};
+ghost use Rattle.block_view.specs.Views.{KeepsView};
 ghost use Rattle.volume_state.specs.Trees.{tree_with};
 ghost use Rattle.volume_check.specs.Errors.{check_cause};
 ghost use Rattle.volume_check.specs.Parts.{AreMarks, AreNames};

@@ -4,7 +4,7 @@ ghost use Rattle.host_base.specs.Causes.{Rose};
 ghost use Rattle.disk_model.specs.Content.{Content as the_content};
 ghost use Rattle.volume_model.specs.Owners.{volume_runs};
 ghost use Rattle.volume_map.specs.Maps.{volume_in, IsMap};
-ghost use Rattle.volume_map.specs.Views.{KeepsView};
+ghost use Rattle.block_view.specs.Views.{KeepsView};
 ghost use Rattle.volume_check.specs.Errors.{NeverBroken};
 ghost use Rattle.volume_check.specs.Parts.{AreMarks, AreNames};
 ghost use Rattle.volume_model.specs.Sizes.{is_at, placed_record, keeps_place};
