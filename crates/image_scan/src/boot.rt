@@ -3,7 +3,7 @@ ghost use Rattle.std.specs.Prelude.{◌≡◌, ◌≤◌, IfOk, IfSome, IsErrOf,
 ghost use Rattle.host_base.specs.Answers.{Gives, GivesOrFails, needs};
 ghost use Rattle.host_base.specs.Causes.{Rose};
 ghost use Rattle.boot_sector.specs.BootSectors.{boot_of, IsInProfile};
-ghost use Rattle.volume_map.specs.Views.{KeepsView};
+ghost use Rattle.block_view.specs.Views.{KeepsView};
 ghost use Rattle.image_scan.specs.Errors.{scan_cause, boot_refusal, refused_as};
 ghost use Rattle.image_scan.specs.Scans.{boot_in, sized_on, boot_on};
 

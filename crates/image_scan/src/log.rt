@@ -3,7 +3,7 @@ ghost use Rattle.std.specs.Prelude.{◌≡◌, ◌*◌, ◌^◌, ◌<◌, ◌≤
 ghost use Rattle.host_base.specs.Answers.{GivesOrFails};
 ghost use Rattle.host_base.specs.Causes.{Rose};
 ghost use Rattle.stream_map.specs.Runs.{HasSmallRuns};
-ghost use Rattle.volume_map.specs.Views.{KeepsView};
+ghost use Rattle.block_view.specs.Views.{KeepsView};
 ghost use Rattle.state_model.specs.Loads.{data_stream};
 ghost use Rattle.log_reading.specs.LogPages.{IsLogPlace};
 ghost use Rattle.log_recovery.specs.Recovering.{content_with, IsSized};

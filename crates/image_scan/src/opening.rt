@@ -3,7 +3,7 @@ ghost use Rattle.std.specs.Prelude.{◌≡◌, ◌*◌, ◌^◌, ◌<◌, ◌≤
 ghost use Rattle.host_base.specs.Answers.{GivesOrFails};
 ghost use Rattle.host_base.specs.Causes.{Rose};
 ghost use Rattle.boot_sector.specs.BootSectors.{IsInProfile, clusters};
-ghost use Rattle.volume_map.specs.Views.{KeepsView};
+ghost use Rattle.block_view.specs.Views.{KeepsView};
 ghost use Rattle.image_scan.specs.Errors.{scan_cause};
 ghost use Rattle.image_scan.specs.Openings.{IsOpening, opened_as};
 ghost use Rattle.image_scan.specs.Scans.{geometry_of, opened_by, opened_in};

@@ -5,7 +5,7 @@ ghost use Rattle.host_base.specs.Causes.{HasFailed, Rose};
 ghost use Rattle.disk_model.specs.Sectors.{sector_of};
 ghost use Rattle.disk_model.specs.Content.{content_of};
 ghost use Rattle.device_view.specs.Devices.{KeepsDevice};
-ghost use Rattle.volume_map.specs.Views.{KeepsView};
+ghost use Rattle.block_view.specs.Views.{KeepsView};
 ghost use Rattle.image_scan.specs.Errors.{scan_cause};
 ghost use Rattle.image_scan.specs.Openings.{IsOpening, content_after};
 ghost use Rattle.image_scan.specs.Scans.{links_in, scan_in, scan_of};
