@@ -6,7 +6,7 @@ ghost use Rattle.disk_model.specs.Sectors.{sector_of};
 ghost use Rattle.disk_model.specs.Content.{content_of};
 ghost use Rattle.device_view.specs.Devices.{KeepsDevice};
 ghost use Rattle.volume_map.specs.Maps.{IsMap, volume_in};
-ghost use Rattle.volume_map.specs.Views.{KeepsView};
+ghost use Rattle.block_view.specs.Views.{KeepsView};
 ghost use Rattle.image_scan.specs.Errors.{scan_cause};
 ghost use Rattle.image_scan.specs.Openings.{IsOpening, content_after};
 ghost use Rattle.image_check.specs.Errors.{error_of_check};
