@@ -57,15 +57,15 @@ keeps_ninth c v t e = ninth_none c v (none_broken c v (first_broken c v) t (answ
 
 -- ---- so no record is at fault
 
-made : (per : ℕ) (l : JournalMax) (e : Extents) (r : Result (List Usn) ℕ) → fault_of (r >>= λ entries. Ok (Some (journal_with per l e entries))) ≡ None → IsOk r
-made per l e (Ok entries) none = refl
-made per l e (Err place) none = absurd cc
+made : (c : Content) (per : ℕ) (l : JournalMax) (e : Extents) (r : Result (List Usn) ℕ) → fault_of (r >>= λ entries. Ok (Some (journal_with c per l e entries))) ≡ None → IsOk r
+made c per l e (Ok entries) none = refl
+made c per l e (Err place) none = absurd cc
 
 parts : (c : Content) (per : ℕ) (l : Result JournalMax ℕ) (x : Result Extents ℕ) (e : Extents) → in_shape (l >>= λ _. x) ≡ Ok e
-    → fault_of (l >>= λ limits. x >>= λ e. journal_entries c per e >>= λ entries. Ok (Some (journal_with per limits e entries))) ≡ None → IsOk (journal_entries c per e)
+    → fault_of (l >>= λ limits. x >>= λ e. journal_entries c per e >>= λ entries. Ok (Some (journal_with c per limits e entries))) ≡ None → IsOk (journal_entries c per e)
 parts c per (Ok l) (Ok x) e place none =
     let is : x ≡ e = cc in
-    subst (λ (e : Extents). IsOk (journal_entries c per e)) is (made per l x (journal_entries c per x) none)
+    subst (λ (e : Extents). IsOk (journal_entries c per e)) is (made c per l x (journal_entries c per x) none)
 parts c per (Ok l) (Err p) e place none = absurd cc
 parts c per (Err p) x e place none = absurd cc
 

@@ -14,10 +14,9 @@ abbrev pub error_of_place : PlaceFault → ScanError
 error_of_place (places.Absent why) = errors.Refused (NoJournal why)
 error_of_place places.Memory = errors.Memory
 
--- a journal that is whole has its first byte, and no record at fault
+-- a whole journal has its first byte
 abbrev pub error_of_pull : PullFault → ScanError
 error_of_pull (pulls.Trimmed first) = errors.Memory
 error_of_pull (pulls.Ahead next) = errors.Memory
-error_of_pull (pulls.Broken at) = errors.Memory
 error_of_pull pulls.View = errors.Device
 error_of_pull pulls.Memory = errors.Memory

@@ -7,7 +7,7 @@ ghost use Rattle.disk_model.specs.Content.{content_of};
 ghost use Rattle.device_view.specs.Devices.{KeepsDevice};
 ghost use Rattle.stream_map.specs.Runs.{AreSmall};
 ghost use Rattle.volume_map.specs.Maps.{IsMap, volume_in};
-ghost use Rattle.volume_map.specs.Views.{KeepsView};
+ghost use Rattle.block_view.specs.Views.{KeepsView};
 ghost use Rattle.volume_model.specs.Volumes.{upper_of};
 ghost use Rattle.volume_state.specs.Journals.{journal_first, journal_entries};
 ghost use Rattle.volume_journal.specs.Places.{journal_place};

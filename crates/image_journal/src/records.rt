@@ -7,7 +7,7 @@ ghost use Rattle.state_model.specs.Loads.{table_in};
 ghost use Rattle.state_model.specs.Trees.{all_links};
 ghost use Rattle.stream_map.specs.Runs.{AreSmall};
 ghost use Rattle.volume_map.specs.Maps.{IsMap, volume_in};
-ghost use Rattle.volume_map.specs.Views.{KeepsView};
+ghost use Rattle.block_view.specs.Views.{KeepsView};
 ghost use Rattle.volume_state.specs.Journals.{journal_first, journal_entries};
 ghost use Rattle.volume_journal.specs.Places.{journal_place};
 ghost use Rattle.usn_journal.specs.Pulls.{read_entries};
@@ -45,10 +45,9 @@ fn error_of_pull(fault: PullFault) -> ScanError
     ensures value { result ≡ error_of_pull fault }
 {
     match fault {
-        // The first three aren't met from the first byte of a whole journal on.
+        // The first two aren't met from the first byte of a whole journal on.
         PullFault::Trimmed { .. } => ScanError::Memory,
         PullFault::Ahead { .. } => ScanError::Memory,
-        PullFault::Broken { .. } => ScanError::Memory,
         PullFault::View => ScanError::Device,
         PullFault::Memory => ScanError::Memory,
     }
