@@ -1,5 +1,5 @@
 -- What two contents share of a volume's rules, parts and nodes.
-use Rattle.std.proofs.Common.{◌≡◌, ℕ, zero, suc, ◌+◌, ◌-◌, ◌<◌, ◌≤◌, Bool, true, false, not, cond, ◌||◌, eqb, List, [], ◌∷◌, Option, Some, None, Result, Ok, Err, refl, ap, ◌∙◌, inl, inr, arith}
+use Rattle.std.proofs.Common.{◌≡◌, ℕ, zero, suc, ◌+◌, ◌-◌, ◌<◌, ◌≤◌, Bool, true, false, not, cond, ◌||◌, eqb, List, [], ◌∷◌, Option, Some, None, Result, Ok, Err, refl, ap, ap₂, ◌∙◌, inl, inr, arith}
 use mathlib.Core.Path.{fun_ext}
 use Rattle.std.specs.List.{list_any, filter_map, cons_option, range_with_len}
 use Rattle.std.proofs.lemmas.Bool.{cases_Bool, cases_lt, and_parts, and_from, or_parts, or_from, both_ways, le-ltb, eqb-true}
@@ -19,7 +19,7 @@ use Rattle.tree_model.specs.declared.link.Link.{Link}
 use Rattle.tree_model.specs.declared.node.Node.{Node}
 use Rattle.bit_set.specs.Bits.{bit}
 use Rattle.upcase_order.specs.Tables.{upcase_of}
-use Rattle.journal_model.specs.Journals.{journal_in}
+use Rattle.journal_model.specs.Journals.{journal_in, is_owned}
 use Rattle.state_model.specs.declared.stream.Extents.{Extents}
 use Rattle.state_model.specs.declared.stream.Stream.{Stream}
 use Rattle.state_model.specs.declared.stream.Stream.TheVariants.{Held, Placed}
@@ -34,7 +34,7 @@ use Rattle.volume_model.specs.Indexes.{index_stream, index_links, lists_names, k
 use Rattle.volume_model.specs.Sizes.{is_torn_at, begun, has_torn, stream_has_torn, keeps_untorn, keeps_streams, keeps_sizes}
 use Rattle.volume_model.specs.Owners.{keeps_record_bit}
 use Rattle.volume_model.specs.Nodes.{kind_in, data_shown, node_with, node_by, some_node, node_at, spare_sequence, spare_at, spare_numbers}
-use Rattle.volume_state.specs.Journals.{entries_name, journal_file, journal_first, has_journal_shape, limits_in, entries_in, journal_entries, journal_with, journal_of_streams, journal_of_file, entries_flags, limits_name, journal_of}
+use Rattle.volume_state.specs.Journals.{entries_name, journal_file, journal_first, has_journal_shape, limits_in, entries_in, journal_entries, journal_owned, journal_of_streams, journal_of_file, entries_flags, limits_name, journal_of}
 use Rattle.stream_laws.specs.Frames.{SameBytesIn, SameBytesInStream, SameBytesInSome, SameIndexIn}
 use Rattle.stream_laws.proofs.Framing.{same_byte, same_file, same_record_bytes, same_in_use, same_links}
 use Rattle.stream_laws.proofs.Loading.{same_record_bits}
@@ -213,22 +213,27 @@ shape_sized per flags e shaped =
     let fifth = and_parts _ _ fourth.0 in
     same_le e.initialised e.real (eqb-true e.initialised e.real fifth.1)
 
+same_owned : (c d : Content) (per : ℕ) (e : Extents) → e.initialised ≤ e.real → SameBytesIn c d per e → journal_owned d per e ≡ journal_owned c per e
+unfolding journal_owned
+same_owned c d per e sized same = ap (λ (byte : ℕ → ℕ). is_owned byte (journal_first per e) e.real) (fun_ext (same_bytes c d per e sized same))
+
 -- the journal with these limits, from its entries
-from_entries : ℕ → JournalMax → Extents → Result (List Usn) ℕ → Result (Option Journal) ℕ
-from_entries per limits e read = read >>= λ entries. Ok (Some (journal_with per limits e entries))
+from_entries : ℕ → JournalMax → Extents → Bool → Result (List Usn) ℕ → Result (Option Journal) ℕ
+from_entries per limits e owned read =
+    read >>= λ entries. Ok (Some (record { max = limits.max; delta = limits.delta; first = journal_first per e; next = e.real; reach = e.allocated; owned = owned; entries = entries }))
 
 asked_shape : (shaped : Bool) (e : Extents) (f g : Extents → Result (Option Journal) ℕ) → (shaped ≡ true → g e ≡ f e) → ((needs shaped 0 >>= λ _. Ok e) >>= g) ≡ ((needs shaped 0 >>= λ _. Ok e) >>= f)
 asked_shape true e f g same = same refl
 asked_shape false e f g same = refl
 
 same_journal_in : (c d : Content) (per flags : ℕ) (limits : JournalMax) (j : Stream) → SameBytesInStream c d per j
-    → (entries_in per flags j >>= λ e. from_entries per limits e (journal_entries d per e)) ≡ (entries_in per flags j >>= λ e. from_entries per limits e (journal_entries c per e))
+    → (entries_in per flags j >>= λ e. from_entries per limits e (journal_owned d per e) (journal_entries d per e)) ≡ (entries_in per flags j >>= λ e. from_entries per limits e (journal_owned c per e) (journal_entries c per e))
 same_journal_in c d per flags limits (Held value) same = refl
 same_journal_in c d per flags limits (Placed e) same =
     asked_shape (has_journal_shape per flags e) e
-    (λ x. from_entries per limits x (journal_entries c per x))
-    (λ x. from_entries per limits x (journal_entries d per x))
-    (λ shaped. ap (from_entries per limits e) (same_entries c d per e (shape_sized per flags e shaped) same))
+    (λ x. from_entries per limits x (journal_owned c per x) (journal_entries c per x))
+    (λ x. from_entries per limits x (journal_owned d per x) (journal_entries d per x))
+    (λ shaped. ap₂ (from_entries per limits e) (same_owned c d per e (shape_sized per flags e shaped) same) (same_entries c d per e (shape_sized per flags e shaped) same))
 
 after_limits : (read : Result JournalMax ℕ) (f g : JournalMax → Result (Option Journal) ℕ) → ((limits : JournalMax) → g limits ≡ f limits) → (read >>= g) ≡ (read >>= f)
 after_limits (Ok limits) f g same = same limits
@@ -240,8 +245,8 @@ same_of_streams c d per flags None j same = refl
 same_of_streams c d per flags (Some max) None same = refl
 same_of_streams c d per flags (Some max) (Some j) same =
     after_limits (limits_in max)
-    (λ limits. entries_in per flags j >>= λ e. from_entries per limits e (journal_entries c per e))
-    (λ limits. entries_in per flags j >>= λ e. from_entries per limits e (journal_entries d per e))
+    (λ limits. entries_in per flags j >>= λ e. from_entries per limits e (journal_owned c per e) (journal_entries c per e))
+    (λ limits. entries_in per flags j >>= λ e. from_entries per limits e (journal_owned d per e) (journal_entries d per e))
     (λ limits. same_journal_in c d per flags limits j same)
 
 same_of_file : (c d : Content) (per : ℕ) (o : Option Record) → ((r : Record) → o ≡ Some r → SameBytesInSome c d per (stream_of data_type entries_name r.attrs)) → journal_of_file d per o ≡ journal_of_file c per o
