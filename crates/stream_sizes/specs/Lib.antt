@@ -1,3 +1,2 @@
 pub mod Errors
-pub mod Views
 pub mod Volumes

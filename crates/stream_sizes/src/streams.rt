@@ -5,7 +5,7 @@ ghost use Rattle.host_base.specs.Answers.{GivesOrFails};
 ghost use Rattle.host_base.specs.Causes.{Rose};
 ghost use Rattle.record_model.specs.Records.{Record as a_record};
 ghost use Rattle.stream_sizes.specs.Errors.{sizes_cause};
-ghost use Rattle.stream_sizes.specs.Views.{KeepsView};
+ghost use Rattle.block_view.specs.Views.{KeepsView};
 ghost use Rattle.stream_sizes.specs.Volumes.{TablePlace, volume_with};
 ghost use Rattle.volume_model.specs.Sizes.{keeps_stream, keeps_whole, keeps_table, keeps_streams};
 

@@ -11,7 +11,7 @@ ghost use Rattle.state_model.specs.Loads.{index_allocation};
 ghost use Rattle.state_model.specs.Rules.{implies};
 ghost use Rattle.state_model.specs.Streams.{holds, block_at, stream_of};
 ghost use Rattle.stream_map.specs.Runs.{AreSmall, HasSmallRuns};
-ghost use Rattle.stream_sizes.specs.Views.{KeepsView};
+ghost use Rattle.block_view.specs.Views.{KeepsView};
 ghost use Rattle.volume_model.specs.Sizes.{is_torn_at, begun, stream_has_torn, keeps_untorn};
 ghost use Rattle.volume_model.specs.Volumes.{table_file, mirror_file};
 

@@ -8,7 +8,7 @@ ghost use Rattle.state_model.specs.Files.{is_base_record, only_base, file_at};
 ghost use Rattle.state_model.specs.Loads.{table_in};
 ghost use Rattle.state_model.specs.Rules.{implies, at_file, first_failing};
 ghost use Rattle.stream_sizes.specs.Errors.{sizes_cause};
-ghost use Rattle.stream_sizes.specs.Views.{KeepsView};
+ghost use Rattle.block_view.specs.Views.{KeepsView};
 ghost use Rattle.stream_sizes.specs.Volumes.{TablePlace, volume_with};
 ghost use Rattle.volume_model.specs.Sizes.{keeps_streams, keeps_bitmaps, keeps_sizes};
 ghost use Rattle.volume_model.specs.Volumes.{file_stream, size_or, bitmap_type, bitmap_file, table_file};

@@ -2,7 +2,7 @@ use Rattle.std.proofs.Common.{◌≡◌, ◌-◌, not, find}
 use Rattle.std.specs.Prelude.{IfSome}
 use Rattle.std.specs.List.{range_with_len}
 use Rattle.volume_model.specs.Sizes.{keeps_sizes}
-use Rattle.stream_sizes.specs.Views.{KeepsView}
+use Rattle.block_view.specs.Views.{KeepsView}
 use Rattle.stream_sizes.specs.Volumes.{TablePlace, volume_with}
 use Rattle.stream_sizes.proofs.volume.first_broken.Given as goal
 
