@@ -46,8 +46,9 @@ fn attr_link(alloc: Global, child: FileRef, attr: &Attr) -> Result<Option<Link>,
     }
 }
 
-/// Appends the link, if there is one. The error is want of memory, and leaves the list; it never comes
-/// where there is no link. It takes constant time, but for the room that a list takes as it grows.
+/// Appends the link, if there is one. The error is want of memory, and leaves the list; it never
+/// comes where there is no link. It takes constant time, but for the room that a list takes as it
+/// grows.
 pub fn push_some(links: &mut LinkList, link: Option<Link>) -> Result<(), Memory>
     ensures appended { OnOk result (links.new ≡ links.old ++ cons_option link []) }
     ensures left { OnErr result (links.new ≡ links.old) }
