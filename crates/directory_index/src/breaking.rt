@@ -7,7 +7,7 @@ ghost use Rattle.state_model.specs.Loads.{table_in};
 ghost use Rattle.state_model.specs.Rules.{names_in, first_failing};
 ghost use Rattle.record_rules.specs.Counts.{names_at};
 ghost use Rattle.record_rules.specs.Links.{links_in};
-ghost use Rattle.volume_map.specs.Views.{KeepsView};
+ghost use Rattle.block_view.specs.Views.{KeepsView};
 ghost use Rattle.volume_model.specs.Volumes.{Volume};
 ghost use Rattle.volume_model.specs.Indexes.{index_links, lists_names, keeps_index};
 ghost use Rattle.directory_index.specs.Errors.{index_cause};

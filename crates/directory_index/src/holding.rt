@@ -4,7 +4,7 @@ ghost use Rattle.host_base.specs.Answers.{GivesOrFails};
 ghost use Rattle.host_base.specs.Causes.{Rose};
 ghost use Rattle.index_model.specs.Walks.{walk_of};
 ghost use Rattle.index_tree.specs.Places.{place_of};
-ghost use Rattle.volume_map.specs.Views.{KeepsView};
+ghost use Rattle.block_view.specs.Views.{KeepsView};
 ghost use Rattle.volume_model.specs.Indexes.{links_read, index_links};
 ghost use Rattle.directory_index.specs.Errors.{index_cause};
 ghost use Rattle.directory_index.specs.Answered.{answer_of};

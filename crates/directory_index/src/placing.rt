@@ -58,8 +58,8 @@ fn place_below(alloc: Global, per: u64, file: &FileRec, root: &Bytes) -> Result<
 
 /// Where the index of a directory's names lies (Linux-NTFS documentation, "$INDEX_ROOT" and
 /// "$INDEX_ALLOCATION"), in a volume of `per` sectors a cluster; nowhere if its root isn't there or
-/// isn't resident. `used` is 0, since the attributes of a file don't say how many bytes its base record
-/// uses; a caller that plans a change of the index sets it. The error is want of memory.
+/// isn't resident. `used` is 0, since the attributes of a file don't say how many bytes its base
+/// record uses; a caller that plans a change of the index sets it. The error is want of memory.
 ///
 /// It takes time and memory linear in the attributes and runs of the file, and in the blocks that
 /// the allocation has by its real size and that begin in its runs: also where its clusters are
