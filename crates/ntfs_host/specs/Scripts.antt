@@ -1,5 +1,5 @@
 -- A script that is read from a source.
-use Rattle.std.specs.Prelude.{ℕ, ◌≤◌, List, [], ◌∷◌, ◌++◌, length, codes, Option, IfSome, IsOk}
+use Rattle.std.specs.Prelude.{⊤, ℕ, ◌≤◌, ◌<◌, List, [], ◌∷◌, ◌++◌, length, codes, Option, IfSome, Result, Ok, Err, IsOk}
 use Rattle.std.specs.Fmt.{decimal}
 use Rattle.std.specs.Io.KnownBytes.{Consumes, IsAtEnd}
 use Rattle.host_base.specs.Answers.{Cause, refused, no_memory, failed}
@@ -20,6 +20,19 @@ pub record LosesAtMost (most : ℕ) (left left_now : Option (List ℕ)) : Type 0
   pub front : List ℕ
   pub few : length front ≤ most
   pub lost : Consumes left left_now front
+
+-- A source was read to its end, or up to the first byte that is too many for a script.
+pub record IsReadWhole (left left_now : Option (List ℕ)) : Type 0 where
+  pub front : List ℕ
+  pub lost : Consumes left left_now front
+  pub whole : length front < 16777217 → IsAtEnd left_now
+
+-- a script is read or refused only where its source was read whole
+abbrev pub ReadsWhole : {A : Type 0} → Result A ScriptError → Option (List ℕ) → Option (List ℕ) → Type 0
+ReadsWhole (Ok script) left left_now = IsReadWhole left left_now
+ReadsWhole (Err (errors.Refused fault)) left left_now = IsReadWhole left left_now
+ReadsWhole (Err errors.Memory) left left_now = ⊤
+ReadsWhole (Err errors.Source) left left_now = ⊤
 
 -- What a source had left is a script, and the source was read to its end.
 pub record IsAccepted (left left_now : Option (List ℕ)) : Type 0 where

@@ -7,7 +7,7 @@ ghost use Rattle.upcase_order.specs.Tables.{standard_table};
 ghost use Rattle.ntfs_host.specs.Answers.{answer_of, IsReader, Leaves};
 ghost use Rattle.ntfs_host.specs.Mounts.{mounted_of};
 ghost use Rattle.ntfs_host.specs.Runs.{PrintsScript, PrintsScriptPart, IsRunStatus};
-ghost use Rattle.ntfs_host.specs.Scripts.{script_line, IsAccepted, LosesAtMost};
+ghost use Rattle.ntfs_host.specs.Scripts.{script_line, IsAccepted, IsReadWhole, LosesAtMost};
 ghost use Rattle.ntfs_host.specs.Text.{printed};
 ghost use Rattle.ntfs_host.specs.Statuses.{IsQuietStatus};
 ghost use Rattle.ntfs_host.specs.Words.{command_in, quiet_some, quiet_in, run_some, run_in, IsRun, Reads, usage};
@@ -256,9 +256,14 @@ pub fn ntfs_host<R: Threads + Wait + Sync, S: Source, K: Sink, D: Device + Send,
     ensures quiet_complete { IfSome (quiet_in words.now) (λ command. IsSomeAnd (D.gives device) (λ disk. IsOk (answer_of command disk)) → ¬ Rose (K.faults sink.old) (K.faults sink.new) → ¬ HasFailed (D.fault_count device) (D.fault_count result.device) (D.moment_of result.device) → (result.status ≡ 0) ⊎ (result.status ≡ 6)) }
 
     // A run prints the text of a serial run of the script from the time of the line on, or the first refusal,
-    // or what refuses the script. Its whole source comes first: what the volume, or the text behind it, has
-    // for a status says that the source was read to its end and is a script.
+    // or what refuses the script. Its whole source comes first: what the volume, or the text after it, has
+    // for a status says that the source was read to its end and is a script; a line of a refusal, or a sink that
+    // fails, says that it was read to its end or up to a byte too many. Whatever the status, also for want of memory,
+    // the sink isn't called before that, nor the device before the script is accepted.
     ensures run_accepted { IsRun words.now → (result.status ≡ 0) ⊎ (result.status ≡ 3) ⊎ (result.status ≡ 8) → IsAccepted (S.left source.old) (S.left source.new) }
+    ensures run_whole { IsRun words.now → (result.status ≡ 4) ⊎ (result.status ≡ 7) → IsReadWhole (S.left source.old) (S.left source.new) }
+    ensures run_sink { IsRun words.now → (sink.new ≡ sink.old) ⊎ IsReadWhole (S.left source.old) (S.left source.new) }
+    ensures run_device { IsRun words.now → (result.device ≡ device) ⊎ IsAccepted (S.left source.old) (S.left source.new) }
     ensures run_done { IfSome (run_in words.now) (λ time. result.status ≡ 0 → IfSome (S.left source.old) (λ bytes. IsOk (script_of bytes) × IfSome (D.gives device) (λ disk. IsOk (mounted_of standard_table disk) × PrintsScript (K.taken sink.old) (K.taken sink.new) disk time (D.fault_count result.device) (script_of bytes)))) }
     ensures run_refused { IfSome (run_in words.now) (λ time. result.status ≡ 3 → IfSome (S.left source.old) (λ bytes. IsOk (script_of bytes) × IfSome (D.gives device) (λ disk. IsErr (mounted_of standard_table disk) × PrintsScript (K.taken sink.old) (K.taken sink.new) disk time (D.fault_count result.device) (script_of bytes)))) }
     ensures no_script { result.status ≡ 4 → IfSome (S.left source.old) (λ bytes. IsErrAnd (script_of bytes) (λ fault. Appends (K.taken sink.old) (K.taken sink.new) (script_line fault))) }
@@ -272,9 +277,10 @@ pub fn ntfs_host<R: Threads + Wait + Sync, S: Source, K: Sink, D: Device + Send,
     ensures device_failed { result.status ≡ 8 → HasFailed (D.fault_count device) (D.fault_count result.device) (D.moment_of result.device) }
     ensures silent { (result.status ≡ 5) ⊎ (result.status ≡ 8) → K.taken sink.new ≡ K.taken sink.old }
 
-    // Words that are no line and a source without a script come before the device, and only a run reads the source,
-    // at most a byte more than a script has.
+    // Words that are no line, whatever comes of the usage line, and a source without a script come before the device,
+    // and only a run reads the source, at most a byte more than a script has.
     ensures untouched { (result.status ≡ 2) ⊎ (result.status ≡ 4) ⊎ (result.status ≡ 5) → result.device ≡ device }
+    ensures uncalled { quiet_in words.now ≡ None → ¬ IsRun words.now → result.device ≡ device }
     ensures unread { ¬ IsRun words.now → source.new ≡ source.old }
     ensures most_read { LosesAtMost 16777217 (S.left source.old) (S.left source.new) }
 

@@ -32,8 +32,9 @@ mod status;
 mod table;
 mod text;
 mod walk;
+mod words;
 mod write_error;
 
 pub use command::Quiet;
 pub use host::{Outcome, ntfs_host, quiet_command};
-pub use status::MEMORY;
+pub use words::words_or_status;

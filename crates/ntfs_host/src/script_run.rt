@@ -6,7 +6,7 @@ ghost use Rattle.script_text.specs.Scripts.{script_of};
 ghost use Rattle.run_model.specs.Texts.{IsRunText};
 ghost use Rattle.upcase_order.specs.Tables.{standard_table};
 ghost use Rattle.ntfs_host.specs.Mounts.{mounted_of};
-ghost use Rattle.ntfs_host.specs.Scripts.{script_line, IsAccepted, LosesAtMost};
+ghost use Rattle.ntfs_host.specs.Scripts.{script_line, IsAccepted, IsReadWhole, LosesAtMost};
 ghost use Rattle.ntfs_host.specs.Runs.{IsPrintedRun, PrintsVolume, PrintsVolumePart, PrintsScript, PrintsScriptPart, IsRunStatus};
 ghost use Rattle.ntfs_host.specs.Statuses.{IsQuietStatus};
 
@@ -110,22 +110,13 @@ fn run_mounted<R: Threads + Wait, K: Sink, D: Device, G: Gate>(
     ensures sectors { D.sector_count device.new ≡ D.sector_count device.old }
     ensures later { D.fault_count device.old ≤ D.fault_count device.new }
 {
-    let upper = match Upcase::standard(alloc) {
-        Ok(upper) => upper,
+    let standard = match Upcase::standard(alloc) {
+        Ok(standard) => standard,
         Err(Memory) => return MEMORY,
     };
-    match mount(alloc, upper.as_slice(), device) {
-        Ok(records) => print_run(
-            rt,
-            alloc,
-            upper.as_slice(),
-            &records,
-            script,
-            time,
-            sink,
-            device,
-            gate,
-        ),
+    let upper = standard.as_slice();
+    match mount(alloc, upper, device) {
+        Ok(records) => print_run(rt, alloc, upper, &records, script, time, sink, device, gate),
         Err(ScanError::Refused(refusal)) => status_of(write_refusal(alloc, sink, refusal), REFUSED),
         Err(ScanError::Memory) => MEMORY,
         Err(ScanError::Device) => DEVICE_FAULT,
@@ -137,8 +128,9 @@ fn run_mounted<R: Threads + Wait, K: Sink, D: Device, G: Gate>(
 ///
 /// The whole source is read first, then the volume is mounted, then the commands have their turns,
 /// from the time `time` on, in units of 100 ns since 1601-01-01, and then the text is written, a line
-/// at a time. So a refusal or a failure of the device comes only of a script that is accepted, and
-/// without one the device isn't called. The device is only read.
+/// at a time. So a refusal or a failure of the device comes only of a script that is accepted, without
+/// one the device isn't called, and the sink isn't before the source was read to its end. The device is
+/// only read.
 pub fn run_command<R: Threads + Wait, S: Source, K: Sink, D: Device, G: Gate>(
     rt: &R,
     alloc: Global,
@@ -150,6 +142,9 @@ pub fn run_command<R: Threads + Wait, S: Source, K: Sink, D: Device, G: Gate>(
 ) -> u8
     ensures status { IsRunStatus result }
     ensures accepted { (result ≡ 0) ⊎ (result ≡ 3) ⊎ (result ≡ 8) → IsAccepted (S.left source.old) (S.left source.new) }
+    ensures whole { (result ≡ 4) ⊎ (result ≡ 7) → IsReadWhole (S.left source.old) (S.left source.new) }
+    ensures sink_after { (sink.new ≡ sink.old) ⊎ IsReadWhole (S.left source.old) (S.left source.new) }
+    ensures device_after { (device.new ≡ device.old) ⊎ IsAccepted (S.left source.old) (S.left source.new) }
     ensures most_read { LosesAtMost 16777217 (S.left source.old) (S.left source.new) }
     ensures untouched { (result ≡ 4) ⊎ (result ≡ 5) → device.new ≡ device.old }
     ensures done { result ≡ 0 → IfSome (S.left source.old) (λ bytes. IsOk (script_of bytes) × IfSome (D.gives device.old) (λ disk. IsOk (mounted_of standard_table disk) × PrintsScript (K.taken sink.old) (K.taken sink.new) disk time (D.fault_count device.new) (script_of bytes))) }

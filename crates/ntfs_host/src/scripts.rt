@@ -3,7 +3,7 @@ ghost use Rattle.std.specs.Prelude.{◌≡◌, ◌≤◌, IfSome, IfOk, IsErrOf}
 ghost use Rattle.host_base.specs.Answers.{GivesOrFails};
 ghost use Rattle.host_base.specs.Causes.{Rose};
 ghost use Rattle.script_text.specs.Scripts.{script_of};
-ghost use Rattle.ntfs_host.specs.Scripts.{script_error_cause, IsAccepted, LosesAtMost};
+ghost use Rattle.ntfs_host.specs.Scripts.{script_error_cause, IsAccepted, LosesAtMost, ReadsWhole};
 
 use crate::reading::{SourceError, read_source};
 use host_base::Source;
@@ -28,6 +28,7 @@ pub enum ScriptError {
 pub fn read_script<S: Source>(alloc: Global, source: &mut S) -> Result<Script, ScriptError>
     ensures answer { IfSome (S.left source.old) (λ bytes. GivesOrFails (λ script. script) script_error_cause result (script_of bytes)) }
     ensures accepted { IfOk result (λ _. IsAccepted (S.left source.old) (S.left source.new)) }
+    ensures whole { ReadsWhole result (S.left source.old) (S.left source.new) }
     ensures most_read { LosesAtMost 16777217 (S.left source.old) (S.left source.new) }
     ensures later { S.faults source.old ≤ S.faults source.new }
     ensures fault { IsErrOf result ScriptError.Source → Rose (S.faults source.old) (S.faults source.new) }

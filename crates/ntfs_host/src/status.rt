@@ -14,7 +14,6 @@ pub const NO_SCRIPT: u8 = 4;
 
 pub const SOURCE_FAULT: u8 = 5;
 
-/// The status where memory was wanting outside the commands of a script.
 pub const MEMORY: u8 = 6;
 
 pub const SINK_FAULT: u8 = 7;
