@@ -29,10 +29,11 @@ const NONE: (usize, u8) = (usize::MAX, 0);
 
 // Bytes of the whole volume, and what answers its check.
 //
-// Record 0 has its data at 38 and the bits of the records at 98; record 5 its name at 38, its index root at 98, and the entries
-// from D8 on; record 6 the bitmap at 38. Record 25 has its information at 38, its name at 98 and its data at F8, with the mapping
-// pairs at 138; record 26 its long name at 98. Record 27 has its name at 98, $J at 108, with the mapping pairs at 158, and $Max at
-// 160; the journal's bytes stand in cluster 97.
+// Record 0 has its data at 0x38 and the bits of the records at 0x98; record 5 its name at 0x38,
+// its index root at 0x98, and the entries from byte 216 on; record 6 the bitmap at 0x38. Record
+// 25 has its information at 0x38, its name at 0x98 and its data at 0xF8, with the mapping pairs
+// at 0x138; record 26 its long name at 0x98. Record 27 has its name at 0x98, $J at 0x108, with
+// the mapping pairs at 0x158, and $Max at 0x160; the journal's bytes stand in cluster 97.
 #[test]
 fn changed_bytes_break_a_rule(rt: HostRuntime) -> Result<(), Fail> {
     let alloc = rt.alloc();

@@ -1,5 +1,5 @@
 use crate::image::{indexed_image, tiny_image};
-use crate::runs::{Faults, run_behind};
+use crate::runs::{Faults, run_with_gate};
 use host_base::Gate;
 use std::process::Abort;
 use std::sync::Wait;
@@ -46,7 +46,7 @@ fn passes<R: Threads + Wait + Sync + Abort + AllocGlobal>(
         passed: AtomicU64::new(0),
     };
     let script = script.to_vec(rt.alloc())?;
-    let (ended, written) = run_behind(rt, words, image, script, faults, &gate)?;
+    let (ended, written) = run_with_gate(rt, words, image, script, faults, &gate)?;
     assert_eq!(rt; written.as_slice(), text);
     assert_eq!(rt; ended, status);
     assert_eq!(rt; gate.passed.load(Ordering::SeqCst), passed);
@@ -71,9 +71,9 @@ fn each_command_passes_the_gate(rt: HostRuntime) -> Result<(), Fail> {
     Ok(())
 }
 
-// The commands come before the text, and behind the script and the volume.
+// The commands come before the text, and after the script and the volume.
 #[test]
-fn the_gate_stands_before_the_text_and_behind_the_volume(rt: HostRuntime) -> Result<(), Fail> {
+fn the_gate_stands_before_the_text_and_after_the_volume(rt: HostRuntime) -> Result<(), Fail> {
     let alloc = rt.alloc();
     let image = indexed_image(alloc)?;
     let words = ["ntfshost", "tiny.img", "run"];

@@ -103,7 +103,7 @@ fn with_root(alloc: Global, attributes: &[&[u8]]) -> Result<Vec<u8>, AllocError>
 }
 
 // Standard information of 48 and of 2F bytes (hexadecimal 30 are the least), before the name and
-// behind it.
+// after it.
 #[test]
 fn attributes_of_the_root_are_judged(rt: HostRuntime) -> Result<(), Fail> {
     let alloc = rt.alloc();

@@ -76,8 +76,8 @@ pub struct Faults<'a> {
     pub sink: &'a [u64],
 }
 
-// A run with these words of a script on a device of these bytes, with these faults and behind this gate.
-pub fn run_behind<R: Threads + Wait + Sync + Abort + AllocGlobal, G: Gate + Sync>(
+// A run with these words of a script on a device of these bytes, with these faults and this gate.
+pub fn run_with_gate<R: Threads + Wait + Sync + Abort + AllocGlobal, G: Gate + Sync>(
     rt: &R,
     words: &[&str],
     image: &[u8],
@@ -102,7 +102,7 @@ pub fn run_script<R: Threads + Wait + Sync + Abort + AllocGlobal>(
     script: Vec<u8>,
     faults: &Faults,
 ) -> Result<(u8, Vec<u8>), Fail> {
-    run_behind(
+    run_with_gate(
         rt,
         &["ntfshost", "tiny.img", "run"],
         image,

@@ -125,7 +125,7 @@ pub fn in_clusters(alloc: Global, id: u8, of: Stored) -> Result<Vec<u8>, AllocEr
     Ok(attribute)
 }
 
-// Entries of an index one behind the other, and the last one.
+// Entries of an index one after the other, and the last one.
 fn joined(alloc: Global, entries: &[&[u8]]) -> Result<Vec<u8>, AllocError> {
     let mut all = Vec::new(alloc);
     for entry in entries {
@@ -285,7 +285,7 @@ fn put_volume(alloc: Global, image: &mut [u8]) -> Result<(), AllocError>
     Ok(())
 }
 
-/// A volume of 128 clusters of a sector each that breaks no rule, with a sector behind it. In use are
+/// A volume of 128 clusters of a sector each that breaks no rule, with a sector after it. In use are
 /// the records of the volume itself 0, 2, 3 and 6, which have no names; the root; record 11, a
 /// directory with the change journal, record 27; a directory 24 with file 26, which has a long and a
 /// short name; and file 25 in the root. The error is want of memory.
