@@ -1,5 +1,5 @@
 -- Where the records of a page begin and end.
-use Rattle.std.proofs.Common.{◌≡◌, ℕ, zero, suc, ◌+◌, ◌-◌, ◌*◌, ◌%◌, ◌^◌, ◌<◌, ◌≤◌, Bool, true, false, cond, ◌==◌, List, [], ◌∷◌, ◌++◌, length, drop, map, Option, Some, None, Result, Ok, Err, refl, sym, ap, ◌∙◌, subst, All, arith, length-take, length-drop}
+use Rattle.std.proofs.Common.{◌≡◌, ℕ, zero, suc, ◌+◌, ◌-◌, ◌*◌, ◌%◌, ◌^◌, ◌<◌, ◌≤◌, Bool, true, false, cond, ◌==◌, List, [], ◌∷◌, ◌++◌, length, take, drop, map, Option, Some, None, Result, Ok, Err, refl, sym, ap, ◌∙◌, subst, All, arith, length-take, length-drop}
 use Rattle.std.specs.Prelude.{min, max, nat_le}
 use Rattle.std.specs.List.{range_with_len, AllByRecursion}
 use Rattle.std.proofs.lemmas.List.Elements.{All-from_recursion, All-append, All-filter}
@@ -9,7 +9,7 @@ use Rattle.disk_model.specs.Numbers.{field}
 use Rattle.tree_model.specs.declared.journal.Usn.{Usn}
 use Rattle.journal_model.specs.declared.fault.UsnFault.{UsnFault}
 use Rattle.journal_model.specs.declared.fault.UsnFault.TheVariants.{Cut, Shape}
-use Rattle.journal_model.specs.UsnRecords.{is_whole, is_length, own_bytes, all_zeros, is_usn, usn_of, entry_in, usn_in, known_version}
+use Rattle.journal_model.specs.UsnRecords.{is_whole, is_length, own_bytes, all_zeros, is_usn, usn_of, entry_in, usn_in, known_version, page_rest}
 use Rattle.journal_model.specs.Pages.{with_entry, records_in, records_of, page_records}
 use Rattle.journal_model.specs.Journals.{bytes_between, placed, page_entries}
 use Rattle.journal_model.proofs.UsnRead.{sound_parts, length-name_units, found_length}
@@ -69,9 +69,9 @@ read_end bytes at n entry e =
 -- ---- the records of bytes
 
 -- records that end by a place, and one more
-with_end : (found : Option Usn) (behind : Result (List Usn) UsnFault) (entries : List Usn) (to : ℕ) → ((entry : Usn) → found ≡ Some entry → usn_end entry ≤ to) → ((more : List Usn) → behind ≡ Ok more → EndBy to more)
-    → with_entry found behind ≡ Ok entries → EndBy to entries
-with_end None behind entries to here there e = there entries e
+with_end : (found : Option Usn) (after : Result (List Usn) UsnFault) (entries : List Usn) (to : ℕ) → ((entry : Usn) → found ≡ Some entry → usn_end entry ≤ to) → ((more : List Usn) → after ≡ Ok more → EndBy to more)
+    → with_entry found after ≡ Ok entries → EndBy to entries
+with_end None after entries to here there e = there entries e
 with_end (Some entry) (Ok more) entries to here there e =
     let is : entry ∷ more ≡ entries = cc in
     subst (EndBy to) is (here entry refl, there more refl)
@@ -105,8 +105,9 @@ records_end (suc most) bytes at to entries le e =
 pub page_end : (page : List ℕ) (at k : ℕ) (entries : List Usn) → length page ≤ 4096 → 4096 * k ≤ at → at < 4096 * k + 4096 → page_records page at ≡ Ok entries → EndBy (4096 * k + 4096) entries
 unfolding page_records records_of
 page_end page at k entries short le lt e =
-    let left = length-drop (at % 4096) page in
-    records_end (length (drop (at % 4096) page)) (drop (at % 4096) page) at (4096 * k + 4096) entries (omega arith) e
+    let front = length-take 4096 page in
+    let left = length-drop (at % 4096) (take 4096 page) in
+    records_end (length (page_rest page at)) (page_rest page at) at (4096 * k + 4096) entries (omega arith) e
 
 pub page_end_all : (page : List ℕ) (at k : ℕ) (entries : List Usn) → length page ≤ 4096 → 4096 * k ≤ at → at < 4096 * k + 4096 → page_records page at ≡ Ok entries → All (λ (entry : Usn). usn_end entry ≤ 4096 * k + 4096) entries
 page_end_all page at k entries short le lt e = All-from_recursion (λ (entry : Usn). usn_end entry ≤ 4096 * k + 4096) entries (page_end page at k entries short le lt e)
@@ -123,7 +124,7 @@ entries_end byte first next k entries begun e =
     let size = length-map-range_with_len byte (max first (4096 * k)) (min next (4096 * k + 4096) - max first (4096 * k)) in
     records_end (length bytes) bytes (max first (4096 * k)) (4096 * k + 4096) entries (omega arith) (placed_ok (records_in (length bytes) bytes (max first (4096 * k))) entries e)
 
--- the same of what is kept of them, behind others
+-- the same of what is kept of them, after others
 pub ends_grown : (from to : ℕ) (found new entries : List Usn) → new ≡ found ++ from_on from entries → All (λ (entry : Usn). usn_end entry < 2 ^ 64) found → All (λ (entry : Usn). usn_end entry ≤ to) entries → to < 2 ^ 64
     → All (λ (entry : Usn). usn_end entry < 2 ^ 64) new
 ends_grown from to found new entries grown before here small =

@@ -15,13 +15,13 @@ use Rattle.state_model.specs.Streams.{byte_at}
 use Rattle.journal_model.specs.Journals.{page_entries, pages_before, journal_from, journal_in}
 use Rattle.journal_model.proofs.JournalPages.{journal_next, journal_last}
 use Rattle.volume_state.specs.Journals.{journal_first, journal_entries}
-use Rattle.usn_journal.specs.declared.fault.PullFault.{PullFault}
-use Rattle.usn_journal.specs.declared.fault.PullFault.TheVariants.{Trimmed, Ahead, Broken, View, Memory}
-use Rattle.usn_journal.specs.Errors.{pull_cause, page_cause}
+use Rattle.usn_journal.specs.declared.fault.PageFault.{PageFault}
+use Rattle.usn_journal.specs.declared.fault.PageFault.TheVariants.{Broken, View, Memory}
+use Rattle.usn_journal.specs.Errors.{journal_cause, page_cause}
 use Rattle.usn_journal.specs.Pulls.{from_on, read_entries}
 use Rattle.usn_journal.proofs.Ends.{EndBy, entries_end}
 
--- records that end by a position don't begin at it or behind it
+-- records that end by a position don't begin at it or after it
 none_from : (from to : ℕ) (entries : List Usn) → to ≤ from → EndBy to entries → from_on from entries ≡ []
 none_from from to [] le ends = refl
 none_from from to (entry ∷ entries) le ends =
@@ -36,19 +36,19 @@ pub record IsLeft (byte : ℕ → ℕ) (first next from k : ℕ) (all found : Li
   pub parts : from_on from all ≡ found ++ from_on from rest
 
 abbrev chained : Result (List Usn) ℕ → Result (List Usn) ℕ → Result (List Usn) ℕ
-chained here behind = here >>= λ entries. behind >>= λ more. Ok (entries ++ more)
+chained here after = here >>= λ entries. after >>= λ more. Ok (entries ++ more)
 
-record Split (here behind : Result (List Usn) ℕ) (all : List Usn) : Type 0 where
+record Split (here after : Result (List Usn) ℕ) (all : List Usn) : Type 0 where
   pub entries : List Usn
   pub more : List Usn
   pub here_is : here ≡ Ok entries
-  pub behind_is : behind ≡ Ok more
+  pub after_is : after ≡ Ok more
   pub whole : all ≡ entries ++ more
 
-split : (here behind : Result (List Usn) ℕ) (all : List Usn) → chained here behind ≡ Ok all → Split here behind all
-split (Ok entries) (Ok more) all e = record { entries = entries; more = more; here_is = refl; behind_is = refl; whole = cc }
+split : (here after : Result (List Usn) ℕ) (all : List Usn) → chained here after ≡ Ok all → Split here after all
+split (Ok entries) (Ok more) all e = record { entries = entries; more = more; here_is = refl; after_is = refl; whole = cc }
 split (Ok entries) (Err place) all e = absurd cc
-split (Err place) behind all e = absurd cc
+split (Err place) after all e = absurd cc
 
 -- one page on, whose records are found
 page_on : (byte : ℕ → ℕ) (first next from k : ℕ) (all found entries : List Usn) → k < pages_before next → IsLeft byte first next from k all found → page_entries byte first next k ≡ Ok entries
@@ -60,7 +60,7 @@ page_on byte first next from k all found entries lt left here =
     let whole : left.rest ≡ entries ++ s.more = s.whole ∙ ap (λ (l : List Usn). l ++ s.more) same in
     record {
       rest = s.more;
-      read = s.behind_is;
+      read = s.after_is;
       parts = left.parts ∙ ap (λ (l : List Usn). found ++ from_on from l) whole ∙ ap (λ (l : List Usn). found ++ l) (filter-append (λ (entry : Usn). nat_le from entry.usn) entries s.more)
           ∙ sym (append_assoc found (from_on from entries) (from_on from s.more));
     }
@@ -117,7 +117,7 @@ known_on known per e from k first found new entries is lt grown left here =
     (page_on (byte_at c per e) (journal_first per e) e.real from k (read_entries (journal_entries c per e)) found entries lt l (ap (λ (n : ℕ). page_entries (byte_at c per e) n e.real k) (sym is) ∙ h))) left here
 
 -- records, as they are given
-abbrev pub given : List Usn → Result (List Usn) PullFault
+abbrev pub given : List Usn → Result (List Usn) PageFault
 given entries = Ok entries
 
 -- enough was found
@@ -135,16 +135,14 @@ known_end known per e from k most found result le is left =
     ap given (ap (take most) (l.parts ∙ ap (λ (x : List Usn). found ++ from_on from x) none ∙ append-nil found) ∙ sym is)) left
 
 -- a page that is left has no record at fault
-never_broken : (fault : PullFault) (here : Result (List Usn) ℕ) (entries : List Usn) (meant : Result (List Usn) PullFault) → here ≡ Ok entries → ExplainsOrFails (page_cause fault) here → ExplainsOrFails (pull_cause fault) meant
-never_broken (Trimmed first) here entries meant is said = absurd said
-never_broken (Ahead next) here entries meant is said = absurd said
+never_broken : (fault : PageFault) (here : Result (List Usn) ℕ) (entries : List Usn) (meant : Result (List Usn) PageFault) → here ≡ Ok entries → ExplainsOrFails (page_cause fault) here → ExplainsOrFails (journal_cause fault) meant
 never_broken (Broken at) here entries meant is said = absurd cc
 never_broken View here entries meant is said = tt
 never_broken Memory here entries meant is said = tt
 
-pub known_broken : (known : Option Content) (per : ℕ) (e : Extents) (from k most first : ℕ) (found : List Usn) (fault : PullFault) → first ≡ journal_first per e → k < (e.real + 4095) / 4096 → KnownLeft known per e from k found
+pub known_broken : (known : Option Content) (per : ℕ) (e : Extents) (from k most first : ℕ) (found : List Usn) (fault : PageFault) → first ≡ journal_first per e → k < (e.real + 4095) / 4096 → KnownLeft known per e from k found
     → IfSome known (λ c. ExplainsOrFails (page_cause fault) (page_entries (byte_at c per e) first e.real k))
-    → IfSome known (λ c. ExplainsOrFails (pull_cause fault) (given (take most (from_on from (read_entries (journal_entries c per e))))))
+    → IfSome known (λ c. ExplainsOrFails (journal_cause fault) (given (take most (from_on from (read_entries (journal_entries c per e))))))
 known_broken known per e from k most first found fault is lt left said =
     both known _ _ _ (λ c l h.
     let s = split (page_entries (byte_at c per e) (journal_first per e) e.real k) (journal_from (byte_at c per e) (journal_first per e) e.real (k + 1)) l.rest (sym (journal_next (byte_at c per e) (journal_first per e) e.real k lt) ∙ l.read) in

@@ -5,40 +5,50 @@ use Rattle.block_view.specs.declared.fault.ViewFault.{ViewFault}
 use Rattle.block_view.specs.declared.fault.ViewFault.TheVariants as views
 use Rattle.journal_model.specs.declared.fault.UsnFault.{UsnFault}
 use Rattle.journal_model.specs.declared.fault.UsnFault.TheVariants as entries
+use Rattle.usn_journal.specs.declared.fault.PageFault.{PageFault}
+use Rattle.usn_journal.specs.declared.fault.PageFault.TheVariants as pages
 use Rattle.usn_journal.specs.declared.fault.PullFault.{PullFault}
 use Rattle.usn_journal.specs.declared.fault.PullFault.TheVariants as faults
 
--- a position is refused; a record at fault is never met in a journal whose records are whole
+-- a position is refused
 abbrev pub pull_cause : PullFault → Cause PullFault
 pull_cause (faults.Trimmed first) = refused (faults.Trimmed first)
 pull_cause (faults.Ahead next) = refused (faults.Ahead next)
-pull_cause (faults.Broken at) = never
 pull_cause faults.View = failed
 pull_cause faults.Memory = no_memory
 
--- of a page a record at fault is refused by its offset; a page has no position
-abbrev pub page_cause : PullFault → Cause ℕ
-page_cause (faults.Trimmed first) = never
-page_cause (faults.Ahead next) = never
-page_cause (faults.Broken at) = refused at
-page_cause faults.View = failed
-page_cause faults.Memory = no_memory
+-- of a page a record at fault is refused by its offset
+abbrev pub page_cause : PageFault → Cause ℕ
+page_cause (pages.Broken at) = refused at
+page_cause pages.View = failed
+page_cause pages.Memory = no_memory
+
+-- a record at fault is never met in a journal whose records are whole
+abbrev pub journal_cause : PageFault → Cause PageFault
+journal_cause (pages.Broken at) = never
+journal_cause pages.View = failed
+journal_cause pages.Memory = no_memory
 
 -- an error other than those of a position outside the journal
 abbrev pub IsInside : PullFault → Type 0
 IsInside (faults.Trimmed first) = ⊥
 IsInside (faults.Ahead next) = ⊥
-IsInside (faults.Broken at) = ⊤
 IsInside faults.View = ⊤
 IsInside faults.Memory = ⊤
 
--- what a view's fault becomes
-abbrev pub of_view : ViewFault → PullFault
-of_view views.Fault = faults.View
-of_view views.Memory = faults.Memory
+-- what a view's fault becomes for a page
+abbrev pub of_view : ViewFault → PageFault
+of_view views.Fault = pages.View
+of_view views.Memory = pages.Memory
 
--- what the fault of a page becomes: its offset
-abbrev pub of_page : UsnFault → PullFault
-of_page (entries.Cut at) = faults.Broken at
-of_page (entries.Shape at) = faults.Broken at
-of_page entries.Memory = faults.Memory
+-- and that of a record: its offset
+abbrev pub of_record : UsnFault → PageFault
+of_record (entries.Cut at) = pages.Broken at
+of_record (entries.Shape at) = pages.Broken at
+of_record entries.Memory = pages.Memory
+
+-- what a page's fault becomes for a whole journal, which has no record at fault
+abbrev pub of_page : PageFault → PullFault
+of_page (pages.Broken at) = faults.Memory
+of_page pages.View = faults.View
+of_page pages.Memory = faults.Memory

@@ -14,7 +14,7 @@ use Rattle.usn_journal.specs.declared.fault.PullFault.TheVariants.{Trimmed, Ahea
 abbrev pub usn_end : Usn → ℕ
 usn_end entry = entry.usn + usn_size entry
 
--- the records that begin at a position or behind it
+-- the records that begin at a position or after it
 abbrev pub from_on : ℕ → List Usn → List Usn
 from_on from entries = filter (λ (entry : Usn). nat_le from entry.usn) entries
 
@@ -32,7 +32,7 @@ read_entries (Err place) = []
 abbrev pub pulled_in : ℕ → ℕ → ℕ → List Usn → Pulled
 pulled_in next from most entries = let some = take most (from_on from entries) in record { entries = some; end = end_of next some }
 
--- the same of a journal, or where it begins or ends, where the position lies before or behind it
+-- the same of a journal, or where it begins or ends, where the position lies before or after it
 unfoldable pub pulled_of : Content → ℕ → Extents → ℕ → ℕ → Result Pulled PullFault
 pulled_of c per e from most =
     needs (nat_le (journal_first per e) from) (Trimmed (journal_first per e)) >>= λ _. needs (nat_le from e.real) (Ahead e.real) >>= λ _. Ok (pulled_in e.real from most (read_entries (journal_entries c per e)))

@@ -9,16 +9,24 @@ pub enum PullFault {
     /// The position lies before the journal, which begins at this byte.
     #[error("the journal begins at {first}")]
     Trimmed { first: u64 },
-    /// The position lies behind the journal, whose next record goes to this byte.
+    /// The position lies after the journal, whose next record goes to this byte.
     #[error("the journal ends at {next}")]
     Ahead { next: u64 },
-    /// The record at this offset is at fault. It never comes where the journal's records are whole.
-    #[error("the journal is at fault at {at}")]
-    Broken { at: u64 },
     /// The view failed.
     #[error("the view failed")]
     View,
     #[error("no memory")]
+    Memory,
+}
+
+/// Why the pages of a journal give no records.
+#[derive(Clone, Copy, Debug, PartialEq, Eq)]
+pub enum PageFault {
+    /// The record at this offset is at fault. It never comes where the journal's records are whole.
+    Broken { at: u64 },
+    /// The view failed.
+    View,
+    /// There is no memory left.
     Memory,
 }
 
@@ -33,7 +41,18 @@ impl From<AllocError> for PullFault {
     }
 }
 
-impl From<ViewFault> for PullFault {
+impl From<AllocError> for PageFault {
+    ghost use Rattle.std.specs.Prelude.{◌≡◌};
+    ghost use Rattle.usn_journal.specs.declared.fault.PageFault.TheVariants.{Memory as no_memory};
+
+    ghost from_gives = { λ _ fault. fault ≡ no_memory };
+
+    fn from(_error: AllocError) -> Self {
+        PageFault::Memory
+    }
+}
+
+impl From<ViewFault> for PageFault {
     ghost use Rattle.std.specs.Prelude.{◌≡◌};
     ghost use Rattle.usn_journal.specs.Errors.{of_view};
 
@@ -41,23 +60,39 @@ impl From<ViewFault> for PullFault {
 
     fn from(fault: ViewFault) -> Self {
         match fault {
-            ViewFault::Fault => PullFault::View,
-            ViewFault::Memory => PullFault::Memory,
+            ViewFault::Fault => PageFault::View,
+            ViewFault::Memory => PageFault::Memory,
         }
     }
 }
 
-impl From<UsnFault> for PullFault {
+impl From<UsnFault> for PageFault {
+    ghost use Rattle.std.specs.Prelude.{◌≡◌};
+    ghost use Rattle.usn_journal.specs.Errors.{of_record};
+
+    ghost from_gives = { λ record_fault fault. fault ≡ of_record record_fault };
+
+    fn from(fault: UsnFault) -> Self {
+        match fault {
+            UsnFault::Cut { at } => PageFault::Broken { at },
+            UsnFault::Shape { at } => PageFault::Broken { at },
+            UsnFault::Memory => PageFault::Memory,
+        }
+    }
+}
+
+impl From<PageFault> for PullFault {
     ghost use Rattle.std.specs.Prelude.{◌≡◌};
     ghost use Rattle.usn_journal.specs.Errors.{of_page};
 
     ghost from_gives = { λ page fault. fault ≡ of_page page };
 
-    fn from(fault: UsnFault) -> Self {
+    fn from(fault: PageFault) -> Self {
         match fault {
-            UsnFault::Cut { at } => PullFault::Broken { at },
-            UsnFault::Shape { at } => PullFault::Broken { at },
-            UsnFault::Memory => PullFault::Memory,
+            // A whole journal has no such record.
+            PageFault::Broken { .. } => PullFault::Memory,
+            PageFault::View => PullFault::View,
+            PageFault::Memory => PullFault::Memory,
         }
     }
 }

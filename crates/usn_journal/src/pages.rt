@@ -1,17 +1,17 @@
 //! The pages of the journal from a position on.
-ghost use Rattle.std.specs.Prelude.{◌≡◌, ◌+◌, ◌-◌, ◌*◌, ◌/◌, ◌^◌, ◌<◌, ◌≤◌, ◌++◌, Vec, min, length, take, All, IfOk, IfErr, OnOk, IfSome, IsOk, Ok, IsErrOf};
+ghost use Rattle.std.specs.Prelude.{◌≡◌, ◌+◌, ◌-◌, ◌*◌, ◌/◌, ◌^◌, ◌<◌, ◌≤◌, ◌++◌, Vec, min, length, take, All, IfOk, OnOk, IfSome, IsOk, Ok, IsErrOf};
 ghost use Rattle.host_base.specs.Answers.{GivesOrFails};
 ghost use Rattle.host_base.specs.Causes.{Rose};
 ghost use Rattle.tree_model.specs.declared.journal.Usn.{Usn as UsnOf};
 ghost use Rattle.journal_model.specs.Journals.{page_entries};
 ghost use Rattle.state_model.specs.Streams.{byte_at};
 ghost use Rattle.stream_map.specs.Runs.{AreSmall};
-ghost use Rattle.volume_map.specs.Views.{KeepsView};
+ghost use Rattle.block_view.specs.Views.{KeepsView};
 ghost use Rattle.volume_state.specs.Journals.{journal_first, journal_entries};
-ghost use Rattle.usn_journal.specs.Errors.{pull_cause, page_cause, IsInside};
+ghost use Rattle.usn_journal.specs.Errors.{journal_cause, page_cause};
 ghost use Rattle.usn_journal.specs.Pulls.{usn_end, from_on, read_entries};
 
-use crate::fault::PullFault;
+use crate::fault::PageFault;
 use block_view::View;
 use disk_model::Body;
 use state_model::Extents;
@@ -34,7 +34,7 @@ fn read_bytes<V: View>(
     number: u64,
     body: &mut Body,
     page: &mut [u8],
-) -> Result<UsnList, PullFault>
+) -> Result<UsnList, PageFault>
     requires some { 0 < per }
     requires few { per ≤ 8 }
     requires small { AreSmall extents.now.runs }
@@ -46,8 +46,7 @@ fn read_bytes<V: View>(
     ensures value { IfSome (V.content view.old) (λ c. GivesOrFails (λ entries. entries) page_cause result (page_entries (byte_at c per extents.now) first extents.now.real number)) }
     ensures ends { IfOk result (λ entries. All (λ (entry : UsnOf). usn_end entry ≤ PAGE * number + PAGE) entries) }
     ensures kept { KeepsView V.content V.kept V.faults view.old view.new }
-    ensures fault { IsErrOf result PullFault.View → Rose (V.faults view.old) (V.faults view.new) }
-    ensures inside { IfErr result IsInside }
+    ensures fault { IsErrOf result PageFault.View → Rose (V.faults view.old) (V.faults view.new) }
 {
     let begin = PAGE * number;
     fill(view, per, extents, begin, body, page)?;
@@ -64,7 +63,7 @@ fn read_number<V: View>(
     number: u64,
     body: &mut Body,
     room: &mut [u8],
-) -> Result<UsnList, PullFault>
+) -> Result<UsnList, PageFault>
     requires some { 0 < per }
     requires few { per ≤ 8 }
     requires small { AreSmall extents.now.runs }
@@ -76,8 +75,7 @@ fn read_number<V: View>(
     ensures value { IfSome (V.content view.old) (λ c. GivesOrFails (λ entries. entries) page_cause result (page_entries (byte_at c per extents.now) first extents.now.real number)) }
     ensures ends { IfOk result (λ entries. All (λ (entry : UsnOf). usn_end entry ≤ PAGE * number + PAGE) entries) }
     ensures kept { KeepsView V.content V.kept V.faults view.old view.new }
-    ensures fault { IsErrOf result PullFault.View → Rose (V.faults view.old) (V.faults view.new) }
-    ensures inside { IfErr result IsInside }
+    ensures fault { IsErrOf result PageFault.View → Rose (V.faults view.old) (V.faults view.new) }
 {
     let count = (extents.real - PAGE * number).min(PAGE) as usize;
     read_bytes(
@@ -92,7 +90,7 @@ fn read_number<V: View>(
     )
 }
 
-// Copies of the entries that begin at a position or behind it, behind those that were found.
+// Copies of the entries that begin at a position or after it, after those that were found.
 fn keep(found: &mut Vec<Usn>, entries: &[Usn], from: u64) -> Result<(), AllocError>
     ensures { OnOk result (found.new.items ≡ found.old.items ++ from_on from entries.now) }
 {
@@ -124,7 +122,7 @@ pub fn read_pages<V: View>(
     most: u32,
     body: &mut Body,
     room: &mut [u8],
-) -> Result<Vec<Usn>, PullFault>
+) -> Result<Vec<Usn>, PageFault>
     requires some { 0 < per }
     requires few { per ≤ 8 }
     requires small { AreSmall extents.now.runs }
@@ -134,11 +132,10 @@ pub fn read_pages<V: View>(
     requires room { extents.now.real + 8192 < 2 ^ 64 }
     requires size { length room.old ≡ PAGE }
     requires whole { IfSome (V.content view.old) (λ c. IsOk (journal_entries c per extents.now)) }
-    ensures value { IfSome (V.content view.old) (λ c. GivesOrFails (λ (v : Vec UsnOf Global). v.items) pull_cause result (Ok (take most (from_on from (read_entries (journal_entries c per extents.now)))))) }
+    ensures value { IfSome (V.content view.old) (λ c. GivesOrFails (λ (v : Vec UsnOf Global). v.items) journal_cause result (Ok (take most (from_on from (read_entries (journal_entries c per extents.now)))))) }
     ensures ends { IfOk result (λ found. All (λ (entry : UsnOf). usn_end entry < 2 ^ 64) found.items) }
     ensures kept { KeepsView V.content V.kept V.faults view.old view.new }
-    ensures fault { IsErrOf result PullFault.View → Rose (V.faults view.old) (V.faults view.new) }
-    ensures inside { IfErr result IsInside }
+    ensures fault { IsErrOf result PageFault.View → Rose (V.faults view.old) (V.faults view.new) }
 {
     let end = (extents.real + (PAGE - 1)) / PAGE;
     let mut found = Vec::new(alloc);

@@ -1,14 +1,14 @@
-ghost use Rattle.std.specs.Prelude.{◌≡◌, ◌+◌, ◌*◌, ◌^◌, ◌<◌, ◌≤◌, not, find, length, All, IfOk, IfErr, IfSome, IsOk, Err, IsErrOf};
+ghost use Rattle.std.specs.Prelude.{◌≡◌, ◌+◌, ◌*◌, ◌^◌, ◌<◌, ◌≤◌, not, find, length, All, IfOk, IfErr, IfSome, IsOk, Ok, Err, IsErrOf};
 ghost use Rattle.host_base.specs.Answers.{GivesOrFails};
 ghost use Rattle.host_base.specs.Causes.{Rose};
 ghost use Rattle.tree_model.specs.declared.journal.Usn.{Usn as UsnOf};
 ghost use Rattle.stream_map.specs.Runs.{AreSmall};
-ghost use Rattle.volume_map.specs.Views.{KeepsView};
+ghost use Rattle.block_view.specs.Views.{KeepsView};
 ghost use Rattle.std.specs.Option.{option_copied};
 ghost use Rattle.volume_model.specs.Sizes.{is_hole};
 ghost use Rattle.volume_state.specs.Journals.{run_place, journal_first, journal_entries};
 ghost use Rattle.usn_journal.specs.Errors.{pull_cause, IsInside};
-ghost use Rattle.usn_journal.specs.Pulls.{usn_end, end_of, pulled_of};
+ghost use Rattle.usn_journal.specs.Pulls.{usn_end, end_of, read_entries, pulled_in, pulled_of};
 
 use crate::fault::PullFault;
 use crate::pages::read_pages;
@@ -95,18 +95,57 @@ fn end_of(next: u64, entries: &[Usn]) -> u64
     end
 }
 
-/// At most `most` of the records of a change journal that begin at its byte `from` or behind it, in
-/// order, and the place behind the last of them; where there is none, the journal's next place
+// At most `most` of the records of a whole journal, which begins at its byte `first`, from a position
+// in it on, and the place after the last of them, or the journal's next one.
+fn pull_inside<V: View>(
+    alloc: Global,
+    view: &mut V,
+    per: u64,
+    extents: &Extents,
+    first: u64,
+    from: u64,
+    most: u32,
+    body: &mut Body,
+) -> Result<Pulled, PullFault>
+    requires some { 0 < per }
+    requires few { per ≤ 8 }
+    requires small { AreSmall extents.now.runs }
+    requires first { first ≡ journal_first per extents.now }
+    requires begun { first ≤ from }
+    requires left { from ≤ extents.now.real }
+    requires whole { IfSome (V.content view.old) (λ c. IsOk (journal_entries c per extents.now)) }
+    ensures value { IfSome (V.content view.old) (λ c. GivesOrFails (λ pulled. pulled) pull_cause result (Ok (pulled_in extents.now.real from most (read_entries (journal_entries c per extents.now))))) }
+    ensures inside { IfErr result IsInside }
+    ensures kept { KeepsView V.content V.kept V.faults view.old view.new }
+    ensures fault { IsErrOf result PullFault.View → Rose (V.faults view.old) (V.faults view.new) }
+{
+    let next = extents.real;
+    if next >= MOST_READ {
+        return Err(PullFault::Memory);
+    }
+    let mut room = page_room(alloc)?;
+    let found = read_pages(
+        alloc, view, per, extents, first, from, most, body, &mut room,
+    )?;
+    let end = end_of(next, &found);
+    Ok(Pulled {
+        entries: UsnList::from(found),
+        end,
+    })
+}
+
+/// At most `most` of the records of a change journal that begin at its byte `from` or after it, in
+/// order, and the place after the last of them; where there is none, the journal's next place
 /// (Linux-NTFS documentation, "$UsnJrnl"; Microsoft's reference, "USN_RECORD_V2"). The journal is
 /// `$J` in these clusters, and begins at its first cluster that isn't sparse, within its real size;
 /// its records are whole. A volume has `per` sectors a cluster; `body` is room for a body.
 ///
 /// - `Trimmed`: exactly where `from` lies before the journal, which begins there.
-/// - `Ahead`: exactly where `from` lies behind the journal's next place, which is there.
-/// - `Broken`: never, where the journal's records are whole.
+/// - `Ahead`: exactly where `from` lies after the journal's next place, which is there.
 /// - `View`: the view failed.
 /// - `Memory`: want of memory. It comes too where the real size of `$J` is within 8,192 bytes of 2^64,
-///   which no lawful sizes allow.
+///   which no lawful sizes allow; and where the view gives a record that is at fault, which no view
+///   does that is known to hold whole records.
 ///
 /// It reads the pages from that of `from` on until it has `most` records, each once, and keeps one of
 /// them: linear in their bytes, each of whose sectors takes one pass over the runs, and one pass more.
@@ -141,16 +180,5 @@ pub fn read_from<V: View>(
     if next < from {
         return Err(PullFault::Ahead { next });
     }
-    if next >= MOST_READ {
-        return Err(PullFault::Memory);
-    }
-    let mut room = page_room(alloc)?;
-    let found = read_pages(
-        alloc, view, per, extents, first, from, most, body, &mut room,
-    )?;
-    let end = end_of(next, &found);
-    Ok(Pulled {
-        entries: UsnList::from(found),
-        end,
-    })
+    pull_inside(alloc, view, per, extents, first, from, most, body)
 }

@@ -1,6 +1,6 @@
 use Rattle.std.proofs.Common.{◌/◌, ◌<◌, ◌≤◌, ◌^◌, All}
 use Rattle.tree_model.specs.declared.journal.Usn.{Usn}
-use Rattle.volume_map.specs.Views.{KeepsView}
+use Rattle.block_view.specs.Views.{KeepsView}
 use Rattle.usn_journal.specs.Pulls.{usn_end}
 use Rattle.usn_journal.proofs.Left.{KnownLeft}
 use Rattle.usn_journal.proofs.pages.read_pages.Given as goal
