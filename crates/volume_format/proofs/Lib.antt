@@ -4,4 +4,5 @@ pub mod FittingStreams
 pub mod FittingRecords
 pub mod FittingNode
 pub mod Pieces
+pub mod Stopping
 pub mod Calls

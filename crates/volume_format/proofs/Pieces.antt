@@ -43,7 +43,7 @@ pub filling_add : (f : Filling) (at n m : ℕ) → filling_bytes f at n ++ filli
 unfolding filling_bytes
 filling_add f at n m = mapped_add (filling_byte f) at n m
 
-filling_front : (f : Filling) (at n all : ℕ) → at + n ≡ all → filling_bytes f 0 at ++ filling_bytes f at n ≡ filling_bytes f 0 all
+pub filling_front : (f : Filling) (at n all : ℕ) → at + n ≡ all → filling_bytes f 0 at ++ filling_bytes f at n ≡ filling_bytes f 0 all
 filling_front f at n all e =
     let same : at ≡ 0 + at = omega arith in
     ap (λ (k : ℕ). filling_bytes f 0 at ++ filling_bytes f k n) same ∙ filling_add f 0 at n ∙ ap (filling_bytes f 0) e
@@ -102,7 +102,7 @@ written_none zero (b ∷ disk) = refl
 written_none {X} (suc at) (b ∷ disk) = ap (λ (l : List X). b ∷ l) (written_none at disk)
 
 -- a piece behind those before it
-on_disk : (f : Filling) (cluster at n all : ℕ) (disk : List (List ℕ)) → at % 512 ≡ 0 → at + n ≡ all
+pub on_disk : (f : Filling) (cluster at n all : ℕ) (disk : List (List ℕ)) → at % 512 ≡ 0 → at + n ≡ all
     → written (8 * cluster + at / 512) (sectors_of (filling_bytes f at n)) (written (8 * cluster) (sectors_of (filling_bytes f 0 at)) disk) ≡ written (8 * cluster) (sectors_of (filling_bytes f 0 all)) disk
 on_disk f cluster at n all disk whole e =
     let size : length (filling_bytes f 0 at) ≡ at = length-filling_bytes f 0 at in

@@ -6,6 +6,7 @@ ghost use Rattle.volume_format.specs.declared.fault.FormatFault.TheVariants.{Fau
 ghost use Rattle.volume_format.specs.Layouts.{IsLayout, layout_of, device_calls};
 ghost use Rattle.volume_format.specs.Answers.{format_answer, format_cause, IsUntouched};
 ghost use Rattle.volume_format.specs.Images.{formatted, Puts, regions};
+ghost use Rattle.volume_format.specs.Stopping.{PutsFront, KeepsOthers};
 
 use crate::fault::{FormatFault, Formatted};
 use crate::layout::{Layout, clusters_of, layout_of};
@@ -62,6 +63,8 @@ fn write_volume<D: Device>(
     ensures causes { IsErr result → IsErrOf result device_failed ⊎ IsErrOf result no_memory }
     ensures memory { IsErrOf result no_memory → IsUntouched (D.gives device.old) (D.gives device.new) (D.moment_of device.old) (D.moment_of device.new) (D.fault_count device.old) (D.fault_count device.new) }
     ensures image { OnOk result (Puts (regions v seed time) (D.gives device.old) (D.gives device.new)) }
+    ensures stopped { IsErrOf result device_failed → PutsFront (regions v seed time) (D.gives device.old) (D.gives device.new) }
+    ensures others { KeepsOthers v (D.gives device.old) (D.gives device.new) }
     ensures moment { OnOk result (D.moment_of device.new ≡ D.moment_of device.old + 2 * device_calls v) }
     ensures sectors { D.sector_count device.new ≡ D.sector_count device.old }
     ensures later { D.fault_count device.old ≤ D.fault_count device.new }
@@ -76,16 +79,19 @@ fn write_volume<D: Device>(
 /// Makes a new volume of all sectors of a device but the last one, with this serial number; all its
 /// times are `time`, in units of 100 ns since 1601-01-01. The volume has clusters of eight sectors
 /// of 512 bytes and the twelve system files, and no other (Linux-NTFS documentation, "$Boot", "FILE
-/// Record" and the files' own pages). Free clusters stay as they were, and the last sector too.
+/// Record" and the files' own pages). Whatever is answered, free clusters stay as they were, and
+/// the last sector too.
 ///
 /// It takes time linear in the clusters, constant memory, and writes at most 64 KiB in a call; the
-/// last call is a sync.
+/// last call is a sync. Of this the contract says how many calls there are: a device counts reads,
+/// writes and syncs alike, so that no clause tells a sync from a write of no bytes.
 ///
 /// - [`FormatFault::Short`]: the device has no sector, or fewer than 4,537.
 /// - [`FormatFault::VolumeLarge`]: there would be more than 16,777,216 clusters. It comes before
 ///   the second case of `Short`. After these two the device wasn't called.
-/// - [`FormatFault::Fault`]: the device failed; what was written until then stands there, of which the
-///   boot sector is the last.
+/// - [`FormatFault::Fault`]: the device failed; what was written until then stands there, region by
+///   region in their order, of which the boot sector's is the last. Of the region that failed any
+///   sectors may stand.
 /// - [`FormatFault::Memory`]: want of memory; the device wasn't called.
 pub fn format<D: Device>(
     alloc: Global,
@@ -95,6 +101,8 @@ pub fn format<D: Device>(
 ) -> Result<Formatted, FormatFault>
     ensures answer { GivesOrFails (λ formatted. formatted) format_cause result (format_answer (D.sector_count device.old)) }
     ensures image { IfOk result (λ _. D.gives device.new ≡ option_map (λ old. formatted old seed time) (D.gives device.old)) }
+    ensures stopped { IsErrOf result device_failed → PutsFront (regions (layout_of (D.sector_count device.old)) seed time) (D.gives device.old) (D.gives device.new) }
+    ensures others { KeepsOthers (layout_of (D.sector_count device.old)) (D.gives device.old) (D.gives device.new) }
     ensures calls { IfOk result (λ _. D.moment_of device.new ≡ D.moment_of device.old + 2 * device_calls (layout_of (D.sector_count device.old))) }
     ensures only { IsErr (format_answer (D.sector_count device.old)) → result ≡ format_answer (D.sector_count device.old) }
     ensures memory { IsErrOf result no_memory → IsUntouched (D.gives device.old) (D.gives device.new) (D.moment_of device.old) (D.moment_of device.new) (D.fault_count device.old) (D.fault_count device.new) }

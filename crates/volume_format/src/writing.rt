@@ -1,10 +1,11 @@
-ghost use Rattle.std.specs.Prelude.{◌≡◌, ◌+◌, ◌*◌, ◌/◌, ◌%◌, ◌≤◌, [], ◌∷◌, OnOk, length};
+ghost use Rattle.std.specs.Prelude.{◌≡◌, ◌+◌, ◌*◌, ◌/◌, ◌%◌, ◌≤◌, [], ◌∷◌, OnOk, OnErr, length};
 ghost use Rattle.std.specs.Option.{option_map};
 ghost use Rattle.host_base.specs.Causes.{FailsByCause};
 ghost use Rattle.disk_model.specs.Bytes.{written};
-ghost use Rattle.sector_device.specs.Sectors.{sectors_of};
+ghost use Rattle.sector_device.specs.Sectors.{sectors_of, IsTornBy};
 ghost use Rattle.volume_format.specs.Layouts.{IsLayout, upper_case_first, log_first, cluster_bits_first, piece_calls, device_calls, table_first, mirror_first, record_bits_first};
 ghost use Rattle.volume_format.specs.Images.{Puts, upper_case_bytes, log_bytes, cluster_bits};
+ghost use Rattle.volume_format.specs.Stopping.{PutsFront, PutsTorn, KeepsOthers};
 ghost use Rattle.volume_format.specs.Fillings.{filling_bytes, IsInside};
 ghost use Rattle.volume_format.specs.Parts.{HaveSizes, regions_of};
 
@@ -22,6 +23,7 @@ fn put<D: Device>(device: &mut D, cluster: u64, bytes: &[u8]) -> Result<(), Fail
     requires whole { length bytes.now % 512 ≡ 0 }
     requires within { 4096 * cluster + length bytes.now ≤ 512 * D.sector_count device.old }
     ensures image { OnOk result (Puts (record { cluster = cluster; bytes = bytes.now } ∷ []) (D.gives device.old) (D.gives device.new)) }
+    ensures torn { OnErr result (PutsTorn (record { cluster = cluster; bytes = bytes.now }) (D.gives device.old) (D.gives device.new)) }
     ensures moment { OnOk result (D.moment_of device.new ≡ D.moment_of device.old + 2) }
     ensures sectors { D.sector_count device.new ≡ D.sector_count device.old }
     ensures cause { FailsByCause (D.fault_count device.old) (D.fault_count device.new) (D.moment_of device.new) result }
@@ -42,6 +44,7 @@ fn put_piece<D: Device>(
     requires whole { length piece.old % 512 ≡ 0 }
     requires within { 4096 * cluster + at + length piece.old ≤ 512 * D.sector_count device.old }
     ensures image { OnOk result (D.gives device.new ≡ option_map (written (8 * cluster + at / 512) (sectors_of (filling_bytes filling at (length piece.old)))) (D.gives device.old)) }
+    ensures torn { OnErr result (IsTornBy (8 * cluster + at / 512) (sectors_of (filling_bytes filling at (length piece.old))) (D.gives device.old) (D.gives device.new)) }
     ensures moment { OnOk result (D.moment_of device.new ≡ D.moment_of device.old + 2) }
     ensures sectors { D.sector_count device.new ≡ D.sector_count device.old }
     ensures cause { FailsByCause (D.fault_count device.old) (D.fault_count device.new) (D.moment_of device.new) result }
@@ -62,6 +65,7 @@ fn put_pieces<D: Device>(
     requires within { 4096 * cluster + 65536 * count ≤ 512 * D.sector_count device.old }
     requires room { length room.old ≡ 65536 }
     ensures image { OnOk result (Puts (record { cluster = cluster; bytes = filling_bytes filling 0 (65536 * count) } ∷ []) (D.gives device.old) (D.gives device.new)) }
+    ensures torn { OnErr result (PutsTorn (record { cluster = cluster; bytes = filling_bytes filling 0 (65536 * count) }) (D.gives device.old) (D.gives device.new)) }
     ensures moment { OnOk result (D.moment_of device.new ≡ D.moment_of device.old + 2 * count) }
     ensures sectors { D.sector_count device.new ≡ D.sector_count device.old }
     ensures cause { FailsByCause (D.fault_count device.old) (D.fault_count device.new) (D.moment_of device.new) result }
@@ -85,6 +89,7 @@ fn put_filled<D: Device>(
     requires within { 4096 * cluster + bytes ≤ 512 * D.sector_count device.old }
     requires room { length room.old ≡ 65536 }
     ensures image { OnOk result (Puts (record { cluster = cluster; bytes = filling_bytes filling 0 bytes } ∷ []) (D.gives device.old) (D.gives device.new)) }
+    ensures torn { OnErr result (PutsTorn (record { cluster = cluster; bytes = filling_bytes filling 0 bytes }) (D.gives device.old) (D.gives device.new)) }
     ensures moment { OnOk result (D.moment_of device.new ≡ D.moment_of device.old + 2 * ((bytes + 65535) / 65536)) }
     ensures sectors { D.sector_count device.new ≡ D.sector_count device.old }
     ensures cause { FailsByCause (D.fault_count device.old) (D.fault_count device.new) (D.moment_of device.new) result }
@@ -109,6 +114,7 @@ fn put_upper_case<D: Device>(device: &mut D, room: &mut [u8]) -> Result<(), Fail
     requires within { 512 ≤ D.sector_count device.old }
     requires room { length room.old ≡ 65536 }
     ensures image { OnOk result (Puts (record { cluster = upper_case_first; bytes = upper_case_bytes } ∷ []) (D.gives device.old) (D.gives device.new)) }
+    ensures torn { OnErr result (PutsTorn (record { cluster = upper_case_first; bytes = upper_case_bytes }) (D.gives device.old) (D.gives device.new)) }
     ensures moment { OnOk result (D.moment_of device.new ≡ D.moment_of device.old + 2 * piece_calls 32) }
     ensures sectors { D.sector_count device.new ≡ D.sector_count device.old }
     ensures cause { FailsByCause (D.fault_count device.old) (D.fault_count device.new) (D.moment_of device.new) result }
@@ -122,6 +128,7 @@ fn put_log<D: Device>(device: &mut D, v: Layout, room: &mut [u8]) -> Result<(), 
     requires within { 8 * v.clusters ≤ D.sector_count device.old }
     requires room { length room.old ≡ 65536 }
     ensures image { OnOk result (Puts (record { cluster = log_first; bytes = log_bytes v } ∷ []) (D.gives device.old) (D.gives device.new)) }
+    ensures torn { OnErr result (PutsTorn (record { cluster = log_first; bytes = log_bytes v }) (D.gives device.old) (D.gives device.new)) }
     ensures moment { OnOk result (D.moment_of device.new ≡ D.moment_of device.old + 2 * piece_calls v.log_pages) }
     ensures sectors { D.sector_count device.new ≡ D.sector_count device.old }
     ensures cause { FailsByCause (D.fault_count device.old) (D.fault_count device.new) (D.moment_of device.new) result }
@@ -135,6 +142,7 @@ fn put_cluster_bits<D: Device>(device: &mut D, v: Layout, room: &mut [u8]) -> Re
     requires within { 8 * v.clusters ≤ D.sector_count device.old }
     requires room { length room.old ≡ 65536 }
     ensures image { OnOk result (Puts (record { cluster = cluster_bits_first v; bytes = cluster_bits v } ∷ []) (D.gives device.old) (D.gives device.new)) }
+    ensures torn { OnErr result (PutsTorn (record { cluster = cluster_bits_first v; bytes = cluster_bits v }) (D.gives device.old) (D.gives device.new)) }
     ensures moment { OnOk result (D.moment_of device.new ≡ D.moment_of device.old + 2 * piece_calls v.bitmap_clusters) }
     ensures sectors { D.sector_count device.new ≡ D.sector_count device.old }
     ensures cause { FailsByCause (D.fault_count device.old) (D.fault_count device.new) (D.moment_of device.new) result }
@@ -154,6 +162,7 @@ fn put_records<D: Device>(device: &mut D, parts: &Parts) -> Result<(), Failed>
     requires sizes { HaveSizes parts.now }
     requires within { 160 ≤ D.sector_count device.old }
     ensures image { OnOk result (Puts (record { cluster = table_first; bytes = parts.now.table.items } ∷ record { cluster = mirror_first; bytes = parts.now.mirror.items } ∷ record { cluster = record_bits_first; bytes = parts.now.record_bits.items } ∷ []) (D.gives device.old) (D.gives device.new)) }
+    ensures stopped { OnErr result (PutsFront (record { cluster = table_first; bytes = parts.now.table.items } ∷ record { cluster = mirror_first; bytes = parts.now.mirror.items } ∷ record { cluster = record_bits_first; bytes = parts.now.record_bits.items } ∷ []) (D.gives device.old) (D.gives device.new)) }
     ensures moment { OnOk result (D.moment_of device.new ≡ D.moment_of device.old + 6) }
     ensures sectors { D.sector_count device.new ≡ D.sector_count device.old }
     ensures cause { FailsByCause (D.fault_count device.old) (D.fault_count device.new) (D.moment_of device.new) result }
@@ -169,6 +178,7 @@ fn put_long<D: Device>(device: &mut D, v: Layout, room: &mut [u8]) -> Result<(),
     requires within { 8 * v.clusters ≤ D.sector_count device.old }
     requires room { length room.old ≡ 65536 }
     ensures image { OnOk result (Puts (record { cluster = upper_case_first; bytes = upper_case_bytes } ∷ record { cluster = log_first; bytes = log_bytes v } ∷ record { cluster = cluster_bits_first v; bytes = cluster_bits v } ∷ []) (D.gives device.old) (D.gives device.new)) }
+    ensures stopped { OnErr result (PutsFront (record { cluster = upper_case_first; bytes = upper_case_bytes } ∷ record { cluster = log_first; bytes = log_bytes v } ∷ record { cluster = cluster_bits_first v; bytes = cluster_bits v } ∷ []) (D.gives device.old) (D.gives device.new)) }
     ensures moment { OnOk result (D.moment_of device.new ≡ D.moment_of device.old + 2 * (piece_calls 32 + piece_calls v.log_pages + piece_calls v.bitmap_clusters)) }
     ensures sectors { D.sector_count device.new ≡ D.sector_count device.old }
     ensures cause { FailsByCause (D.fault_count device.old) (D.fault_count device.new) (D.moment_of device.new) result }
@@ -178,7 +188,7 @@ fn put_long<D: Device>(device: &mut D, v: Layout, room: &mut [u8]) -> Result<(),
     put_cluster_bits(device, v, room)
 }
 
-// Syncs.
+// Syncs. That this call is a sync is known by this body alone: a device counts its calls alike.
 #[tactic(auto, using(crate::proofs::Calls::went_on))]
 fn finish<D: Device>(device: &mut D) -> Result<(), Failed>
     ensures gives { D.gives device.new ≡ D.gives device.old }
@@ -189,7 +199,8 @@ fn finish<D: Device>(device: &mut D) -> Result<(), Failed>
     device.sync()
 }
 
-/// Writes all regions, the boot sector last, and syncs. The error is a failure of the device.
+/// Writes all regions, the boot sector last, and syncs. The error is a failure of the device; then
+/// some regions stand, in their order, of the next one any sectors may, and nothing else changed.
 pub fn put_image<D: Device>(
     device: &mut D,
     v: Layout,
@@ -201,6 +212,8 @@ pub fn put_image<D: Device>(
     requires sizes { HaveSizes parts.now }
     requires room { length room.old ≡ 65536 }
     ensures image { OnOk result (Puts (regions_of v parts.now) (D.gives device.old) (D.gives device.new)) }
+    ensures stopped { OnErr result (PutsFront (regions_of v parts.now) (D.gives device.old) (D.gives device.new)) }
+    ensures others { KeepsOthers v (D.gives device.old) (D.gives device.new) }
     ensures moment { OnOk result (D.moment_of device.new ≡ D.moment_of device.old + 2 * device_calls v) }
     ensures sectors { D.sector_count device.new ≡ D.sector_count device.old }
     ensures cause { FailsByCause (D.fault_count device.old) (D.fault_count device.new) (D.moment_of device.new) result }

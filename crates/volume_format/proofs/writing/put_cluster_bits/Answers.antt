@@ -2,6 +2,8 @@ use Rattle.std.proofs.Common.{arith, ℕ, subst, [], ◌∷◌}
 use Rattle.std.proofs.lemmas.Result.{on_ok_weaker}
 use Rattle.volume_format.specs.Images.{Puts, cluster_bits}
 use Rattle.volume_format.specs.Fillings.{filling_byte, filling_bytes}
+use Rattle.std.proofs.lemmas.Result.{on_err_weaker}
+use Rattle.volume_format.specs.Stopping.{PutsTorn}
 use Rattle.volume_format.proofs.writing.put_cluster_bits.Goals as goal
 
 pub returns-clause-image : goal.returns-clause-image
@@ -13,3 +15,10 @@ returns-clause-image g c =
 
 pub returns-clause-moment : goal.returns-clause-moment
 returns-clause-moment g c = on_ok_weaker c.put_filled.result (λ e. omega (arith, e)) c.put_filled.ensures.moment
+
+pub returns-clause-torn : goal.returns-clause-torn
+unfolding cluster_bits filling_bytes filling_byte
+returns-clause-torn g c =
+    on_err_weaker c.put_filled.result
+    (λ torn. subst (λ (k : ℕ). PutsTorn (record { cluster = k; bytes = cluster_bits c.args.v }) (g.D.Device.gives c.args.device.now) (g.D.Device.gives c.put_filled.new.device)) c.cluster_bits_first.ensures torn)
+    c.put_filled.ensures.torn

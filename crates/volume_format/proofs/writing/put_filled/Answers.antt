@@ -1,6 +1,8 @@
 use Rattle.std.proofs.Common.{◌*◌, ◌/◌, length, arith}
 use Rattle.std.proofs.lemmas.Result.{on_ok_weaker}
 use Rattle.volume_format.proofs.Pieces.{piece_more}
+use Rattle.std.proofs.lemmas.Result.{on_err_weaker}
+use Rattle.volume_format.proofs.Stopping.{any_err, piece_torn, front_torn}
 use Rattle.volume_format.proofs.writing.put_filled.Goals as goal
 
 pub returns-clause-image : goal.returns-clause-image
@@ -11,3 +13,15 @@ returns-clause-image g c =
 
 pub returns-clause-moment : goal.returns-clause-moment
 returns-clause-moment g c = on_ok_weaker c.put_piece.result (λ e. omega (arith, e, c.in_ok-put_pieces.ensures.moment)) c.put_piece.ensures.moment
+
+pub returns-in_err-put_pieces-clause-torn : goal.returns-in_err-put_pieces-clause-torn
+returns-in_err-put_pieces-clause-torn g c =
+    any_err c.from_residual.result
+    (front_torn c.args.filling c.args.cluster (65536 * (c.args.bytes / 65536)) c.args.bytes _ _ (omega arith) (omega arith) c.in_err-put_pieces.ensures.torn)
+
+pub returns-clause-torn : goal.returns-clause-torn
+returns-clause-torn g c =
+    on_err_weaker c.put_piece.result
+    (λ torn. piece_torn c.args.filling c.args.cluster (65536 * (c.args.bytes / 65536)) (length c.split_at_mut.result.0.now) c.args.bytes _ _ _
+    (omega arith) (omega (arith, c.split_at_mut.ensures.front_len, c.requires.whole)) (omega (arith, c.split_at_mut.ensures.front_len)) c.in_ok-put_pieces.ensures.image torn)
+    c.put_piece.ensures.torn

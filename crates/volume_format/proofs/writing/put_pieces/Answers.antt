@@ -1,5 +1,6 @@
 use Rattle.std.proofs.Common.{◌+◌, ◌*◌, length, refl, ◌∙◌, arith}
 use Rattle.volume_format.proofs.Pieces.{piece_more, no_piece}
+use Rattle.volume_format.proofs.Stopping.{any_err, piece_torn}
 use Rattle.volume_format.proofs.writing.put_pieces.Goals as goal
 
 pub loop-piece-init : goal.loop-piece-init
@@ -14,3 +15,9 @@ loop-piece-preserved g c = record {
   moment = omega (arith, c.loop-piece.invariant.moment, c.in_ok-put_piece.ensures.moment);
   later = omega (arith, c.loop-piece.invariant.later, c.put_piece.ensures.cause.later);
 }
+
+pub returns-in_err-put_piece-clause-torn : goal.returns-in_err-put_piece-clause-torn
+returns-in_err-put_piece-clause-torn g c =
+    any_err c.from_residual.result
+    (piece_torn c.args.filling c.args.cluster (65536 * c.loop-piece.piece) (length c.loop-piece.room) (65536 * c.args.count) _ _ _
+    (omega arith) (omega (arith, c.loop-piece.auto.room, c.requires.room)) (omega (arith, c.loop-piece.auto.room, c.requires.room, c.loop-piece-test.true)) c.loop-piece.invariant.image c.in_err-put_piece.ensures.torn)

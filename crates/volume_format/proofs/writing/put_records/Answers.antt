@@ -1,6 +1,37 @@
 use Rattle.std.proofs.Common.{arith}
 use Rattle.std.proofs.lemmas.Result.{on_ok_weaker}
+use Rattle.std.proofs.lemmas.Result.{on_err_weaker}
+use Rattle.std.proofs.Common.{[], ◌∷◌}
+use Rattle.volume_format.specs.Layouts.{table_first, mirror_first, record_bits_first}
+use Rattle.volume_format.specs.Images.{Region}
+use Rattle.volume_format.proofs.Stopping.{any_err, torn_as, put_as, stops_in, stops_next}
 use Rattle.volume_format.proofs.writing.put_records.Goals as goal
 
 pub returns-clause-moment : goal.returns-clause-moment
 returns-clause-moment g c = on_ok_weaker c.put-3.result (λ e. omega (arith, e, c.in_ok-put.ensures.moment, c.in_ok-put-2.ensures.moment)) c.put-3.ensures.moment
+
+pub returns-in_err-put-clause-stopped : goal.returns-in_err-put-clause-stopped
+returns-in_err-put-clause-stopped g c =
+    let p = c.args.parts.now in
+    let a : Region = record { cluster = table_first; bytes = p.table.items } in
+    let b : Region = record { cluster = mirror_first; bytes = p.mirror.items } in
+    let d : Region = record { cluster = record_bits_first; bytes = p.record_bits.items } in
+    any_err c.from_residual.result (stops_in a (b ∷ d ∷ []) _ _ (torn_as table_first _ p.table.items _ _ c.deref.ensures.value c.in_err-put.ensures.torn))
+
+pub returns-in_err-put-2-clause-stopped : goal.returns-in_err-put-2-clause-stopped
+returns-in_err-put-2-clause-stopped g c =
+    let p = c.args.parts.now in
+    let a : Region = record { cluster = table_first; bytes = p.table.items } in
+    let b : Region = record { cluster = mirror_first; bytes = p.mirror.items } in
+    let d : Region = record { cluster = record_bits_first; bytes = p.record_bits.items } in
+    any_err c.from_residual-in_err-put-2.result (stops_next a (b ∷ d ∷ []) _ _ _ (put_as table_first _ p.table.items _ _ c.deref.ensures.value c.in_ok-put.ensures.image) (stops_in b (d ∷ []) _ _ (torn_as mirror_first _ p.mirror.items _ _ c.deref-2.ensures.value c.in_err-put-2.ensures.torn)))
+
+pub returns-clause-stopped : goal.returns-clause-stopped
+returns-clause-stopped g c =
+    let p = c.args.parts.now in
+    let a : Region = record { cluster = table_first; bytes = p.table.items } in
+    let b : Region = record { cluster = mirror_first; bytes = p.mirror.items } in
+    let d : Region = record { cluster = record_bits_first; bytes = p.record_bits.items } in
+    on_err_weaker c.put-3.result
+    (λ torn. stops_next a (b ∷ d ∷ []) _ _ _ (put_as table_first _ p.table.items _ _ c.deref.ensures.value c.in_ok-put.ensures.image) (stops_next b (d ∷ []) _ _ _ (put_as mirror_first _ p.mirror.items _ _ c.deref-2.ensures.value c.in_ok-put-2.ensures.image) (stops_in d [] _ _ (torn_as record_bits_first _ p.record_bits.items _ _ c.deref-3.ensures.value torn))))
+    c.put-3.ensures.torn

@@ -4,6 +4,8 @@ use Rattle.upcase_order.specs.Tables.{standard_table}
 use Rattle.volume_format.specs.Layouts.{upper_case_first}
 use Rattle.volume_format.specs.Images.{Puts, upper_case_bytes}
 use Rattle.volume_format.proofs.Pieces.{upper_filled}
+use Rattle.std.proofs.lemmas.Result.{on_err_weaker}
+use Rattle.volume_format.specs.Stopping.{PutsTorn}
 use Rattle.volume_format.proofs.writing.put_upper_case.Goals as goal
 
 pub returns-clause-image : goal.returns-clause-image
@@ -15,3 +17,10 @@ returns-clause-image g c =
 
 pub returns-clause-moment : goal.returns-clause-moment
 returns-clause-moment g c = on_ok_weaker c.put_filled.result (λ e. omega (arith, e)) c.put_filled.ensures.moment
+
+pub returns-clause-torn : goal.returns-clause-torn
+unfolding upper_case_bytes standard_table
+returns-clause-torn g c =
+    on_err_weaker c.put_filled.result
+    (λ torn. subst (λ (bytes : List ℕ). PutsTorn (record { cluster = upper_case_first; bytes = bytes }) (g.D.Device.gives c.args.device.now) (g.D.Device.gives c.put_filled.new.device)) (sym (upper_filled 65536 131072 (omega arith) (omega arith))) torn)
+    c.put_filled.ensures.torn
