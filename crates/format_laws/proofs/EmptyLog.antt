@@ -27,7 +27,7 @@ use Rattle.log_page.proofs.PlacesFit.{has_digits}
 use Rattle.log_reading.specs.declared.fault.RecoveryFault.{RecoveryFault}
 use Rattle.log_reading.specs.declared.fault.RecoveryFault.TheVariants.{ForeignLog}
 use Rattle.log_reading.specs.declared.front.Front.{Front}
-use Rattle.log_reading.specs.LogPages.{sector_in, sector_below, log_sector, sector_bytes, page_in}
+use Rattle.log_reading.specs.LogPages.{sector_in, sector_below, log_sector, log_bytes, page_in}
 use Rattle.log_reading.specs.Fronts.{next_restart, front_in}
 use Rattle.log_recovery.specs.LogStates.{LogState, entries_in, whole_entries, has_lap, lap_by, lap_in, recovery_in}
 use Rattle.format_files.proofs.Loading.{passes, goes_on}
@@ -180,12 +180,12 @@ raw_is at s (suc n) each =
     ∙ filler_joined 512 (512 * n)
     ∙ ap filler size
 
-pub page_is : (c : Content) (place : LogPlace) → ((s : ℕ) → s < 8 * place.pages → sector_bytes c (log_sector place s) ≡ filler 512) → (i : ℕ) → i < place.pages → page_in c place i ≡ filler 4096
+pub page_is : (c : Content) (place : LogPlace) → ((s : ℕ) → s < 8 * place.pages → log_bytes c place s ≡ filler 512) → (i : ℕ) → i < place.pages → page_in c place i ≡ filler 4096
 unfolding page_in
-page_is c place each i inside = raw_is (λ (s : ℕ). sector_bytes c (log_sector place s)) (8 * i) 8 (λ j low high. each j (omega arith))
+page_is c place each i inside = raw_is (log_bytes c place) (8 * i) 8 (λ j low high. each j (omega arith))
 
-pub sector_is : (place : LogPlace) (s at : ℕ) → s < place.initialised → at < place.device → sector_in place.runs s ≡ Some at → log_sector place s ≡ Some at
+pub sector_is : (place : LogPlace) (s at : ℕ) → 512 * s < place.initialised → at < place.device → sector_in place.runs s ≡ Some at → log_sector place s ≡ Some at
 sector_is place s at known inside is =
-    ap (λ (b : Bool). cond b (sector_below place.device (sector_in place.runs s)) None) (lt-ltb s place.initialised known)
+    ap (λ (b : Bool). cond b (sector_below place.device (sector_in place.runs s)) None) (lt-ltb (512 * s) place.initialised known)
     ∙ ap (sector_below place.device) is
     ∙ ap (λ (b : Bool). cond b (Some at) None) (lt-ltb at place.device inside)

@@ -5,7 +5,8 @@ use Rattle.disk_model.specs.declared.block.BlockKind.TheVariants.{Plain}
 use Rattle.disk_model.specs.Content.{Content}
 use Rattle.state_model.specs.declared.stream.Stream.TheVariants.{Placed}
 use Rattle.log_page.specs.declared.places.LogPlace.{LogPlace}
-use Rattle.log_reading.specs.LogPages.{sector_in, log_sector, sector_bytes}
+use Rattle.log_reading.specs.LogPages.{sector_in, log_sector, sector_bytes, log_bytes}
+use Rattle.log_reading.proofs.Bytes.{all_initialised}
 use Rattle.log_recovery.specs.LogStates.{recovery_in}
 use Rattle.image_scan.specs.LogPlaces.{nowhere, gap_before, rest_of, stream_place}
 use Rattle.format_blocks.specs.Blocks.{block}
@@ -33,11 +34,18 @@ module _ (clusters device pages : ℕ) (room : 416 + 8 * pages ≤ device) (some
   unfolding new_place stream_place
   place_sector s inside = sector_is (new_place clusters device pages) s (416 + s) (omega arith) (omega arith) (run_sector s inside)
 
+  -- each sector of the pages is initialised to its end
+  initialised_past : (s : ℕ) → s < 8 * pages → 512 ≤ (new_place clusters device pages).initialised - 512 * s
+  unfolding new_place stream_place
+  initialised_past s inside = omega arith
+
   pub new_recovery : (c : Content) → ((s : ℕ) → s < 8 * pages → (c (block (416 + s) Plain)).bytes ≡ filler 512) → recovery_in c (new_place clusters device pages) ≡ Ok empty_state
   new_recovery c filled =
       let place = new_place clusters device pages in
       let count = pages_are clusters device pages in
-      let sectors : (s : ℕ) → s < 8 * place.pages → sector_bytes c (log_sector place s) ≡ filler 512 = λ s inside.
+      let sectors : (s : ℕ) → s < 8 * place.pages → log_bytes c place s ≡ filler 512 = λ s inside.
       let below : s < 8 * pages = omega (arith, inside, count) in
-      ap (sector_bytes c) (place_sector s below) ∙ filled s below in
+      ap (sector_bytes c (place.initialised - 512 * s)) (place_sector s below)
+      ∙ all_initialised (place.initialised - 512 * s) (c (block (416 + s) Plain)).bytes (initialised_past s below)
+      ∙ filled s below in
       recovery_here c place 4096 (omega arith) (omega arith) (omega (arith, count)) (omega (arith, count)) (page_is c place sectors)

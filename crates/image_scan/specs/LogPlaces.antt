@@ -34,14 +34,14 @@ abbrev pub sectors_from : ℕ → ℕ → List Run → List Extent
 sectors_from per v [] = []
 sectors_from per v (r ∷ runs) = gap_before per v r ∷ rest_of per v r ∷ sectors_from per (after v r) runs
 
--- a log of so many pages, with these sectors, of which so many are initialised
+-- a log of so many pages, with these sectors, so many of whose bytes are initialised
 abbrev pub log_of : ℕ → ℕ → ℕ → ℕ → List Extent → LogPlace
 log_of clusters device pages initialised runs =
-    record { runs = runs; initialised = min initialised (8 * pages); pages = pages; clusters = clusters; device = min nowhere device }
+    record { runs = runs; initialised = min initialised (page_bytes * pages); pages = pages; clusters = clusters; device = min nowhere device }
 
 unfoldable pub stream_place : ℕ → ℕ → ℕ → Stream → LogPlace
 stream_place per clusters device (Held value) = log_of clusters device (length value / page_bytes) 0 []
-stream_place per clusters device (Placed e) = log_of clusters device (e.real / page_bytes) (e.initialised / 512) (sectors_from per 0 e.runs)
+stream_place per clusters device (Placed e) = log_of clusters device (e.real / page_bytes) e.initialised (sectors_from per 0 e.runs)
 
 -- the place of the log with this stream, of a volume of so many clusters on a device of so many sectors; without a stream it has no page
 abbrev pub place_of : ℕ → ℕ → ℕ → Option Stream → LogPlace

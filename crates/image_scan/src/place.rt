@@ -87,7 +87,7 @@ fn sectors_of(alloc: Global, per: u64, runs: &[Run]) -> Result<Vec<Extent>, Allo
     Ok(sectors)
 }
 
-// A log with these sectors, of which so many are initialised.
+// A log with these sectors, so many of whose bytes are initialised.
 fn log_of(
     clusters: u64,
     device: u64,
@@ -102,7 +102,7 @@ fn log_of(
 {
     LogPlace {
         runs: Extents::from(sectors),
-        initialised: initialised.min(8 * pages),
+        initialised: initialised.min(4096 * pages),
         pages,
         clusters,
         device: device.min(NOWHERE),
@@ -130,8 +130,7 @@ fn stream_place(
         Stream::Placed(extents) => {
             let sectors = sectors_of(alloc, per, extents.runs.as_slice())?;
             let pages = extents.real / 4096;
-            let initialised = extents.initialised / 512;
-            Ok(log_of(clusters, device, pages, initialised, sectors))
+            Ok(log_of(clusters, device, pages, extents.initialised, sectors))
         }
     }
 }

@@ -49,7 +49,7 @@ impl Extents {
 pub struct LogPlace {
     /// The sectors of its pages, in the order of the log.
     pub runs: Extents,
-    /// How many sectors at its front are initialised; those after them are zeros.
+    /// How many bytes at its front are initialised; those after them are zeros.
     pub initialised: u64,
     /// Its pages of 4,096 bytes.
     pub pages: u64,

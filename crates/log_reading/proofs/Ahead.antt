@@ -57,19 +57,19 @@ if_none true o e = e
 if_none false o e = refl
 
 none_at : (place : LogPlace) (n : ℕ) (o : Option ℕ) → sector_in place.runs n ≡ o → sector_below place.device o ≡ None → log_sector place n ≡ None
-none_at place n o is none = if_none (nat_lt n place.initialised) (sector_below place.device (sector_in place.runs n)) (ap (sector_below place.device) is ∙ none)
+none_at place n o is none = if_none (nat_lt (512 * n) place.initialised) (sector_below place.device (sector_in place.runs n)) (ap (sector_below place.device) is ∙ none)
 
 -- from a page on that isn't read none is
 unread : (place : LogPlace) (from : ℕ) → is_read place from ≡ false → NoneBetween place from place.pages
-unread place from not_read n le lt = by_cases (nat_lt (8 * n) place.initialised) refl
+unread place from not_read n le lt = by_cases (nat_lt (512 * (8 * n)) place.initialised) refl
   where
     clash : true ≡ false → ⊥
     clash x = cc
 
-    by_cases : (b : Bool) → nat_lt (8 * n) place.initialised ≡ b → log_sector place (8 * n) ≡ None
+    by_cases : (b : Bool) → nat_lt (512 * (8 * n)) place.initialised ≡ b → log_sector place (8 * n) ≡ None
     by_cases true is =
-        let small = ltb-true (8 * n) place.initialised is in
-        absurd (clash (sym (and_from (nat_lt from place.pages) (nat_lt (8 * from) place.initialised) (lt-ltb from place.pages (omega arith)) (lt-ltb (8 * from) place.initialised (omega arith))) ∙ not_read))
+        let small = ltb-true (512 * (8 * n)) place.initialised is in
+        absurd (clash (sym (and_from (nat_lt from place.pages) (nat_lt (4096 * from) place.initialised) (lt-ltb from place.pages (omega arith)) (lt-ltb (4096 * from) place.initialised (omega arith))) ∙ not_read))
     by_cases false is = ap (λ (b : Bool). if b then sector_below place.device (sector_in place.runs (8 * n)) else None) is
 
 -- ---- the walk
@@ -121,7 +121,8 @@ run_passed place from index d run old new lt is none next so_far = record {
 pub page_found : (place : LogPlace) (from index : ℕ) (d run : Extent) (sought : Sought) (s : ℕ) → index < length place.runs → run ≡ get_or place.runs index d → is_read place sought.page ≡ true → sector_below place.device (sector_in (run ∷ []) sought.ahead) ≡ Some s
     → IsSought place from index sought → IsNext place from (record { page = sought.page; sector = s })
 page_found place from index d run sought s lt is read some so_far =
-    let parts = and_parts (nat_lt sought.page place.pages) (nat_lt (8 * sought.page) place.initialised) read in
+    let parts = and_parts (nat_lt sought.page place.pages) (nat_lt (4096 * sought.page) place.initialised) read in
+    let known : 512 * (8 * sought.page) ≡ 4096 * sought.page = omega arith in
     let here : 8 * sought.page ≡ 8 * (sought.page + 0) = omega arith in
     let ahead : 8 * 0 + sought.ahead ≡ sought.ahead = omega arith in
     let tail = drop (index + 1) place.runs in
@@ -130,7 +131,7 @@ page_found place from index d run sought s lt is read some so_far =
     record {
       later = so_far.later;
       inside = ltb-true sought.page place.pages parts.0;
-      sector = ap (λ (b : Bool). if b then sector_below place.device (sector_in place.runs (8 * sought.page)) else None) parts.1 ∙ ap (sector_below place.device) lies ∙ in_first place.device run tail sought.ahead s some;
+      sector = ap (λ (b : Bool). if b then sector_below place.device (sector_in place.runs (8 * sought.page)) else None) (ap (λ (at : ℕ). nat_lt at place.initialised) known ∙ parts.1) ∙ ap (sector_below place.device) lies ∙ in_first place.device run tail sought.ahead s some;
       between = so_far.between;
     }
 

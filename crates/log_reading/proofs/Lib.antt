@@ -1,4 +1,5 @@
 pub mod Ahead
+pub mod Bytes
 pub mod Said
 pub mod Paging
 pub mod Walks

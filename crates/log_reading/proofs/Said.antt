@@ -5,17 +5,20 @@ use Rattle.std.specs.List.{range_with_len, starts_with, fold}
 use Rattle.std.specs.Cmp.Lexicographic.{pointwise}
 use Rattle.std.specs.Option.{option_map}
 use Rattle.std.proofs.lemmas.List.{take-append-le, length-replicate}
+use Rattle.disk_model.specs.declared.block.Block.{Block}
 use Rattle.disk_model.specs.declared.block.BlockKind.TheVariants.{Plain}
+use Rattle.disk_model.specs.Bytes.{zeros}
 use Rattle.disk_model.specs.Numbers.{field}
 use Rattle.disk_model.specs.Sectors.{raw_from, zero_sector}
 use Rattle.disk_model.specs.Content.{Content, HasSizes}
 use Rattle.disk_model.proofs.Fields.{field-append}
+use Rattle.disk_model.proofs.Frames.{length-written}
 use Rattle.log_page.specs.declared.places.LogPlace.{LogPlace}
 use Rattle.log_page.specs.declared.restart.Restart.{Restart}
 use Rattle.log_page.specs.RecordPages.{record_signature}
 use Rattle.log_page.specs.LiveLogs.{said_lsn, greater, greatest_lsn}
 use Rattle.log_reading.specs.declared.laps.PageStart.{PageStart}
-use Rattle.log_reading.specs.LogPages.{log_sector, sector_bytes, page_in}
+use Rattle.log_reading.specs.LogPages.{log_sector, initialised_bytes, sector_bytes, log_bytes, page_in}
 use Rattle.log_reading.specs.Laps.{NoneBetween, IsNext}
 
 -- ---- the rest of the pages
@@ -65,16 +68,18 @@ said-append front rest le =
     ap (λ (b : Bool). if b then Some (field 0x08 8 (front ++ rest)) else None) begins
     ∙ ap (λ (n : ℕ). if starts_with nat_eq front record_signature then Some n else None) (field-append 8 8 front rest le)
 
-sector_size : (c : Content) (o : Option ℕ) → HasSizes c → length (sector_bytes c o) ≡ 512
-unfolding zero_sector
-sector_size c None sized = length-replicate {A = ℕ} 512 0
-sector_size c (Some s) sized = sized (record { first = s; kind = Plain })
+sector_size : (c : Content) (valid : ℕ) (o : Option ℕ) → HasSizes c → length (sector_bytes c valid o) ≡ 512
+unfolding zero_sector initialised_bytes
+sector_size c valid None sized = length-replicate {A = ℕ} 512 0
+sector_size c valid (Some s) sized =
+    let b : Block = record { first = s; kind = Plain } in
+    length-written valid (zeros (512 - valid)) (c b).bytes ∙ sized b
 
-said_in : (c : Content) (place : LogPlace) (n : ℕ) → HasSizes c → said_lsn (page_in c place n) ≡ said_lsn (sector_bytes c (log_sector place (8 * n)))
+said_in : (c : Content) (place : LogPlace) (n : ℕ) → HasSizes c → said_lsn (page_in c place n) ≡ said_lsn (log_bytes c place (8 * n))
 unfolding page_in raw_from
 said_in c place n sized =
-    let size = sector_size c (log_sector place (8 * n)) sized in
-    said-append (sector_bytes c (log_sector place (8 * n))) (raw_from (λ s. sector_bytes c (log_sector place s)) (8 * n + 1) 7) (omega arith)
+    let size = sector_size c (place.initialised - 512 * (8 * n)) (log_sector place (8 * n)) sized in
+    said-append (log_bytes c place (8 * n)) (raw_from (log_bytes c place) (8 * n + 1) 7) (omega arith)
 
 zeros_silent : said_lsn zero_sector ≡ None
 unfolding zero_sector
@@ -82,7 +87,7 @@ zeros_silent = refl
 
 -- one that begins nowhere on the device
 none_said : (c : Content) (place : LogPlace) (n : ℕ) → HasSizes c → log_sector place (8 * n) ≡ None → said_lsn (page_in c place n) ≡ None
-none_said c place n sized none = said_in c place n sized ∙ ap (λ (o : Option ℕ). said_lsn (sector_bytes c o)) none ∙ zeros_silent
+none_said c place n sized none = said_in c place n sized ∙ ap (λ (o : Option ℕ). said_lsn (sector_bytes c (place.initialised - 512 * (8 * n)) o)) none ∙ zeros_silent
 
 -- ---- over a content that may be known
 
@@ -96,11 +101,13 @@ all_left None place chosen lsn e = tt
 all_left (Some c) place chosen lsn e = ap (λ (o : Option ℕ). left_of place 4 o c) e
 
 -- one more page was read
-pub next_said : (known : Option Content) (place : LogPlace) (chosen : Option Restart) (page : ℕ) (next : PageStart) (old said new : Option ℕ) → IfSome known HasSizes → IsNext place page next → new ≡ greater old said → IfSome known (λ c. said ≡ said_lsn (sector_bytes c (Some next.sector)))
+pub next_said : (known : Option Content) (place : LogPlace) (chosen : Option Restart) (page : ℕ) (next : PageStart) (old said new : Option ℕ) → IfSome known HasSizes → IsNext place page next → new ≡ greater old said → IfSome known (λ c. said ≡ said_lsn (sector_bytes c (place.initialised - 4096 * next.page) (Some next.sector)))
     → IfSome known (λ c. left_of place page old c ≡ greatest_lsn place.pages (page_in c place) chosen) → IfSome known (λ c. left_of place (next.page + 1) new c ≡ greatest_lsn place.pages (page_in c place) chosen)
 next_said None place chosen page next old said new sized found is read left = tt
 next_said (Some c) place chosen page next old said new sized found is read left =
-    let page_said : said_lsn (page_in c place next.page) ≡ said = said_in c place next.page sized ∙ ap (λ (o : Option ℕ). said_lsn (sector_bytes c o)) found.sector ∙ sym read in
+    let valid : place.initialised - 512 * (8 * next.page) ≡ place.initialised - 4096 * next.page = omega arith in
+    let page_said : said_lsn (page_in c place next.page) ≡ said =
+    said_in c place next.page sized ∙ ap (λ (o : Option ℕ). said_lsn (sector_bytes c (place.initialised - 512 * (8 * next.page)) o)) found.sector ∙ ap (λ (n : ℕ). said_lsn (sector_bytes c n (Some next.sector))) valid ∙ sym read in
     let step = next_one place.pages (λ n. said_lsn (page_in c place n)) page next.page old found.later found.inside (λ n le lt. none_said c place n sized (found.between n le lt)) in
     ap (λ (lsn : Option ℕ). left_of place (next.page + 1) lsn c) (is ∙ ap (greater old) (sym page_said)) ∙ sym step ∙ left
 

@@ -5,9 +5,9 @@ use Rattle.log_reading.specs.declared.laps.PageStart.{PageStart}
 use Rattle.log_reading.specs.declared.laps.Sought.{Sought}
 use Rattle.log_reading.specs.LogPages.{log_sector}
 
--- the page is one of the log's, and its first sector is initialised
+-- the page is one of the log's, and begins below the initialised size
 abbrev pub is_read : LogPlace → ℕ → Bool
-is_read place n = nat_lt n place.pages && nat_lt (8 * n) place.initialised
+is_read place n = nat_lt n place.pages && nat_lt (4096 * n) place.initialised
 
 -- of the pages from one up to another none begins on the device
 abbrev pub NoneBetween : LogPlace → ℕ → ℕ → Type 0

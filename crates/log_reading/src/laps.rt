@@ -9,8 +9,9 @@ ghost use Rattle.log_reading.specs.LogPages.{sector_in, sector_below, sector_byt
 ghost use Rattle.log_reading.specs.Laps.{is_read, NoneBetween, IsNext, IsBehind};
 
 use crate::fault::RecoveryFault;
+use crate::pages::read_sector;
 use block_view::View;
-use disk_model::{Block, BlockKind, Body, u64_at};
+use disk_model::{Body, u64_at};
 use log_page::{Extent, LogPlace, Restart};
 
 /// A page that begins on the device, and the sector where it begins.
@@ -58,12 +59,12 @@ fn after(sought: Sought, sectors: u64) -> Sought
     }
 }
 
-// Whether a page is one of the log's, and its first sector is initialised.
+// Whether a page is one of the log's, and begins below the initialised size.
 fn is_read(place: &LogPlace, page: u64) -> bool
     requires { IsLogPlace place.now }
     ensures value { result ≡ is_read place.now page }
 {
-    page < place.pages && 8 * page < place.initialised
+    page < place.pages && 4096 * page < place.initialised
 }
 
 // The next page from this one on that begins on the device. Linear in the runs.
@@ -99,15 +100,19 @@ fn said_by(sector: &[u8]) -> Option<u64>
     }
 }
 
-// The LSN that a page says that begins at this sector.
-fn said_at<V: View>(view: &mut V, first: u64, body: &mut Body) -> Result<Option<u64>, RecoveryFault>
-    ensures value { IfSome (V.content view.old) (λ c. IfOk result (λ lsn. lsn ≡ said_lsn (sector_bytes c (Some first)))) }
+// The LSN that a page says that begins at this sector, of which so many bytes are initialised.
+fn said_at<V: View>(
+    view: &mut V,
+    first: u64,
+    valid: u64,
+    body: &mut Body,
+) -> Result<Option<u64>, RecoveryFault>
+    ensures value { IfSome (V.content view.old) (λ c. IfOk result (λ lsn. lsn ≡ said_lsn (sector_bytes c valid (Some first)))) }
     ensures never { IfErr result NeverForeign }
     ensures kept { KeepsView V.content V.kept V.faults view.old view.new }
     ensures fault { IsErrOf result RecoveryFault.Fault → Rose (V.faults view.old) (V.faults view.new) }
 {
-    let kind = BlockKind::Plain;
-    view.body(Block { first, kind }, body)?;
+    read_sector(view, first, valid, body)?;
     Ok(said_by(body.bytes()))
 }
 
@@ -151,7 +156,8 @@ pub fn greatest_lsn<V: View>(
     let mut greatest = current_of(chosen);
     let mut page = 4;
     while let Some(next) = next_page(place, page) {
-        let said = said_at(view, next.sector, body)?;
+        let valid = place.initialised - 4096 * next.page;
+        let said = said_at(view, next.sector, valid, body)?;
         greatest = greater(greatest, said);
         page = next.page + 1;
     }

@@ -30,7 +30,7 @@ fn log(alloc: Global, front: Extent, rest: Extent, pages: u64) -> Result<LogPlac
     let runs = Vec::from_slice(alloc, &[front, rest])?;
     Ok(LogPlace {
         runs: Extents::from(runs),
-        initialised: 8 * pages,
+        initialised: 4096 * pages,
         pages,
         clusters: 1000,
         device: u64::from(DEVICE),
@@ -113,15 +113,17 @@ fn the_greatest_of_all_pages(rt: HostRuntime) -> Result<(), Fail> {
 }
 
 #[test]
-fn only_initialised_sectors_are_read(rt: HostRuntime) -> Result<(), Fail> {
+fn only_initialised_bytes_are_read(rt: HostRuntime) -> Result<(), Fail> {
     let alloc = rt.alloc();
     let mut place = log(alloc, run(100, 0), run(300, 72), 9)?;
-    let sectors = [(340, 20), (348, 30), (356, 40)];
-    assert_eq!(rt; greatest(alloc, &place, &sectors, None)?, Some(40));
-    place.initialised = 49;
-    assert_eq!(rt; greatest(alloc, &place, &sectors, None)?, Some(30));
-    place.initialised = 48;
-    assert_eq!(rt; greatest(alloc, &place, &sectors, None)?, Some(20));
+    let sectors = [(340, 0x20), (348, 0x130), (356, 0x200)];
+    assert_eq!(rt; greatest(alloc, &place, &sectors, None)?, Some(0x200));
+    place.initialised = 4096 * 6 + 16;
+    assert_eq!(rt; greatest(alloc, &place, &sectors, None)?, Some(0x130));
+    place.initialised = 4096 * 6 + 9;
+    assert_eq!(rt; greatest(alloc, &place, &sectors, None)?, Some(0x30));
+    place.initialised = 4096 * 6 + 3;
+    assert_eq!(rt; greatest(alloc, &place, &sectors, None)?, Some(0x20));
     Ok(())
 }
 

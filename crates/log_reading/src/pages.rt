@@ -4,7 +4,7 @@ ghost use Rattle.host_base.specs.Causes.{Rose};
 ghost use Rattle.disk_model.specs.Sectors.{zero_sector};
 ghost use Rattle.block_view.specs.Views.{KeepsView};
 ghost use Rattle.log_reading.specs.Views.{NeverForeign};
-ghost use Rattle.log_reading.specs.LogPages.{sector_in, log_sector, sector_bytes, page_in, IsSmall, IsLogPlace};
+ghost use Rattle.log_reading.specs.LogPages.{sector_in, log_sector, initialised_bytes, sector_bytes, log_bytes, page_in, IsSmall, IsLogPlace};
 
 use crate::fault::RecoveryFault;
 use block_view::View;
@@ -27,12 +27,14 @@ fn sector_in(runs: &[Extent], n: u64) -> Option<u64>
     None
 }
 
-// Where the log's sector with this number lies on the device, if it is initialised and lies there.
+// Where the log's sector with this number lies on the device, if it begins below the initialised size
+// and lies there.
 fn log_sector(place: &LogPlace, n: u64) -> Option<u64>
-    requires { IsLogPlace place.now }
+    requires place { IsLogPlace place.now }
+    requires small { n < 2 ^ 55 }
     ensures { result ≡ log_sector place.now n }
 {
-    if n < place.initialised {
+    if 512 * n < place.initialised {
         sector_in(place.runs.as_slice(), n).filter(|sector| *sector < place.device)
     } else {
         None
@@ -55,6 +57,38 @@ fn append_zeros(page: &mut Vec<u8>) -> Result<(), AllocError>
     append(page, &[0; 512])
 }
 
+// Puts zeros over the bytes of a sector of which so many are initialised, but for these.
+#[tactic(auto, unfolding(crate::specs::LogPages::initialised_bytes))]
+fn clear_rest(body: &mut Body, valid: u64)
+    requires { length body.old.bytes ≡ 512 }
+    ensures value { body.new.bytes ≡ initialised_bytes valid body.old.bytes }
+    ensures size { length body.new.bytes ≡ 512 }
+{
+    if valid < 512 {
+        let at = valid as usize;
+        body.put(at, &[0; 512][at..]);
+    }
+}
+
+// Reads a sector of the device of which so many bytes are initialised, in place of what `body` held.
+pub(crate) fn read_sector<V: View>(
+    view: &mut V,
+    first: u64,
+    valid: u64,
+    body: &mut Body,
+) -> Result<(), RecoveryFault>
+    ensures value { IfSome (V.content view.old) (λ c. OnOk result (body.new.bytes ≡ sector_bytes c valid (Some first))) }
+    ensures size { OnOk result (length body.new.bytes ≡ 512) }
+    ensures never { IfErr result NeverForeign }
+    ensures kept { KeepsView V.content V.kept V.faults view.old view.new }
+    ensures fault { IsErrOf result RecoveryFault.Fault → Rose (V.faults view.old) (V.faults view.new) }
+{
+    let kind = BlockKind::Plain;
+    view.body(Block { first, kind }, body)?;
+    clear_rest(body, valid);
+    Ok(())
+}
+
 // Appends the bytes of the sector of the log with this number; `body` is room for a body.
 fn append_sector<V: View>(
     view: &mut V,
@@ -64,7 +98,8 @@ fn append_sector<V: View>(
     page: &mut Vec<u8>,
 ) -> Result<(), RecoveryFault>
     requires place { IsLogPlace place.now }
-    ensures value { IfSome (V.content view.old) (λ c. OnOk result (page.new.items ≡ page.old.items ++ sector_bytes c (log_sector place.now n))) }
+    requires small { n < 2 ^ 55 }
+    ensures value { IfSome (V.content view.old) (λ c. OnOk result (page.new.items ≡ page.old.items ++ log_bytes c place.now n)) }
     ensures size { OnOk result (length page.new.items ≡ length page.old.items + 512) }
     ensures never { IfErr result NeverForeign }
     ensures kept { KeepsView V.content V.kept V.faults view.old view.new }
@@ -72,8 +107,7 @@ fn append_sector<V: View>(
 {
     match log_sector(place, n) {
         Some(first) => {
-            let kind = BlockKind::Plain;
-            view.body(Block { first, kind }, body)?;
+            read_sector(view, first, place.initialised.saturating_sub(512 * n), body)?;
             append(page, body.bytes())?;
         }
         None => append_zeros(page)?,

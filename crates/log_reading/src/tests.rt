@@ -99,7 +99,7 @@ fn place(alloc: Global) -> Result<LogPlace, AllocError>
     let runs = Vec::from_slice(alloc, &[run(1000, 32), run(2000, 12), run(3000, 20)])?;
     Ok(LogPlace {
         runs: runs.into(),
-        initialised: 64,
+        initialised: 512 * 64,
         pages: 8,
         clusters: 4096,
         device: 4096,
@@ -199,12 +199,18 @@ fn a_page_is_read_from_its_sectors(rt: HostRuntime) -> Result<(), Fail> {
         (page[0], page[510], page[2046], page[4094]),
         (b'R', 4, 4, 4)
     );
-    place.initialised = 44;
+    place.initialised = 512 * 44;
     read_page(&mut view, &place, 5, &mut body, &mut page)?;
     assert_eq!(rt;
         (page[510], page[2046], page[2558], page[4094]),
         (4, 4, 0, 0)
     );
+    place.initialised = 512 * 44 + 511;
+    read_page(&mut view, &place, 5, &mut body, &mut page)?;
+    assert_eq!(rt; (page[2558], page[2559], page[3070]), (4, 0, 0));
+    place.initialised = 512 * 44 + 510;
+    read_page(&mut view, &place, 5, &mut body, &mut page)?;
+    assert_eq!(rt; (page[510], page[2558]), (4, 0));
     place.device = 2009;
     read_page(&mut view, &place, 5, &mut body, &mut page)?;
     assert_eq!(rt; (page[510], page[1022], page[4094]), (4, 0, 0));
@@ -241,10 +247,14 @@ fn a_torn_page_ends_the_live_log(rt: HostRuntime) -> Result<(), Fail> {
     let mut place = place(alloc)?;
     let fault = live_log(alloc, &mut view, &place, FIRST).err();
     assert_eq!(rt; fault, Some(RecoveryFault::Fault));
-    place.initialised = 47;
+    // The check word is below 256, so that the last byte of a page is zero whether initialised or not.
+    place.initialised = 512 * 48 - 1;
+    let live = live_log(alloc, &mut view, &place, FIRST)?;
+    assert_eq!(rt; live.entries.len(), 4);
+    place.initialised = 512 * 48 - 2;
     let live = live_log(alloc, &mut view, &place, FIRST)?;
     assert_eq!(rt; live.entries.len(), 2);
-    place.initialised = 39;
+    place.initialised = 512 * 40 - 2;
     let live = live_log(alloc, &mut view, &place, FIRST)?;
     assert_eq!(rt; live.entries.len(), 0);
     Ok(())

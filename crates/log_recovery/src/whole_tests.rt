@@ -35,7 +35,7 @@ fn place(alloc: Global) -> Result<LogPlace, AllocError>
     ]?;
     Ok(LogPlace {
         runs: Extents::from(runs),
-        initialised: 48,
+        initialised: 512 * 48,
         pages: 6,
         clusters: 64,
         device: 512,

@@ -119,7 +119,7 @@ fn place(alloc: Global) -> Result<LogPlace, AllocError>
     let sectors = 8 * 513;
     Ok(LogPlace {
         runs: Extents::from(vec![in alloc; Extent { first, sectors }]?),
-        initialised: sectors,
+        initialised: 512 * sectors,
         pages: 513,
         clusters: 2047,
         device: DEVICE as u64,
