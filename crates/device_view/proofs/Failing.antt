@@ -1,5 +1,5 @@
 -- The failures of a device as one count.
-use Rattle.std.proofs.Common.{◌≡◌, ℕ, ◌-◌, ◌^◌, ◌<◌, ◌≤◌, max, Ok, Err, refl, inl, inr, arith}
+use Rattle.std.proofs.Common.{◌≡◌, ℕ, ◌-◌, ◌^◌, ◌<◌, ◌≤◌, max, Ok, Err, refl, sym, ◌∙◌, inl, inr, arith}
 use Rattle.std.proofs.lemmas.Bool.{cases_lt, le-leb, lt-leb}
 use Rattle.host_base.specs.Causes.{Rose, HasCause, HasFailed, FailsByCause}
 use Rattle.device_view.specs.Devices.{failures}
@@ -47,11 +47,23 @@ has_failed before now moment_before moment_now more =
       | inr le ↦ inr le
     ]
 
--- a call that went well
-pub went_well : {T E : Type 0} (before now moment_before moment_now : ℕ) (x : T) → before ≤ now → moment_before ≤ moment_now → HasCause {E = E} (failures before moment_before) (failures now moment_now) (Ok x)
-went_well before now moment_before moment_now x faults moments = record {
+-- a call that went well, before the last moment
+pub went_well : {T E : Type 0} (before now moment_before moment_now : ℕ) (x : T) → now ≡ before → moment_before ≤ moment_now → moment_now < 2 ^ 62 → HasCause {E = E} (failures before moment_before) (failures now moment_now) (Ok x)
+went_well before now moment_before moment_now x same moments lt =
+    let e = failures-before before moment_before (omega arith) in
+    let f = failures-before now moment_now lt in
+    record {
+      later = omega (arith, e, f);
+      failed = tt;
+      unfailed = f ∙ same ∙ sym e;
+    }
+
+-- one after which the last moment had come
+pub ended : {T E : Type 0} (before now moment_before moment_now : ℕ) (e : E) → before ≤ now → moment_before ≤ moment_now → 2 ^ 62 ≤ moment_now → HasCause {T = T} (failures before moment_before) (failures now moment_now) (Err e)
+ended before now moment_before moment_now e faults moments le = record {
   later = failures_later before now moment_before moment_now faults moments;
-  failed = tt;
+  failed = rose before now moment_before moment_now faults moments (inr le);
+  unfailed = tt;
 }
 
 -- a call that failed since the device did
@@ -59,4 +71,5 @@ pub failed : {T E T' E' : Type 0} (before now moment_before moment_now : ℕ) (e
 failed before now moment_before moment_now e e' moments cause = record {
   later = failures_later before now moment_before moment_now cause.later moments;
   failed = rose before now moment_before moment_now cause.later moments cause.failed;
+  unfailed = tt;
 }

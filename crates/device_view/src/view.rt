@@ -13,7 +13,7 @@ use crate::undoing::set_body;
 use block_view::{View, ViewFault};
 use disk_model::{Block, BlockKind, Body};
 use host_base::Failed;
-use sector_device::{Device, SECTOR_BYTES};
+use sector_device::{Device, LAST_MOMENT, SECTOR_BYTES};
 
 const PIECE_SECTORS: u64 = 128;
 
@@ -145,11 +145,17 @@ impl<'a, D: Device> View for DeviceView<'a, D> {
 
     /// A sector at or past the device's end counts as zeros, and the device isn't asked for it. At
     /// most one call of the device, and none where the block begins past its end or lies in the
-    /// piece that was read last. Linear in the sectors read.
+    /// piece that was read last. From the device's last moment on it fails, also where the device
+    /// isn't asked. Linear in the sectors read.
     fn body(&mut self, block: Block, out: &mut Body) -> Result<(), ViewFault> {
         match self.read_block(block, out) {
-            Ok(()) => Ok(()),
-            Err(Failed) => Err(ViewFault::Fault),
+            Ok(()) => {}
+            Err(Failed) => return Err(ViewFault::Fault),
+        }
+        if self.device.moment() < LAST_MOMENT {
+            Ok(())
+        } else {
+            Err(ViewFault::Fault)
         }
     }
 

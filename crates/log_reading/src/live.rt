@@ -1,12 +1,12 @@
 //! The live log, read page by page.
 ghost use Rattle.std.specs.Prelude.{◌≡◌, ◌+◌, ◌*◌, ◌<◌, ◌≤◌, ◌^◌, true, [], All, None, IfOk, IfErr, IfSome, IsErrOf};
-ghost use Rattle.host_base.specs.Causes.{Rose};
+ghost use Rattle.host_base.specs.Causes.{Rose, Counts};
 ghost use Rattle.log_model.specs.Entries.{FitsEntry};
 ghost use Rattle.log_page.specs.Places.{lap_of, page_of, page_lsn, is_in_ring, page_after, lap_after};
 ghost use Rattle.log_page.specs.RecordPages.{is_whole_page, page_reading, AppendsPage};
 ghost use Rattle.log_page.specs.LiveLogs.{live_log, start_in_page};
 ghost use Rattle.block_view.specs.Views.{KeepsView};
-ghost use Rattle.log_reading.specs.Views.{NeverForeign};
+ghost use Rattle.log_reading.specs.Views.{NeverForeign, recovery_cause};
 ghost use Rattle.log_reading.specs.LogPages.{page_in, IsLogPlace};
 ghost use Rattle.log_reading.specs.Live.{reading_of};
 
@@ -117,6 +117,7 @@ fn append_page<V: View>(
     ensures never { IfErr result NeverForeign }
     ensures kept { KeepsView V.content V.kept V.faults view.old view.new }
     ensures fault { IsErrOf result RecoveryFault.Fault → Rose (V.faults view.old) (V.faults view.new) }
+    ensures counted { Counts recovery_cause (V.faults view.old) (V.faults view.new) result }
 {
     read_page(view, place, at.page, &mut room.body, &mut room.page)?;
     let pages = place.pages;
@@ -140,6 +141,7 @@ fn append_live<V: View>(
     ensures never { IfErr result NeverForeign }
     ensures kept { KeepsView V.content V.kept V.faults view.old view.new }
     ensures fault { IsErrOf result RecoveryFault.Fault → Rose (V.faults view.old) (V.faults view.new) }
+    ensures counted { Counts recovery_cause (V.faults view.old) (V.faults view.new) result }
 {
     let mut room = Room::new(alloc)?;
     let mut at = Position::first(place.pages, oldest);
@@ -174,6 +176,7 @@ pub fn live_log<V: View>(
     ensures never { IfErr result NeverForeign }
     ensures kept { KeepsView V.content V.kept V.faults view.old view.new }
     ensures fault { IsErrOf result RecoveryFault.Fault → Rose (V.faults view.old) (V.faults view.new) }
+    ensures counted { Counts recovery_cause (V.faults view.old) (V.faults view.new) result }
 {
     let mut entries = Vec::new(alloc);
     if !is_in_ring(place.pages, oldest) {

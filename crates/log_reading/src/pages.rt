@@ -1,9 +1,9 @@
 //! The pages of a log, read through a view.
 ghost use Rattle.std.specs.Prelude.{◌≡◌, ◌+◌, ◌*◌, ◌^◌, ◌<◌, ◌++◌, All, OnOk, IfErr, IfSome, IsErrOf, length};
-ghost use Rattle.host_base.specs.Causes.{Rose};
+ghost use Rattle.host_base.specs.Causes.{Rose, Counts};
 ghost use Rattle.disk_model.specs.Sectors.{zero_sector};
 ghost use Rattle.block_view.specs.Views.{KeepsView};
-ghost use Rattle.log_reading.specs.Views.{NeverForeign};
+ghost use Rattle.log_reading.specs.Views.{NeverForeign, recovery_cause};
 ghost use Rattle.log_reading.specs.LogPages.{sector_in, log_sector, initialised_bytes, sector_bytes, log_bytes, page_in, IsSmall, IsLogPlace};
 
 use crate::fault::RecoveryFault;
@@ -82,6 +82,7 @@ pub(crate) fn read_sector<V: View>(
     ensures never { IfErr result NeverForeign }
     ensures kept { KeepsView V.content V.kept V.faults view.old view.new }
     ensures fault { IsErrOf result RecoveryFault.Fault → Rose (V.faults view.old) (V.faults view.new) }
+    ensures counted { Counts recovery_cause (V.faults view.old) (V.faults view.new) result }
 {
     let kind = BlockKind::Plain;
     view.body(Block { first, kind }, body)?;
@@ -104,6 +105,7 @@ fn append_sector<V: View>(
     ensures never { IfErr result NeverForeign }
     ensures kept { KeepsView V.content V.kept V.faults view.old view.new }
     ensures fault { IsErrOf result RecoveryFault.Fault → Rose (V.faults view.old) (V.faults view.new) }
+    ensures counted { Counts recovery_cause (V.faults view.old) (V.faults view.new) result }
 {
     match log_sector(place, n) {
         Some(first) => {
@@ -132,6 +134,7 @@ pub fn read_page<V: View>(
     ensures never { IfErr result NeverForeign }
     ensures kept { KeepsView V.content V.kept V.faults view.old view.new }
     ensures fault { IsErrOf result RecoveryFault.Fault → Rose (V.faults view.old) (V.faults view.new) }
+    ensures counted { Counts recovery_cause (V.faults view.old) (V.faults view.new) result }
 {
     page.clear();
     for i in 0..8 {

@@ -1,5 +1,5 @@
-ghost use Rattle.std.specs.Prelude.{◌≡◌, ◌+◌, ◌*◌, ◌^◌, ◌<◌, ◌≤◌, None, Result, OnErr, IsErr, ◌↔◌, length};
-ghost use Rattle.host_base.specs.Causes.{Rose, last_moment};
+ghost use Rattle.std.specs.Prelude.{◌≡◌, ◌+◌, ◌*◌, ◌^◌, ◌<◌, ◌≤◌, None, Result, IsErr, ◌↔◌, length};
+ghost use Rattle.host_base.specs.Causes.{HasCause, last_moment};
 ghost use Rattle.sector_device.specs.Moments.{moment_after};
 
 use crate::device::{Device, LAST_MOMENT};
@@ -88,8 +88,7 @@ impl<F: Read + Write + Seek + OpenFile + Drop> FileDevice<F> {
         ensures sectors { self.new.sectors ≡ self.old.sectors }
         ensures moment { self.new.moment ≡ self.old.moment }
         ensures value { result ≡ done }
-        ensures later { self.old.faults ≤ self.new.faults }
-        ensures cause { OnErr result (Rose self.old.faults self.new.faults) }
+        ensures cause { HasCause self.old.faults self.new.faults result }
     {
         if done.is_err() {
             self.faults = self.faults.saturating_add(1);

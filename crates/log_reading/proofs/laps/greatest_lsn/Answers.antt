@@ -7,6 +7,7 @@ loop-next-init g c = record {
   small = omega arith;
   left = all_left (g.V.View.content c.args.view.now) c.args.place.now c.args.chosen c.current_of-greatest.result c.current_of-greatest.ensures.value;
   kept = record { same = refl; stays = refl; later = omega arith };
+  counted = refl;
 }
 
 pub loop-next-preserved : goal.loop-next-preserved
@@ -19,6 +20,7 @@ loop-next-preserved g c = record {
     stays = c.in_ok-said.ensures.kept.stays ∙ c.loop-next.invariant.kept.stays;
     later = omega (arith, c.loop-next.invariant.kept.later, c.in_ok-said.ensures.kept.later);
   };
+  counted = c.in_ok-said.ensures.counted ∙ c.loop-next.invariant.counted;
 }
 
 pub returns-clause-value : goal.returns-clause-value

@@ -12,6 +12,7 @@ invariant-loop-next g l = record {
   small : l.page ≤ 2 ^ 52;
   left : IfSome (g.V.View.content l.initial.view) (λ c. left_of l.place l.page l.greatest c ≡ greatest_lsn l.place.pages (page_in c l.place) l.fn.chosen);
   kept : KeepsView g.V.View.content g.V.View.kept g.V.View.faults l.initial.view l.view;
+  counted : g.V.View.faults l.view ≡ g.V.View.faults l.initial.view;
 }
 
 abbrev pub decreases-loop-next : goal.decreases-loop-next

@@ -1,4 +1,4 @@
-use Rattle.std.proofs.Common.{◌∙◌, ap, arith, rules}
+use Rattle.std.proofs.Common.{◌∙◌, refl, ap, arith, rules}
 use Rattle.log_reading.proofs.Walks.{begun, goes_on, stops, ends, round}
 use Rattle.log_reading.proofs.live.append_live.Goals as goal
 
@@ -10,6 +10,7 @@ loop-passed-init g c =
           (ap (λ p. p.lap) first.value) (ap (λ p. p.page) first.value) (ap (λ p. p.from) first.value) c.requires.empty;
       fits = search rules;
       kept = search rules;
+      counted = refl;
       begun = first.begun;
       inside = first.inside;
       place = first.place;
@@ -41,6 +42,7 @@ loop-passed-preserved g c =
           c.after-at.result.lap c.after-at.result.page c.after-at.result.from (ap (λ q. q.lap) next.value) (ap (λ q. q.page) next.value) (ap (λ q. q.from) next.value) c.in-Ok.is;
       fits = c.append_page.ensures.fits p.invariant.fits;
       kept = record { same = step.same ∙ kept.same; stays = step.stays ∙ kept.stays; later = omega (arith, kept.later, step.later) };
+      counted = c.in_ok-append_page.ensures.counted ∙ p.invariant.counted;
       begun = next.begun;
       inside = next.inside;
       place = rw (ap (λ q. q.from) next.value) (omega arith);

@@ -1,4 +1,4 @@
-use Rattle.std.proofs.Common.{◌+◌, ◌^◌, ◌<◌, ◌≤◌}
+use Rattle.std.proofs.Common.{◌≡◌, ◌+◌, ◌^◌, ◌<◌, ◌≤◌}
 use Rattle.std.specs.Prelude.{All, IfSome}
 use Rattle.log_model.specs.Entries.{FitsEntry}
 use Rattle.block_view.specs.Views.{KeepsView}
@@ -11,6 +11,7 @@ invariant-loop-passed g l = record {
   read : IfSome (g.V.View.content l.initial.view) (λ c. IsRead c l.place l.oldest l._passed l.at.lap l.at.page l.at.from l.entries.items);
   fits : All FitsEntry l.entries.items;
   kept : KeepsView g.V.View.content g.V.View.kept g.V.View.faults l.initial.view l.view;
+  counted : g.V.View.faults l.view ≡ g.V.View.faults l.initial.view;
   begun : 4 ≤ l.at.page;
   inside : l.at.page < l.place.pages;
   place : 0x40 ≤ l.at.from;

@@ -11,4 +11,5 @@ invariant-loop-i g l = record {
   read : IfSome (g.V.View.content l.initial.view) (λ c. l.page.items ++ raw_from (log_bytes c l.place) (8 * l.n + l.i) (8 - l.i) ≡ raw_from (log_bytes c l.place) (8 * l.n) 8);
   size : length l.page.items ≡ 512 * l.i;
   kept : KeepsView g.V.View.content g.V.View.kept g.V.View.faults l.initial.view l.view;
+  counted : g.V.View.faults l.view ≡ g.V.View.faults l.initial.view;
 }
