@@ -1,5 +1,5 @@
 -- One step over the bytes of an attribute list.
-use Rattle.std.specs.Prelude.{◌≡◌, ⊤, ℕ, ◌+◌, ◌<◌, ◌≤◌, true, false, List, [], drop, Result, IfErr}
+use Rattle.std.specs.Prelude.{◌≡◌, ℕ, ◌+◌, ◌<◌, ◌≤◌, true, false, List, [], drop, Result, IfErr, OnOk}
 use Rattle.host_base.specs.Causes.{Rose}
 use Rattle.block_view.specs.declared.fault.ViewFault.{ViewFault}
 use Rattle.block_view.specs.declared.fault.ViewFault.TheVariants as fault
@@ -21,12 +21,13 @@ Moves size before now End = (now ≡ before) × (now ≡ size)
 Moves size before now Fault = (now ≡ before) × (now < size)
 Moves size before now (Entry entry) = (before < now) × (now ≤ size)
 
--- the fault of a view has its cause
+-- the count of a view's faults rose where the view failed, and is as it was where memory was wanting
 abbrev pub FaultRose : ℕ → ℕ → ViewFault → Type 0
 FaultRose before now fault.Fault = Rose before now
-FaultRose before now fault.Memory = ⊤
+FaultRose before now fault.Memory = now ≡ before
 
--- a view's count of faults did not fall, and rose where the view failed
+-- a view's count of faults rose where the view failed, and else is as it was
 pub record ViewCause {T : Type 0} (before now : ℕ) (result : Result T ViewFault) : Type 0 where
   pub later : before ≤ now
   pub failed : IfErr result (FaultRose before now)
+  pub unfailed : OnOk result (now ≡ before)

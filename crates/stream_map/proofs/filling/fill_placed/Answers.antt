@@ -15,5 +15,5 @@ loop-done-preserved g c =
       inside = search rules;
       same = c.in_ok-fill_part.ensures.same ∙ c.loop-done.invariant.same;
       kept = c.in_ok-fill_part.ensures.kept ∙ c.loop-done.invariant.kept;
-      later = omega (arith, c.in_ok-fill_part.ensures.cause.later, c.loop-done.invariant.later);
+      counted = c.in_ok-fill_part.ensures.cause.unfailed ∙ c.loop-done.invariant.counted;
     }

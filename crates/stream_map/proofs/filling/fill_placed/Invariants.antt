@@ -9,7 +9,7 @@ invariant-loop-done g l = record {
   inside : l.done ≤ length l.out;
   same : g.V.View.content l.v ≡ g.V.View.content l.fn.v;
   kept : g.V.View.kept l.v ≡ g.V.View.kept l.fn.v;
-  later : g.V.View.faults l.fn.v ≤ g.V.View.faults l.v;
+  counted : g.V.View.faults l.v ≡ g.V.View.faults l.fn.v;
 }
 
 abbrev pub decreases-loop-done : goal.decreases-loop-done
