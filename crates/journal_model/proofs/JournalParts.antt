@@ -87,7 +87,7 @@ zeros_between byte a zero none = refl
 zeros_between byte a (suc n) none =
     ap (λ (x : ℕ). x ∷ map byte (range_with_len (a + 1) n)) (none a (omega arith) (omega arith)) ∙ ap (λ (l : List ℕ). 0 ∷ l) (zeros_between byte (a + 1) n (λ i le lt. none i (omega arith) (omega arith)))
 
-bytes_are : (byte : ℕ → ℕ) (from to : ℕ) → ((i : ℕ) → byte i < 256) → AreBytes (bytes_between byte from to)
+pub bytes_are : (byte : ℕ → ℕ) (from to : ℕ) → ((i : ℕ) → byte i < 256) → AreBytes (bytes_between byte from to)
 unfolding bytes_between
 bytes_are byte from to each i =
     elim (cases_lt i (to - from)) [
@@ -107,7 +107,7 @@ bytes_filled byte from to to' le none =
     ∙ map-append byte (range_with_len from m) (range_with_len (from + m) n)
     ∙ ap (λ (l : List ℕ). map byte (range_with_len from m) ++ l) (zeros_between byte (from + m) n (λ i ge lt. none i (omega arith) (omega arith) (omega arith)))
 
-placed_ok : (r : Result (List Usn) UsnFault) (entries : List Usn) → placed r ≡ Ok entries → r ≡ Ok entries
+pub placed_ok : (r : Result (List Usn) UsnFault) (entries : List Usn) → placed r ≡ Ok entries → r ≡ Ok entries
 placed_ok (Ok x) entries e = cc
 placed_ok (Err fault) entries e = absurd cc
 

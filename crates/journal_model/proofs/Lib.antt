@@ -5,3 +5,4 @@ pub mod PageRead
 pub mod RecordsBehind
 pub mod JournalPages
 pub mod JournalParts
+pub mod Ends

@@ -79,11 +79,11 @@ records_fault bytes at fault z e = records_step bytes at ∙ step_fault (all_zer
 
 -- ---- from the reader to the table
 
-abbrev entries_with : Option Usn → List Usn → List Usn
+abbrev pub entries_with : Option Usn → List Usn → List Usn
 entries_with None entries = entries
 entries_with (Some entry) entries = entry ∷ entries
 
-with_ok : (found : Option Usn) (r : Result (List Usn) UsnFault) (entries : List Usn) → with_entry found r ≡ Ok entries → (rest : List Usn) × (r ≡ Ok rest) × (entries_with found rest ≡ entries)
+pub with_ok : (found : Option Usn) (r : Result (List Usn) UsnFault) (entries : List Usn) → with_entry found r ≡ Ok entries → (rest : List Usn) × (r ≡ Ok rest) × (entries_with found rest ≡ entries)
 with_ok None r entries e = (entries, e, refl)
 with_ok (Some entry) (Ok rest) entries e = (rest, refl, cc)
 with_ok (Some entry) (Err fault) entries e = absurd cc
@@ -93,15 +93,15 @@ with_err None r fault e = e
 with_err (Some entry) (Ok rest) fault e = absurd cc
 with_err (Some entry) (Err f) fault e = cc
 
-abbrev piece : List ℕ → Option Usn → Piece
+abbrev pub piece : List ℕ → Option Usn → Piece
 piece bytes entry = record { bytes = bytes; entry = entry }
 
-entries_of_piece : (bytes : List ℕ) (found : Option Usn) (pieces : List Piece) → piece_entries (piece bytes found ∷ pieces) ≡ entries_with found (piece_entries pieces)
+pub entries_of_piece : (bytes : List ℕ) (found : Option Usn) (pieces : List Piece) → piece_entries (piece bytes found ∷ pieces) ≡ entries_with found (piece_entries pieces)
 entries_of_piece bytes None pieces = refl
 entries_of_piece bytes (Some entry) pieces = refl
 
 -- a piece before those that stand behind it
-more_pieces : (bytes : List ℕ) (at n : ℕ) (found : Option Usn) (pieces : List Piece) → BeginsRecord bytes at found n → StandFrom (at + n) pieces → StandFrom at (piece (take n bytes) found ∷ pieces)
+pub more_pieces : (bytes : List ℕ) (at n : ℕ) (found : Option Usn) (pieces : List Piece) → BeginsRecord bytes at found n → StandFrom (at + n) pieces → StandFrom at (piece (take n bytes) found ∷ pieces)
 more_pieces bytes at n found pieces b st = (b.own, subst (λ (k : ℕ). StandFrom (at + k) pieces) (sym (length-take-le n bytes b.inside)) st)
 
 more_bytes : (bytes : List ℕ) (n : ℕ) (pieces : List Piece) (found : Option Usn) (rest : List ℕ) → drop n bytes ≡ piece_bytes pieces ++ rest → bytes ≡ piece_bytes (piece (take n bytes) found ∷ pieces) ++ rest
@@ -219,7 +219,7 @@ pub record_some : (bytes : List ℕ) (at : ℕ) (found : Option Usn) (n : ℕ) �
 record_some bytes at found n e = let size = found_length bytes at found n e in not_zeros bytes (all_zeros bytes) refl (omega (arith, size))
 
 -- bytes that begin with a record's own are read
-front_begins : (s rest bytes : List ℕ) (at : ℕ) (found : Option Usn) → IsRecord s at found → bytes ≡ s ++ rest → BeginsRecord bytes at found (length s)
+pub front_begins : (s rest bytes : List ℕ) (at : ℕ) (found : Option Usn) → IsRecord s at found → bytes ≡ s ++ rest → BeginsRecord bytes at found (length s)
 front_begins s rest bytes at found is e =
     let front : take (length s) bytes ≡ s = ap (take (length s)) e ∙ take_at s rest (length s) refl in
     record { inside = omega (arith, ap length e, length-append s rest); own = subst (λ (x : List ℕ). IsRecord x at found) (sym front) is }

@@ -1,17 +1,24 @@
 -- The laws of pages and of journals.
-use Rattle.std.specs.Prelude.{◌≡◌, ◌↔◌, ℕ, ◌*◌, ◌+◌, ◌<◌, ◌≤◌, List, [], ◌∷◌, ◌++◌, length, min, Ok, Err}
+use Rattle.std.specs.Prelude.{◌≡◌, ◌↔◌, ℕ, ◌*◌, ◌/◌, ◌+◌, ◌<◌, true, ◌≤◌, List, [], ◌∷◌, ◌++◌, length, min, Ok, Err}
 use Rattle.host_base.specs.Answers.{◌>>=◌}
 use Rattle.disk_model.specs.Bytes.{AreBytes, zeros}
 use Rattle.tree_model.specs.declared.journal.Usn.{Usn}
 use Rattle.journal_model.specs.declared.fault.UsnFault.{UsnFault}
 use Rattle.journal_model.specs.UsnRecords.{page_size, page_rest, usn_spelling, FitsUsn}
-use Rattle.journal_model.specs.Pages.{page_records, records_of, HasRecords, AreRecords, HasFault}
-use Rattle.journal_model.specs.Journals.{bytes_between, page_entries, pages_before, journal_from, journal_in}
+use Rattle.journal_model.specs.Pages.{page_records, records_of, ends_in_record, HasRecords, AreRecords, HasFault}
+use Rattle.journal_model.specs.Journals.{bytes_between, page_from, page_entries, pages_before, journal_from, journal_in, is_owned}
 
 -- a page is read exactly where it is records and then zeros, and refused exactly at the first record that is refused
 pub record PageIsTable : Type 0 where
   pub read : (page : List ℕ) (at : ℕ) (entries : List Usn) → AreBytes page → (page_records page at ≡ Ok entries) ↔ HasRecords (page_rest page at) at entries
   pub refused : (page : List ℕ) (at : ℕ) (fault : UsnFault) → AreBytes page → (page_records page at ≡ Err fault) ↔ HasFault (page_rest page at) at fault
+
+-- Of bytes that are read, the last record ends where they end exactly where they are records, at least one, and nothing else.
+pub record EndsAreRecords : Type 0 where
+  pub owned : (bytes : List ℕ) (at : ℕ) (entries : List Usn) → AreBytes bytes → records_of bytes at ≡ Ok entries → (ends_in_record (length bytes) bytes ≡ true) ↔ ((0 < length bytes) × AreRecords bytes at entries)
+  -- a stream's page before next is such bytes
+  pub page : (byte : ℕ → ℕ) (first next : ℕ) (entries : List Usn) → ((i : ℕ) → byte i < 256) → page_entries byte first next (next / page_size) ≡ Ok entries
+      → (is_owned byte first next ≡ true) ↔ ((page_from first (next / page_size) < next) × AreRecords (bytes_between byte (page_from first (next / page_size)) next) (page_from first (next / page_size)) entries)
 
 -- records that stand one behind the other are read one behind the other
 pub record RecordsJoin : Type 0 where

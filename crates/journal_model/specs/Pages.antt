@@ -29,7 +29,8 @@ unfoldable pub page_records : List ℕ → ℕ → Result (List Usn) UsnFault
 page_records page at = records_of (page_rest page at) at
 
 -- Whether the last of the records in these bytes, of so many at most, ends where the bytes end. Else zeros that no record owns
--- stand there, or there are no bytes. A record of another version counts by its length.
+-- stand there, or there are no bytes. A record of another version counts by its length. The law EndsAreRecords says by AreRecords
+-- when this is so.
 unfoldable pub ends_in_record : ℕ → List ℕ → Bool
 ends_in_record zero bytes = false
 ends_in_record (suc most) bytes = not (all_zeros bytes) && is_whole bytes && (field 0x00 4 bytes == length bytes || ends_in_record most (drop (field 0x00 4 bytes) bytes))

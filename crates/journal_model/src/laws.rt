@@ -1,6 +1,6 @@
 //! The laws of the change journal: its records, its pages, and the pages of a stream.
 ghost use Rattle.journal_model.specs.UsnLaws.{UsnIsTable, UsnReadAgain};
-ghost use Rattle.journal_model.specs.JournalLaws.{PageIsTable, RecordsJoin, JournalIsPages};
+ghost use Rattle.journal_model.specs.JournalLaws.{PageIsTable, EndsAreRecords, RecordsJoin, JournalIsPages};
 ghost use Rattle.journal_model.specs.UsnVector.{UsnVector};
 
 /// Law: a record is read exactly where its table holds, and each refusal is the first fault.
@@ -22,6 +22,12 @@ pub fn usn_vector()
 /// fault.
 pub fn page_is_table()
     ensures { PageIsTable }
+{}
+
+/// Law: the last record ends where the bytes end exactly where these are records, at least one, and
+/// nothing else; so a record owns the bytes before a journal's end exactly where its page is such.
+pub fn ends_are_records()
+    ensures { EndsAreRecords }
 {}
 
 /// Law: records that stand one behind the other are read one behind the other, and zeros behind them

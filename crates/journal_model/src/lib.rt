@@ -11,5 +11,6 @@ mod laws;
 
 pub use fault::UsnFault;
 pub use laws::{
-    journal_is_pages, page_is_table, records_join, usn_is_table, usn_read_again, usn_vector,
+    ends_are_records, journal_is_pages, page_is_table, records_join, usn_is_table, usn_read_again,
+    usn_vector,
 };
