@@ -1,10 +1,11 @@
 -- What a view knows of its device.
-use Rattle.std.specs.Prelude.{◌≡◌, ℕ, ◌+◌, ◌-◌, ◌^◌, ◌≤◌, max, nat_le, nat_lt, if◌then◌else◌, List, Option}
+use Rattle.std.specs.Prelude.{◌≡◌, ℕ, ◌+◌, ◌-◌, ◌^◌, ◌≤◌, max, nat_le, nat_lt, if◌then◌else◌, List, Option, Result, Ok, Err}
 use Rattle.std.specs.Option.{option_map}
 use Rattle.std.specs.Borrow.{MutBor}
 use Rattle.disk_model.specs.Sectors.{sector_of}
 use Rattle.disk_model.specs.Content.{Content, content_of}
-use Rattle.host_base.specs.Causes.{last_moment}
+use Rattle.host_base.specs.Answers.{Cause, refused, no_memory, failed, never}
+use Rattle.host_base.specs.Causes.{last_moment, HasFailed}
 use Rattle.sector_device.specs.Moments.{moment_after}
 
 -- the content of sectors, where they are known
@@ -44,3 +45,16 @@ failures faults moment = max faults (if nat_le last_moment moment then 2 ^ 64 - 
 -- the moment after a read of so many bytes, where none is no call
 abbrev pub moment_of_read : ℕ → ℕ → ℕ
 moment_of_read moment bytes = if nat_lt 0 bytes then moment_after moment else moment
+
+-- of an error by its cause: the device failed where that is a failure of the outside, and else its count of faults is as it was
+abbrev pub CountsCauseOnDevice : {F : Type 0} → ℕ → ℕ → ℕ → Cause F → Type 0
+CountsCauseOnDevice faults_before faults_now moment_now (refused f) = faults_now ≡ faults_before
+CountsCauseOnDevice faults_before faults_now moment_now no_memory = faults_now ≡ faults_before
+CountsCauseOnDevice faults_before faults_now moment_now failed = HasFailed faults_before faults_now moment_now
+CountsCauseOnDevice faults_before faults_now moment_now never = ⊥
+
+-- Of a call on a device whose errors have other causes too. So no failure of the device is passed over, or answered as
+-- another error.
+abbrev pub CountsOnDevice : {T E F : Type 0} → (E → Cause F) → ℕ → ℕ → ℕ → Result T E → Type 0
+CountsOnDevice cause faults_before faults_now moment_now (Ok x) = faults_now ≡ faults_before
+CountsOnDevice cause faults_before faults_now moment_now (Err e) = CountsCauseOnDevice faults_before faults_now moment_now (cause e)
