@@ -1,6 +1,6 @@
 -- The records that are in use and not marked, and the spare numbers, by heads and bits.
 use Rattle.std.proofs.Common.{◌≡◌, ℕ, zero, suc, ◌+◌, ◌-◌, ◌<◌, ◌≤◌, Bool, true, false, List, [], ◌∷◌, ◌++◌, length, map, Option, Some, None, refl, sym, ap, ◌∙◌, arith}
-use Rattle.std.specs.Prelude.{not, find, if◌then◌else◌, slice_index_or}
+use Rattle.std.specs.Prelude.{not, find, if◌then◌else◌}
 use Rattle.std.specs.List.{range_with_len, filter_map, cons_option}
 use Rattle.std.specs.Prelude.{IfSome, nat_le, ◌*◌}
 use Rattle.std.proofs.lemmas.List.FromFn.{length-map-range_with_len, get_or-map-range_with_len, map-range_with_len_more}
@@ -16,7 +16,7 @@ use Rattle.disk_model.specs.Content.{Content}
 use Rattle.bit_set.specs.Bits.{bit}
 use Rattle.state_model.specs.Trees.{first_user_record}
 use Rattle.state_model.specs.Rules.{implies, first_failing}
-use Rattle.volume_model.specs.Volumes.{Volume, record_block, count_of, record_bits, is_in_use, record_bytes}
+use Rattle.volume_model.specs.Volumes.{Volume, record_block, count_of, record_bits, is_in_use}
 use Rattle.volume_model.specs.Owners.{keeps_record_bit}
 use Rattle.volume_model.specs.Nodes.{spare_at, spare_numbers}
 use Rattle.volume_parts.specs.declared.head.Head.{Head}

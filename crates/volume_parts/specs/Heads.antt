@@ -1,5 +1,5 @@
 -- The heads of the records of a file table.
-use Rattle.std.specs.Prelude.{ℕ, ◌-◌, Bool, true, false, List, length, map, Option, Some, None, if◌then◌else◌, slice_index_or}
+use Rattle.std.specs.Prelude.{ℕ, ◌-◌, Bool, false, List, length, map, Option, Some, None, if◌then◌else◌, slice_index_or}
 use Rattle.std.specs.List.{range_with_len, filter_map}
 use Rattle.host_base.specs.declared.file_ref.FileRef.{FileRef}
 use Rattle.disk_model.specs.Content.{Content}

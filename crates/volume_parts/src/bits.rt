@@ -1,10 +1,10 @@
 //! The bits of bitmaps.
 ghost use Rattle.std.specs.Prelude.{◌≡◌, ◌*◌, ◌<◌, ◌≤◌, length, IfOk, IfSome, IsErrOf};
-ghost use Rattle.host_base.specs.Causes.{Rose};
+ghost use Rattle.host_base.specs.Causes.{Rose, Counts};
 ghost use Rattle.bit_set.specs.Words.{bits_of_bytes};
 ghost use Rattle.state_model.specs.Streams.{stream_bytes};
 ghost use Rattle.stream_map.specs.Runs.{HasSmallRuns};
-ghost use Rattle.volume_map.specs.Errors.{NeverRefused};
+ghost use Rattle.volume_map.specs.Errors.{map_cause, NeverRefused};
 ghost use Rattle.volume_map.specs.Maps.{volume_in, IsMap};
 ghost use Rattle.block_view.specs.Views.{KeepsView};
 ghost use Rattle.volume_model.specs.Volumes.{cluster_bits, record_bits};
@@ -54,6 +54,7 @@ fn front_bits<V: View>(
     ensures value { IfSome (V.content view.old) (λ c. IfOk result (λ bits. bits ≡ bits_of_bytes (stream_bytes c per stream.now) count)) }
     ensures kept { KeepsView V.content V.kept V.faults view.old view.new }
     ensures fault { IsErrOf result MapFault.View → Rose (V.faults view.old) (V.faults view.new) }
+    ensures counted { Counts map_cause (V.faults view.old) (V.faults view.new) result }
     ensures certain { NeverRefused result }
 {
     front(view, per, stream, 0, body, room)?;
@@ -75,6 +76,7 @@ fn stream_bits<V: View>(
     ensures value { IfSome (V.content view.old) (λ c. IfOk result (λ bits. bits ≡ bits_of_bytes (stream_bytes c per stream.now) count)) }
     ensures kept { KeepsView V.content V.kept V.faults view.old view.new }
     ensures fault { IsErrOf result MapFault.View → Rose (V.faults view.old) (V.faults view.new) }
+    ensures counted { Counts map_cause (V.faults view.old) (V.faults view.new) result }
     ensures certain { NeverRefused result }
 {
     let mut room = zeros(alloc, bytes_for(count))?;
@@ -94,6 +96,7 @@ pub fn cluster_bits<V: View>(
     ensures value { IfSome (V.content view.old) (λ c. IfOk result (λ bits. bits ≡ cluster_bits c (volume_in map.now))) }
     ensures kept { KeepsView V.content V.kept V.faults view.old view.new }
     ensures fault { IsErrOf result MapFault.View → Rose (V.faults view.old) (V.faults view.new) }
+    ensures counted { Counts map_cause (V.faults view.old) (V.faults view.new) result }
     ensures certain { NeverRefused result }
 {
     let found = file_stream(alloc, map, BITMAP_FILE, DATA)?;
@@ -114,6 +117,7 @@ pub fn record_bits<V: View>(
     ensures value { IfSome (V.content view.old) (λ c. IfOk result (λ bits. bits ≡ record_bits c (volume_in map.now))) }
     ensures kept { KeepsView V.content V.kept V.faults view.old view.new }
     ensures fault { IsErrOf result MapFault.View → Rose (V.faults view.old) (V.faults view.new) }
+    ensures counted { Counts map_cause (V.faults view.old) (V.faults view.new) result }
     ensures certain { NeverRefused result }
 {
     let found = file_stream(alloc, map, TABLE_FILE, BITMAP)?;

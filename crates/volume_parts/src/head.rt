@@ -1,7 +1,7 @@
 //! The heads of the file table's records.
 ghost use Rattle.std.specs.Prelude.{◌≡◌, ◌*◌, ◌++◌, ◌∷◌, [], length, IfOk, OnOk, IfSome, IsErrOf};
-ghost use Rattle.host_base.specs.Causes.{Rose};
-ghost use Rattle.volume_map.specs.Errors.{NeverRefused};
+ghost use Rattle.host_base.specs.Causes.{Rose, Counts};
+ghost use Rattle.volume_map.specs.Errors.{map_cause, NeverRefused};
 ghost use Rattle.volume_map.specs.Maps.{volume_in, IsMap};
 ghost use Rattle.block_view.specs.Views.{KeepsView};
 ghost use Rattle.volume_model.specs.Volumes.{record_block};
@@ -65,6 +65,7 @@ fn read_head<V: View>(view: &mut V, block: Block, body: &mut Body) -> Result<Hea
     ensures value { IfSome (V.content view.old) (λ c. IfOk result (λ head. head ≡ head_of (c block).bytes)) }
     ensures kept { KeepsView V.content V.kept V.faults view.old view.new }
     ensures fault { IsErrOf result MapFault.View → Rose (V.faults view.old) (V.faults view.new) }
+    ensures counted { Counts map_cause (V.faults view.old) (V.faults view.new) result }
     ensures certain { NeverRefused result }
 {
     view.body(block, body)?;
@@ -83,6 +84,7 @@ fn head_at<V: View>(
     ensures value { IfSome (V.content view.old) (λ c. IfOk result (λ head. head ≡ head_at c (volume_in map.now) number)) }
     ensures kept { KeepsView V.content V.kept V.faults view.old view.new }
     ensures fault { IsErrOf result MapFault.View → Rose (V.faults view.old) (V.faults view.new) }
+    ensures counted { Counts map_cause (V.faults view.old) (V.faults view.new) result }
     ensures certain { NeverRefused result }
 {
     match record_block(map, number) {
@@ -113,6 +115,7 @@ pub fn read_heads<V: View>(
     ensures value { IfSome (V.content view.old) (λ c. IfOk result (λ heads. heads.items ≡ heads_of c (volume_in map.now))) }
     ensures kept { KeepsView V.content V.kept V.faults view.old view.new }
     ensures fault { IsErrOf result MapFault.View → Rose (V.faults view.old) (V.faults view.new) }
+    ensures counted { Counts map_cause (V.faults view.old) (V.faults view.new) result }
     ensures certain { NeverRefused result }
 {
     let mut heads = Vec::new(alloc);

@@ -1,10 +1,10 @@
 //! The table of upper-case units.
 ghost use Rattle.std.specs.Prelude.{◌≡◌, ◌<◌, ◌≤◌, length, IfOk, IfSome, IsErrOf};
-ghost use Rattle.host_base.specs.Causes.{Rose};
+ghost use Rattle.host_base.specs.Causes.{Rose, Counts};
 ghost use Rattle.state_model.specs.Streams.{stream_bytes, real_size};
 ghost use Rattle.stream_map.specs.Runs.{HasSmallRuns};
 ghost use Rattle.upcase_order.specs.Tables.{upcase_of};
-ghost use Rattle.volume_map.specs.Errors.{NeverRefused};
+ghost use Rattle.volume_map.specs.Errors.{map_cause, NeverRefused};
 ghost use Rattle.volume_map.specs.Maps.{volume_in, IsMap};
 ghost use Rattle.block_view.specs.Views.{KeepsView};
 ghost use Rattle.volume_model.specs.Volumes.{table_or_standard, upper_of};
@@ -56,6 +56,7 @@ fn front_table<V: View>(
     ensures value { IfSome (V.content view.old) (λ c. IfOk result (λ table. table ≡ table_or_standard (upcase_of (stream_bytes c per stream.now)))) }
     ensures kept { KeepsView V.content V.kept V.faults view.old view.new }
     ensures fault { IsErrOf result MapFault.View → Rose (V.faults view.old) (V.faults view.new) }
+    ensures counted { Counts map_cause (V.faults view.old) (V.faults view.new) result }
     ensures certain { NeverRefused result }
 {
     front(view, per, stream, 0, body, room)?;
@@ -76,6 +77,7 @@ fn stream_table<V: View>(
     ensures value { IfSome (V.content view.old) (λ c. IfOk result (λ table. table ≡ table_or_standard (upcase_of (stream_bytes c per stream.now)))) }
     ensures kept { KeepsView V.content V.kept V.faults view.old view.new }
     ensures fault { IsErrOf result MapFault.View → Rose (V.faults view.old) (V.faults view.new) }
+    ensures counted { Counts map_cause (V.faults view.old) (V.faults view.new) result }
     ensures certain { NeverRefused result }
 {
     if real_size(stream) != TABLE_BYTES as u64 {
@@ -98,6 +100,7 @@ pub fn upper_table<V: View>(
     ensures value { IfSome (V.content view.old) (λ c. IfOk result (λ table. table ≡ upper_of c (volume_in map.now))) }
     ensures kept { KeepsView V.content V.kept V.faults view.old view.new }
     ensures fault { IsErrOf result MapFault.View → Rose (V.faults view.old) (V.faults view.new) }
+    ensures counted { Counts map_cause (V.faults view.old) (V.faults view.new) result }
     ensures certain { NeverRefused result }
 {
     let found = file_stream(alloc, map, UPCASE_FILE, DATA)?;

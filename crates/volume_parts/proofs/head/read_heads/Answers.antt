@@ -7,6 +7,7 @@ pub loop-number-init : goal.loop-number-init
 loop-number-init g c = record {
   read = heads_first _ (volume_in c.args.map.now) _ c.new-heads.ensures.items;
   kept = record { same = refl; stays = refl; later = omega arith };
+  counted = refl;
 }
 
 pub loop-number-preserved : goal.loop-number-preserved
@@ -17,6 +18,7 @@ loop-number-preserved g c = record {
     stays = c.in_ok-head.ensures.kept.stays ∙ c.loop-number.invariant.kept.stays;
     later = omega (arith, c.loop-number.invariant.kept.later, c.in_ok-head.ensures.kept.later);
   };
+  counted = c.in_ok-head.ensures.counted ∙ c.loop-number.invariant.counted;
 }
 
 pub returns-clause-value : goal.returns-clause-value
