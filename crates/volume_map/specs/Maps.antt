@@ -1,5 +1,5 @@
 -- A loaded volume, as definitions see it.
-use Rattle.std.specs.Prelude.{ℕ, ◌*◌, ◌^◌, ◌<◌, ◌≤◌}
+use Rattle.std.specs.Prelude.{◌*◌, ◌^◌, ◌<◌, ◌≤◌}
 use Rattle.stream_map.specs.Runs.{AreSmall}
 use Rattle.volume_model.specs.Volumes.{Volume}
 use Rattle.volume_map.specs.declared.map.VolumeMap.{VolumeMap}

@@ -1,14 +1,14 @@
 //! The attribute lists of files.
 ghost use Rattle.std.specs.Prelude.{◌≡◌, ◌==◌, ◌<◌, ◌≤◌, ◌++◌, ◌∷◌, [], find, map, length, IfOk, OnOk, IfSome, IsErrOf, IsTrue};
 ghost use Rattle.std.specs.Option.{option_copied};
-ghost use Rattle.host_base.specs.Causes.{Rose};
+ghost use Rattle.host_base.specs.Causes.{Rose, Counts};
 ghost use Rattle.record_model.specs.ListEntries.{list_entries};
 ghost use Rattle.record_model.specs.Values.{attribute_list};
 ghost use Rattle.record_model.specs.declared.attribute.Attr.{Attr as attr};
 ghost use Rattle.state_model.specs.Streams.{stream_bytes, real_size};
 ghost use Rattle.state_model.specs.Loads.{attr_name, list_stream, entries_in, entries_of, table_in};
 ghost use Rattle.stream_map.specs.Runs.{HasSmallRuns};
-ghost use Rattle.volume_map.specs.Errors.{NeverRefused};
+ghost use Rattle.volume_map.specs.Errors.{map_cause, NeverRefused};
 ghost use Rattle.volume_map.specs.Lists.{read_of, list_at, lists_of, Takes, GoesOn};
 ghost use Rattle.block_view.specs.Views.{KeepsView};
 
@@ -91,6 +91,7 @@ fn read_step<V: View>(
     ensures inside { at.new ≤ real_size stream.now }
     ensures kept { KeepsView V.content V.kept V.faults view.old view.new }
     ensures fault { IsErrOf result MapFault.View → Rose (V.faults view.old) (V.faults view.new) }
+    ensures counted { Counts map_cause (V.faults view.old) (V.faults view.new) result }
     ensures certain { NeverRefused result }
 {
     let step = next(alloc, view, per, stream, at, body)?;
@@ -111,6 +112,7 @@ fn read_list<V: View>(
     ensures value { IfSome (V.content view.old) (λ c. IfOk result (λ list. read_of list ≡ list_entries (stream_bytes c per stream.now))) }
     ensures kept { KeepsView V.content V.kept V.faults view.old view.new }
     ensures fault { IsErrOf result MapFault.View → Rose (V.faults view.old) (V.faults view.new) }
+    ensures counted { Counts map_cause (V.faults view.old) (V.faults view.new) result }
     ensures certain { NeverRefused result }
 {
     let mut list = ListRead::empty(alloc);
@@ -137,6 +139,7 @@ fn list_at<V: View>(
     ensures value { IfSome (V.content view.old) (λ c. IfOk result (λ list. read_of list ≡ list_at c per (table_in records.now) number)) }
     ensures kept { KeepsView V.content V.kept V.faults view.old view.new }
     ensures fault { IsErrOf result MapFault.View → Rose (V.faults view.old) (V.faults view.new) }
+    ensures counted { Counts map_cause (V.faults view.old) (V.faults view.new) result }
     ensures certain { NeverRefused result }
 {
     let Some(file) = file_at(records, number as u64) else {
@@ -170,6 +173,7 @@ pub fn read_lists<V: View>(
     ensures len { IfOk result (λ lists. length lists.items ≡ length records.now) }
     ensures kept { KeepsView V.content V.kept V.faults view.old view.new }
     ensures fault { IsErrOf result MapFault.View → Rose (V.faults view.old) (V.faults view.new) }
+    ensures counted { Counts map_cause (V.faults view.old) (V.faults view.new) result }
     ensures certain { NeverRefused result }
 {
     let mut lists = Vec::new(alloc);

@@ -1,7 +1,7 @@
 //! The files of a volume.
 ghost use Rattle.std.specs.Prelude.{◌≡◌, ◌*◌, ◌^◌, ◌<◌, ◌≤◌, map, length, IfOk, IfSome, IsErrOf};
 ghost use Rattle.host_base.specs.Answers.{Gives, GivesOrFails};
-ghost use Rattle.host_base.specs.Causes.{Rose};
+ghost use Rattle.host_base.specs.Causes.{Rose, Counts};
 ghost use Rattle.disk_model.specs.declared.block.BlockKind.TheVariants.{FileRec as file_kind};
 ghost use Rattle.state_model.specs.Streams.{has_cut_block};
 ghost use Rattle.state_model.specs.Loads.{table_in, most_records, record_count, files_in, loaded};
@@ -93,6 +93,7 @@ pub fn files_in<V: View>(
     ensures answer { IfSome (V.content view.old) (λ c. GivesOrFails (λ files. files.items) map_cause result (files_in c per extents.now)) }
     ensures kept { KeepsView V.content V.kept V.faults view.old view.new }
     ensures fault { IsErrOf result MapFault.View → Rose (V.faults view.old) (V.faults view.new) }
+    ensures counted { Counts map_cause (V.faults view.old) (V.faults view.new) result }
 {
     let walk = walk_table(alloc, view, per, extents, body)?;
     let lists = read_lists(alloc, view, per, &walk.records, body)?;
@@ -123,6 +124,7 @@ pub fn load<V: View>(
     ensures answer { IfSome (V.content view.old) (λ c. GivesOrFails (λ files. files.items) map_cause result (loaded c geometry)) }
     ensures kept { KeepsView V.content V.kept V.faults view.old view.new }
     ensures fault { IsErrOf result MapFault.View → Rose (V.faults view.old) (V.faults view.new) }
+    ensures counted { Counts map_cause (V.faults view.old) (V.faults view.new) result }
 {
     let mut body = Body::empty(alloc)?;
     let extents = table_of(alloc, view, geometry, &mut body)?;
@@ -144,6 +146,7 @@ fn links_of_files<V: View>(
     ensures answer { IfSome (V.content view.old) (λ c. GivesOrFails (λ links. links.items) map_cause result (links_in c per extents.now)) }
     ensures kept { KeepsView V.content V.kept V.faults view.old view.new }
     ensures fault { IsErrOf result MapFault.View → Rose (V.faults view.old) (V.faults view.new) }
+    ensures counted { Counts map_cause (V.faults view.old) (V.faults view.new) result }
 {
     let files = files_in(alloc, view, per, extents, body)?;
     Ok(long_links(alloc, &files)?)
@@ -174,6 +177,7 @@ fn links_in<V: View>(
     ensures answer { IfSome (V.content view.old) (λ c. GivesOrFails (λ links. links.items) map_cause result (links_in c per extents.now)) }
     ensures kept { KeepsView V.content V.kept V.faults view.old view.new }
     ensures fault { IsErrOf result MapFault.View → Rose (V.faults view.old) (V.faults view.new) }
+    ensures counted { Counts map_cause (V.faults view.old) (V.faults view.new) result }
 {
     let runs = extents.runs.as_slice();
     let cut = has_cut_block(per, BlockKind::FileRec, extents.real / 1024, runs);
@@ -201,6 +205,7 @@ pub fn load_links<V: View>(
     ensures answer { IfSome (V.content view.old) (λ c. GivesOrFails (λ links. links.items) map_cause result (loaded_links c geometry)) }
     ensures kept { KeepsView V.content V.kept V.faults view.old view.new }
     ensures fault { IsErrOf result MapFault.View → Rose (V.faults view.old) (V.faults view.new) }
+    ensures counted { Counts map_cause (V.faults view.old) (V.faults view.new) result }
 {
     let mut body = Body::empty(alloc)?;
     let extents = table_of(alloc, view, geometry, &mut body)?;

@@ -1,7 +1,7 @@
 //! A volume as its file table is loaded.
 ghost use Rattle.std.specs.Prelude.{◌≡◌, ◌*◌, ◌^◌, ◌<◌, ◌≤◌, IfOk, IfSome, IsErrOf};
 ghost use Rattle.host_base.specs.Answers.{GivesOrFails};
-ghost use Rattle.host_base.specs.Causes.{Rose};
+ghost use Rattle.host_base.specs.Causes.{Rose, Counts};
 ghost use Rattle.volume_model.specs.Volumes.{volume_of};
 ghost use Rattle.volume_map.specs.Errors.{map_cause};
 ghost use Rattle.volume_map.specs.Maps.{volume_in, IsMap};
@@ -47,6 +47,7 @@ pub fn load_volume<V: View>(
     ensures map { IfOk result IsMap }
     ensures kept { KeepsView V.content V.kept V.faults view.old view.new }
     ensures fault { IsErrOf result MapFault.View → Rose (V.faults view.old) (V.faults view.new) }
+    ensures counted { Counts map_cause (V.faults view.old) (V.faults view.new) result }
 {
     let mut body = Body::empty(alloc)?;
     let table = table_of(alloc, view, geometry, &mut body)?;

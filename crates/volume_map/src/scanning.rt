@@ -1,11 +1,11 @@
 //! One walk over the file table that keeps no record, but the long names of its files.
 ghost use Rattle.std.specs.Prelude.{◌≡◌, ◌+◌, ◌<◌, ◌≤◌, true, false, if◌then◌else◌, length, IfOk, IfSome, IsErrOf, IsTrue};
-ghost use Rattle.host_base.specs.Causes.{Rose};
+ghost use Rattle.host_base.specs.Causes.{Rose, Counts};
 ghost use Rattle.record_model.specs.Values.{attribute_list};
 ghost use Rattle.state_model.specs.Files.{is_base_record, has_type};
 ghost use Rattle.state_model.specs.Loads.{Free, Used, most_records, record_count, piece_in, piece_of, whole_record, table_piece, rule_refusal, first_some};
 ghost use Rattle.stream_map.specs.Runs.{AreSmall};
-ghost use Rattle.volume_map.specs.Errors.{NeverRefused};
+ghost use Rattle.volume_map.specs.Errors.{map_cause, NeverRefused};
 ghost use Rattle.volume_map.specs.Scans.{IsUnread, IsSeen, Judges, ScannedBelow, ScansOrFails, ScansAll};
 ghost use Rattle.block_view.specs.Views.{KeepsView};
 
@@ -178,6 +178,7 @@ fn read_body<V: View>(
     ensures size { IfOk result (λ there. IsTrue there → length body.new.bytes ≡ 1024) }
     ensures kept { KeepsView V.content V.kept V.faults view.old view.new }
     ensures fault { IsErrOf result MapFault.View → Rose (V.faults view.old) (V.faults view.new) }
+    ensures counted { Counts map_cause (V.faults view.old) (V.faults view.new) result }
     ensures certain { NeverRefused result }
 {
     if extents.initialised <= 1024 * number {
@@ -209,6 +210,7 @@ fn take_record<V: View>(
     ensures seen { IfSome (V.content view.old) (λ c. IfOk result (IsSeen per number (table_piece c per extents.now number) links.old.items links.new.items)) }
     ensures kept { KeepsView V.content V.kept V.faults view.old view.new }
     ensures fault { IsErrOf result MapFault.View → Rose (V.faults view.old) (V.faults view.new) }
+    ensures counted { Counts map_cause (V.faults view.old) (V.faults view.new) result }
     ensures certain { NeverRefused result }
 {
     if !read_body(view, per, extents, number, body)? {
@@ -274,6 +276,7 @@ fn step<V: View>(
     ensures answer { IfSome (V.content view.old) (λ c. ScannedBelow per cut (table_piece c per extents.now) number scan.old → ScansOrFails per cut (table_piece c per extents.now) (number + 1) result scan.new) }
     ensures kept { KeepsView V.content V.kept V.faults view.old view.new }
     ensures fault { IsErrOf result MapFault.View → Rose (V.faults view.old) (V.faults view.new) }
+    ensures counted { Counts map_cause (V.faults view.old) (V.faults view.new) result }
 {
     let seen = take_record(alloc, view, per, extents, number, body, &mut scan.links)?;
     judge(cut, number, seen, &mut scan.refusal)
@@ -297,6 +300,7 @@ pub fn scan_table<V: View>(
     ensures answer { IfSome (V.content view.old) (λ c. ScansAll per cut (table_piece c per extents.now) (record_count extents.now) result) }
     ensures kept { KeepsView V.content V.kept V.faults view.old view.new }
     ensures fault { IsErrOf result MapFault.View → Rose (V.faults view.old) (V.faults view.new) }
+    ensures counted { Counts map_cause (V.faults view.old) (V.faults view.new) result }
 {
     let mut scan = Scan {
         links: Vec::new(alloc),

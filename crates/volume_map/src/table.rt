@@ -1,7 +1,7 @@
 //! The file table, by record 0.
 ghost use Rattle.std.specs.Prelude.{◌≡◌, ◌+◌, ◌*◌, ◌^◌, ◌<◌, ◌≤◌, Ok, IfOk, IfSome, IsErrOf, OnOk, length};
 ghost use Rattle.host_base.specs.Answers.{Gives, GivesOrFails};
-ghost use Rattle.host_base.specs.Causes.{Rose};
+ghost use Rattle.host_base.specs.Causes.{Rose, Counts};
 ghost use Rattle.record_model.specs.Records.{record_at};
 ghost use Rattle.state_model.specs.Files.{has_type};
 ghost use Rattle.state_model.specs.Loads.{boot_block, judged, most_records, no_extents, extents_or, record_count, table_extents, extents_in, table_of, piece_by, piece_of};
@@ -39,6 +39,7 @@ pub fn read_piece<V: View>(
     ensures answer { IfSome (V.content view.old) (λ c. GivesOrFails seen map_cause result (Ok (piece_of (c block)))) }
     ensures kept { KeepsView V.content V.kept V.faults view.old view.new }
     ensures fault { IsErrOf result MapFault.View → Rose (V.faults view.old) (V.faults view.new) }
+    ensures counted { Counts map_cause (V.faults view.old) (V.faults view.new) result }
 {
     view.body(block, body)?;
     Ok(piece_of(alloc, body)?)
@@ -55,6 +56,7 @@ fn read_own_piece<V: View>(
     ensures answer { IfSome (V.content view.old) (λ c. GivesOrFails seen map_cause result (Ok (piece_by record_at (c block)))) }
     ensures kept { KeepsView V.content V.kept V.faults view.old view.new }
     ensures fault { IsErrOf result MapFault.View → Rose (V.faults view.old) (V.faults view.new) }
+    ensures counted { Counts map_cause (V.faults view.old) (V.faults view.new) result }
 {
     view.body(block, body)?;
     Ok(own_piece_of(alloc, body)?)
@@ -169,6 +171,7 @@ pub fn table_of<V: View>(
     ensures few { IfOk result (λ e. record_count e ≤ most_records) }
     ensures kept { KeepsView V.content V.kept V.faults view.old view.new }
     ensures fault { IsErrOf result MapFault.View → Rose (V.faults view.old) (V.faults view.new) }
+    ensures counted { Counts map_cause (V.faults view.old) (V.faults view.new) result }
 {
     let piece = read_own_piece(alloc, view, boot_block(geometry, 0), body)?;
     let file = judged(0, piece)?;
@@ -190,6 +193,7 @@ pub fn boot_record<V: View>(
     ensures answer { IfSome (V.content view.old) (λ c. GivesOrFails (λ file. file) map_cause result (judged number (piece_of (c (boot_block geometry number))))) }
     ensures kept { KeepsView V.content V.kept V.faults view.old view.new }
     ensures fault { IsErrOf result MapFault.View → Rose (V.faults view.old) (V.faults view.new) }
+    ensures counted { Counts map_cause (V.faults view.old) (V.faults view.new) result }
 {
     let piece = read_piece(alloc, view, boot_block(geometry, number), body)?;
     judged(number, piece)

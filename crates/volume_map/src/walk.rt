@@ -1,7 +1,7 @@
 //! One walk over the file table.
 ghost use Rattle.std.specs.Prelude.{◌≡◌, ◌+◌, ◌*◌, ◌^◌, ◌<◌, ◌≤◌, ◌++◌, ◌∷◌, [], Ok, IfOk, IfSome, IsErrOf, OnOk, length, ℕ};
 ghost use Rattle.host_base.specs.Answers.{Gives, GivesOrFails};
-ghost use Rattle.host_base.specs.Causes.{Rose};
+ghost use Rattle.host_base.specs.Causes.{Rose, Counts};
 ghost use Rattle.state_model.specs.Loads.{most_records, record_count, table_piece, torn_refusal, unless, first_of};
 ghost use Rattle.state_model.specs.Loads.{Piece as the_piece};
 ghost use Rattle.stream_map.specs.Runs.{AreSmall};
@@ -45,6 +45,7 @@ fn table_piece<V: View>(
     ensures answer { IfSome (V.content view.old) (λ c. GivesOrFails seen map_cause result (Ok (table_piece c per extents.now number))) }
     ensures kept { KeepsView V.content V.kept V.faults view.old view.new }
     ensures fault { IsErrOf result MapFault.View → Rose (V.faults view.old) (V.faults view.new) }
+    ensures counted { Counts map_cause (V.faults view.old) (V.faults view.new) result }
 {
     if extents.initialised <= 1024 * number {
         return Ok(Piece::Free);
@@ -94,8 +95,9 @@ fn step<V: View>(
     requires number { number < most_records }
     ensures answer { IfSome (V.content view.old) (λ c. WalkedBelow (table_piece c per extents.now) number walk.old → WalksOrFails (table_piece c per extents.now) (number + 1) result walk.new) }
     ensures kept { KeepsView V.content V.kept V.faults view.old view.new }
-    ensures counted { OnOk result (length walk.old.rules.items ≡ length walk.old.records.items → length walk.new.rules.items ≡ length walk.new.records.items) }
+    ensures lengths { OnOk result (length walk.old.rules.items ≡ length walk.old.records.items → length walk.new.rules.items ≡ length walk.new.records.items) }
     ensures fault { IsErrOf result MapFault.View → Rose (V.faults view.old) (V.faults view.new) }
+    ensures counted { Counts map_cause (V.faults view.old) (V.faults view.new) result }
 {
     let piece = table_piece(alloc, view, per, extents, number, body)?;
     note(walk, number, piece)
@@ -115,9 +117,10 @@ pub fn walk_table<V: View>(
     requires small { AreSmall extents.now.runs }
     requires records { record_count extents.now ≤ most_records }
     ensures answer { IfSome (V.content view.old) (λ c. WalksAll (table_piece c per extents.now) (record_count extents.now) result) }
-    ensures counted { IfOk result (λ walk. length walk.rules.items ≡ length walk.records.items) }
+    ensures lengths { IfOk result (λ walk. length walk.rules.items ≡ length walk.records.items) }
     ensures kept { KeepsView V.content V.kept V.faults view.old view.new }
     ensures fault { IsErrOf result MapFault.View → Rose (V.faults view.old) (V.faults view.new) }
+    ensures counted { Counts map_cause (V.faults view.old) (V.faults view.new) result }
 {
     let mut walk = Walk {
         records: Vec::new(alloc),

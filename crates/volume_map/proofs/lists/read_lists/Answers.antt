@@ -10,6 +10,7 @@ loop-number-init g c = record {
   read = lists_first _ c.args.per (table_in c.args.records.now) _ c.new-lists.ensures.items;
   len = ap (λ (xs : List ListRead). length xs) c.new-lists.ensures.items;
   kept = record { same = refl; stays = refl; later = omega arith };
+  counted = refl;
 }
 
 pub loop-number-preserved : goal.loop-number-preserved
@@ -21,4 +22,5 @@ loop-number-preserved g c = record {
     stays = c.in_ok-list.ensures.kept.stays ∙ c.loop-number.invariant.kept.stays;
     later = omega (arith, c.loop-number.invariant.kept.later, c.in_ok-list.ensures.kept.later);
   };
+  counted = c.in_ok-list.ensures.counted ∙ c.loop-number.invariant.counted;
 }

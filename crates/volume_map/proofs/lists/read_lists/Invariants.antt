@@ -10,4 +10,5 @@ invariant-loop-number g l = record {
   read : IfSome (g.V.View.content l.initial.view) (λ c. map read_of l.lists.items ≡ lists_of c l.per (table_in l.records) l.number);
   len : length l.lists.items ≡ l.number;
   kept : KeepsView g.V.View.content g.V.View.kept g.V.View.faults l.initial.view l.view;
+  counted : g.V.View.faults l.view ≡ g.V.View.faults l.initial.view;
 }

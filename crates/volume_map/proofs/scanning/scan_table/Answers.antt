@@ -8,6 +8,7 @@ pub loop-number-init : goal.loop-number-init
 loop-number-init g c = record {
   scanned = scan_begins _ c.args.per c.args.cut (λ content. table_piece content c.args.per c.args.extents.now) _ c.new.ensures.items refl;
   kept = record { same = refl; stays = refl; later = omega arith };
+  counted = refl;
 }
 
 pub returns-in_err-step-clause-answer : goal.returns-in_err-step-clause-answer

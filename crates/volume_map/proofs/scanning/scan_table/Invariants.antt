@@ -1,4 +1,4 @@
-use Rattle.std.specs.Prelude.{IfSome}
+use Rattle.std.specs.Prelude.{IfSome, ◌≡◌}
 use Rattle.state_model.specs.Loads.{table_piece}
 use Rattle.volume_map.specs.Scans.{ScannedBelow}
 use Rattle.block_view.specs.Views.{KeepsView}
@@ -8,4 +8,5 @@ abbrev pub invariant-loop-number : goal.invariant-loop-number
 invariant-loop-number g l = record {
   scanned : IfSome (g.V.View.content l.initial.view) (λ c. ScannedBelow l.per l.cut (table_piece c l.per l.extents) l.number l.scan);
   kept : KeepsView g.V.View.content g.V.View.kept g.V.View.faults l.initial.view l.view;
+  counted : g.V.View.faults l.view ≡ g.V.View.faults l.initial.view;
 }

@@ -8,19 +8,21 @@ use Rattle.volume_map.proofs.walk.walk_table.Goals as goal
 pub loop-number-init : goal.loop-number-init
 loop-number-init g c = record {
   walked = walk_begins _ (λ content. table_piece content c.args.per c.args.extents.now) _ c.new.ensures.items c.new-2.ensures.items;
-  counted = ap (λ (xs : List (Option ℕ)). length xs) c.new-2.ensures.items ∙ sym (ap (λ (xs : List (Option Record)). length xs) c.new.ensures.items);
+  lengths = ap (λ (xs : List (Option ℕ)). length xs) c.new-2.ensures.items ∙ sym (ap (λ (xs : List (Option Record)). length xs) c.new.ensures.items);
   kept = record { same = refl; stays = refl; later = omega arith };
+  counted = refl;
 }
 
 pub loop-number-preserved : goal.loop-number-preserved
 loop-number-preserved g c = record {
   walked = walk_more _ (λ content. table_piece content c.args.per c.args.extents.now) c.loop-number.number _ c.loop-number.walk c.step.new.walk c.loop-number.invariant.walked (rw c.loop-number.invariant.kept.same at c.in_ok-step.ensures.answer);
-  counted = c.in_ok-step.ensures.counted c.loop-number.invariant.counted;
+  lengths = c.in_ok-step.ensures.lengths c.loop-number.invariant.lengths;
   kept = record {
     same = c.in_ok-step.ensures.kept.same ∙ c.loop-number.invariant.kept.same;
     stays = c.in_ok-step.ensures.kept.stays ∙ c.loop-number.invariant.kept.stays;
     later = omega (arith, c.loop-number.invariant.kept.later, c.in_ok-step.ensures.kept.later);
   };
+  counted = c.in_ok-step.ensures.counted ∙ c.loop-number.invariant.counted;
 }
 
 pub returns-in_err-step-clause-answer : goal.returns-in_err-step-clause-answer
