@@ -2,7 +2,7 @@
 ghost use Rattle.std.specs.Prelude.{◌≡◌, ◌<◌, ◌≤◌, ◌&&◌, List, Option, Ok, IfOk, IfSome, IsErrOf};
 ghost use Rattle.std.specs.List.{list_all};
 ghost use Rattle.host_base.specs.Answers.{GivesOrFails};
-ghost use Rattle.host_base.specs.Causes.{Rose};
+ghost use Rattle.host_base.specs.Causes.{Rose, Counts};
 ghost use Rattle.record_model.specs.Records.{Record as a_record};
 ghost use Rattle.stream_sizes.specs.Errors.{sizes_cause};
 ghost use Rattle.block_view.specs.Views.{KeepsView};
@@ -69,6 +69,7 @@ pub fn keeps_streams<V: View>(
     ensures value { (e : TablePlace) (files : List (Option a_record)) → IfSome (V.content view.old) (λ c. GivesOrFails (λ keeps. keeps) sizes_cause result (Ok (keeps_streams c (volume_with per clusters e files) number file.now))) }
     ensures kept { KeepsView V.content V.kept V.faults view.old view.new }
     ensures fault { IsErrOf result SizesFault.View → Rose (V.faults view.old) (V.faults view.new) }
+    ensures counted { Counts sizes_cause (V.faults view.old) (V.faults view.new) result }
 {
     if !keeps_shape(alloc, per, clusters, number, file)? {
         return Ok(false);

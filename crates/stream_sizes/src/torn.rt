@@ -1,7 +1,7 @@
 //! Blocks that must not be torn.
 ghost use Rattle.std.specs.Prelude.{◌≡◌, ◌==◌, ◌+◌, ◌*◌, ◌^◌, ◌<◌, ◌≤◌, ◌||◌, ℕ, nat_le, not, [], length, drop, find, Some, IfOk, IfSome, IsErrOf};
 ghost use Rattle.std.specs.List.{list_any, range_with_len};
-ghost use Rattle.host_base.specs.Causes.{Rose};
+ghost use Rattle.host_base.specs.Causes.{Rose, Counts};
 ghost use Rattle.disk_model.specs.declared.block.BlockKind.TheVariants.{FileRec as file_kind, Index as index_kind};
 ghost use Rattle.disk_model.specs.Sectors.{sectors};
 ghost use Rattle.record_model.specs.Values.{data_type};
@@ -11,6 +11,7 @@ ghost use Rattle.state_model.specs.Loads.{index_allocation};
 ghost use Rattle.state_model.specs.Rules.{implies};
 ghost use Rattle.state_model.specs.Streams.{holds, block_at, stream_of};
 ghost use Rattle.stream_map.specs.Runs.{AreSmall, HasSmallRuns};
+ghost use Rattle.stream_sizes.specs.Errors.{sizes_cause};
 ghost use Rattle.block_view.specs.Views.{KeepsView};
 ghost use Rattle.volume_model.specs.Sizes.{is_torn_at, begun, stream_has_torn, keeps_untorn};
 ghost use Rattle.volume_model.specs.Volumes.{table_file, mirror_file};
@@ -84,6 +85,7 @@ fn is_torn_at<V: View>(
     ensures value { IfSome (V.content view.old) (λ c. IfOk result (λ torn. torn ≡ is_torn_at c (block_at per runs.now kind n))) }
     ensures kept { KeepsView V.content V.kept V.faults view.old view.new }
     ensures fault { IsErrOf result SizesFault.View → Rose (V.faults view.old) (V.faults view.new) }
+    ensures counted { Counts sizes_cause (V.faults view.old) (V.faults view.new) result }
 {
     match block_at(per, runs, kind, n) {
         None => Ok(false),
@@ -110,6 +112,7 @@ fn has_torn_below<V: View>(
     ensures value { IfSome (V.content view.old) (λ c. IfOk result (λ torn. torn ≡ list_any (λ n. is_torn_at c (block_at per runs.now kind n)) (range_with_len 0 count))) }
     ensures kept { KeepsView V.content V.kept V.faults view.old view.new }
     ensures fault { IsErrOf result SizesFault.View → Rose (V.faults view.old) (V.faults view.new) }
+    ensures counted { Counts sizes_cause (V.faults view.old) (V.faults view.new) result }
 {
     let mut rest = runs;
     for n in 0..count {
@@ -148,6 +151,7 @@ fn has_torn<V: View>(
     ensures value { IfSome (V.content view.old) (λ c. IfOk result (λ torn. torn ≡ stream_has_torn c per kind (512 * sectors kind) (Some stream.now))) }
     ensures kept { KeepsView V.content V.kept V.faults view.old view.new }
     ensures fault { IsErrOf result SizesFault.View → Rose (V.faults view.old) (V.faults view.new) }
+    ensures counted { Counts sizes_cause (V.faults view.old) (V.faults view.new) result }
 {
     match stream {
         Stream::Held(_) => Ok(false),
@@ -172,6 +176,7 @@ fn stream_has_torn<V: View>(
     ensures value { IfSome (V.content view.old) (λ c. IfOk result (λ torn. torn ≡ stream_has_torn c per kind (512 * sectors kind) stream.now)) }
     ensures kept { KeepsView V.content V.kept V.faults view.old view.new }
     ensures fault { IsErrOf result SizesFault.View → Rose (V.faults view.old) (V.faults view.new) }
+    ensures counted { Counts sizes_cause (V.faults view.old) (V.faults view.new) result }
 {
     match stream {
         None => Ok(false),
@@ -195,6 +200,7 @@ fn is_untorn<V: View>(
     ensures value { IfSome (V.content view.old) (λ c. IfOk result (λ untorn. untorn ≡ not (stream_has_torn c per block (512 * sectors block) (stream_of kind name.now attrs.now)))) }
     ensures kept { KeepsView V.content V.kept V.faults view.old view.new }
     ensures fault { IsErrOf result SizesFault.View → Rose (V.faults view.old) (V.faults view.new) }
+    ensures counted { Counts sizes_cause (V.faults view.old) (V.faults view.new) result }
 {
     let stream = stream_of(alloc, kind, name, attrs)?;
     let torn = stream_has_torn(view, per, block, &stream, body)?;
@@ -214,6 +220,7 @@ fn keeps_records<V: View>(
     ensures value { IfSome (V.content view.old) (λ c. IfOk result (λ keeps. keeps ≡ implies ((number == table_file) || (number == mirror_file)) (not (stream_has_torn c per file_kind 1024 (stream_of data_type [] attrs.now))))) }
     ensures kept { KeepsView V.content V.kept V.faults view.old view.new }
     ensures fault { IsErrOf result SizesFault.View → Rose (V.faults view.old) (V.faults view.new) }
+    ensures counted { Counts sizes_cause (V.faults view.old) (V.faults view.new) result }
 {
     if number != TABLE && number != MIRROR {
         return Ok(true);
@@ -234,6 +241,7 @@ fn keeps_blocks<V: View>(
     ensures value { IfSome (V.content view.old) (λ c. IfOk result (λ keeps. keeps ≡ implies (is_directory_record file.now) (not (stream_has_torn c per index_kind 4096 (stream_of index_allocation names_index file.now.attrs))))) }
     ensures kept { KeepsView V.content V.kept V.faults view.old view.new }
     ensures fault { IsErrOf result SizesFault.View → Rose (V.faults view.old) (V.faults view.new) }
+    ensures counted { Counts sizes_cause (V.faults view.old) (V.faults view.new) result }
 {
     if !is_directory(file) {
         return Ok(true);
@@ -271,6 +279,7 @@ pub fn keeps_untorn<V: View>(
     ensures value { IfSome (V.content view.old) (λ c. IfOk result (λ keeps. keeps ≡ keeps_untorn c per number file.now)) }
     ensures kept { KeepsView V.content V.kept V.faults view.old view.new }
     ensures fault { IsErrOf result SizesFault.View → Rose (V.faults view.old) (V.faults view.new) }
+    ensures counted { Counts sizes_cause (V.faults view.old) (V.faults view.new) result }
 {
     if !keeps_records(alloc, view, per, number, file.attrs().as_slice(), body)? {
         return Ok(false);

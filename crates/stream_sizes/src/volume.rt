@@ -2,7 +2,7 @@
 ghost use Rattle.std.specs.Prelude.{◌≡◌, ◌==◌, ◌<◌, ◌≤◌, ◌*◌, ◌&&◌, [], nat_le, max, length, Ok, IfOk, IfSome, IsErrOf};
 ghost use Rattle.std.specs.Option.{option_copied};
 ghost use Rattle.host_base.specs.Answers.{GivesOrFails};
-ghost use Rattle.host_base.specs.Causes.{Rose};
+ghost use Rattle.host_base.specs.Causes.{Rose, Counts};
 ghost use Rattle.record_model.specs.Values.{data_type};
 ghost use Rattle.state_model.specs.Files.{is_base_record, only_base, file_at};
 ghost use Rattle.state_model.specs.Loads.{table_in};
@@ -139,6 +139,7 @@ fn keeps_file<V: View>(
     ensures value { (e : TablePlace) → IfSome (V.content view.old) (λ c. IfOk result (λ keeps. keeps ≡ at_file (keeps_streams c (volume_with per clusters e files.now) number) (file_at (table_in files.now) number))) }
     ensures kept { KeepsView V.content V.kept V.faults view.old view.new }
     ensures fault { IsErrOf result SizesFault.View → Rose (V.faults view.old) (V.faults view.new) }
+    ensures counted { Counts sizes_cause (V.faults view.old) (V.faults view.new) result }
 {
     match file_at(files, number) {
         None => Ok(true),
@@ -161,6 +162,7 @@ fn keeps_sizes<V: View>(
     ensures value { (e : TablePlace) → IfSome (V.content view.old) (λ c. IfOk result (λ keeps. keeps ≡ keeps_sizes c (volume_with per clusters e files.now) number)) }
     ensures kept { KeepsView V.content V.kept V.faults view.old view.new }
     ensures fault { IsErrOf result SizesFault.View → Rose (V.faults view.old) (V.faults view.new) }
+    ensures counted { Counts sizes_cause (V.faults view.old) (V.faults view.new) result }
 {
     if !keeps_bitmaps(alloc, per, clusters, files, number)? {
         return Ok(false);
@@ -192,6 +194,7 @@ pub fn first_broken<V: View>(
     ensures value { (e : TablePlace) → IfSome (V.content view.old) (λ c. GivesOrFails (λ number. number) sizes_cause result (Ok (first_failing (keeps_sizes c (volume_with per clusters e files.now)) (max (length files.now) 7)))) }
     ensures kept { KeepsView V.content V.kept V.faults view.old view.new }
     ensures fault { IsErrOf result SizesFault.View → Rose (V.faults view.old) (V.faults view.new) }
+    ensures counted { Counts sizes_cause (V.faults view.old) (V.faults view.new) result }
 {
     let count = (files.len() as u64).max(LEAST_COUNT);
     for number in 0..count {

@@ -14,4 +14,5 @@ invariant-loop-n g l = record {
   small : AreSmall l.rest;
   same : (k : ℕ) → l.n ≤ k → block_at l.per l.rest l.kind k ≡ block_at l.per l.runs l.kind k;
   kept : KeepsView g.V.View.content g.V.View.kept g.V.View.faults l.initial.view l.view;
+  counted : g.V.View.faults l.view ≡ g.V.View.faults l.initial.view;
 }

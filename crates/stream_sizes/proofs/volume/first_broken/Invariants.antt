@@ -11,4 +11,5 @@ abbrev pub invariant-loop-number : goal.invariant-loop-number
 invariant-loop-number g l = record {
   left : (e : TablePlace) → IfSome (g.V.View.content l.initial.view) (λ c. find (λ n. not (keeps_sizes c (volume_with l.per l.clusters e l.files) n)) (range_with_len 0 l.count) ≡ find (λ n. not (keeps_sizes c (volume_with l.per l.clusters e l.files) n)) (range_with_len l.number (l.count - l.number)));
   kept : KeepsView g.V.View.content g.V.View.kept g.V.View.faults l.initial.view l.view;
+  counted : g.V.View.faults l.view ≡ g.V.View.faults l.initial.view;
 }
