@@ -21,9 +21,9 @@ pub told_known : (known : Option Reads) (above v : ℕ) (e : ReadFault) → IfSo
 told_known known above v e h = one known (λ r. ExplainsOrFails (read_cause e) (r v)) (λ r. ExplainsOrFails (way_cause (told above v e)) (read_by above v (r v))) (λ r p. told_of above v e (r v) p) h
 
 pub fails_told : {T : Type 0} (before now above v : ℕ) (e : ReadFault) → ReadFails {T = T} before now (Err e) → Fails {T = T} before now (Err (told above v e))
-fails_told before now above v (reading.Rule rule) h = record { later = h.later; failed = tt }
-fails_told before now above v reading.Failed h = record { later = h.later; failed = h.failed }
-fails_told before now above v reading.Memory h = record { later = h.later; failed = tt }
+fails_told before now above v (reading.Rule rule) h = record { later = h.later; counted = h.counted }
+fails_told before now above v reading.Failed h = record { later = h.later; counted = h.counted }
+fails_told before now above v reading.Memory h = record { later = h.later; counted = h.counted }
 
 -- an error that ends the whole
 pub ends : {A B : Type 0} (e : PlanFault) (part : Result A Broken) (whole : Result B Broken) → ((broken : Broken) → part ≡ Err broken → whole ≡ Err broken) → ExplainsOrFails (way_cause e) part → ExplainsOrFails (way_cause e) whole

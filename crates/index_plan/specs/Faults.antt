@@ -1,7 +1,7 @@
 -- Why no plan is made.
-use Rattle.std.specs.Prelude.{◌≡◌, ℕ, ◌≤◌, Option, Some, None, Result, Ok, Err, IfErr, nat_eq, if◌then◌else◌}
+use Rattle.std.specs.Prelude.{◌≡◌, ℕ, ◌≤◌, Option, Some, None, Result, Ok, Err, nat_eq, if◌then◌else◌}
 use Rattle.host_base.specs.Answers.{Cause, refused, no_memory, failed, never}
-use Rattle.host_base.specs.Causes.{Rose}
+use Rattle.host_base.specs.Causes.{Counts}
 use Rattle.index_plan.specs.declared.fault.PlanFault.{PlanFault}
 use Rattle.index_plan.specs.declared.fault.PlanFault.TheVariants.{Node, Absent, Deep, Failed, Memory}
 use Rattle.index_plan.specs.declared.fault.ReadFault.{ReadFault}
@@ -77,23 +77,19 @@ OnlyReading (Deep height) = ⊥
 OnlyReading Failed = Unit {0}
 OnlyReading Memory = Unit {0}
 
-abbrev pub OnFailed : PlanFault → Type 0 → Type 0
-OnFailed Failed P = P
-OnFailed (Node vcn rule) P = Unit {0}
-OnFailed Absent P = Unit {0}
-OnFailed (Deep height) P = Unit {0}
-OnFailed Memory P = Unit {0}
+-- of each call of a plan: a refusal is any other error than a failure of the nodes or want of memory
+abbrev pub plan_cause : PlanFault → Cause PlanFault
+plan_cause (Node vcn rule) = refused (Node vcn rule)
+plan_cause Absent = refused Absent
+plan_cause (Deep height) = refused (Deep height)
+plan_cause Failed = failed
+plan_cause Memory = no_memory
 
-abbrev pub OnReadFailed : ReadFault → Type 0 → Type 0
-OnReadFailed reading.Failed P = P
-OnReadFailed (reading.Rule rule) P = Unit {0}
-OnReadFailed reading.Memory P = Unit {0}
-
--- a count of faults did not fall, and rose where a node could not be read
+-- a count of faults rose where a node could not be read, and is as it was in each other answer
 pub record ReadFails {T : Type 0} (before now : ℕ) (result : Result T ReadFault) : Type 0 where
   pub later : before ≤ now
-  pub failed : IfErr result (λ e. OnReadFailed e (Rose before now))
+  pub counted : Counts read_cause before now result
 
 pub record Fails {T : Type 0} (before now : ℕ) (result : Result T PlanFault) : Type 0 where
   pub later : before ≤ now
-  pub failed : IfErr result (λ e. OnFailed e (Rose before now))
+  pub counted : Counts plan_cause before now result

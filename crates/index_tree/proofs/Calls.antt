@@ -23,9 +23,9 @@ refused_none meant b links e f = let g : ◌≡◌ {A = Result (List Link) Broke
 walk_gives_at : (c : Content) (p : Place) (upper value : List ℕ) (before now : ℕ) (result : Result (List Link) TreeFault) → FailsByView before now result → GivesOrFails (λ links. links) tree_cause result (walk_of c p upper value) → WalkGives c p upper value result
 walk_gives_at c p upper value before now (Ok links) f h = passed_walk c p upper value links h
 walk_gives_at c p upper value before now (Err (Node vcn rule)) f h = (walk_breaks c p upper value (record { vcn = vcn; rule = rule }) h, λ t held. refused_none (walk_of c p upper value) (record { vcn = vcn; rule = rule }) (links_of (walk t)) h (walk_passes c p upper value t held))
-walk_gives_at c p upper value before now (Err Present) f h = f.rose
-walk_gives_at c p upper value before now (Err Absent) f h = f.rose
-walk_gives_at c p upper value before now (Err (Deep height)) f h = f.rose
+walk_gives_at c p upper value before now (Err Present) f h = f.counted
+walk_gives_at c p upper value before now (Err Absent) f h = f.counted
+walk_gives_at c p upper value before now (Err (Deep height)) f h = f.counted
 walk_gives_at c p upper value before now (Err (View cause)) f h = tt
 
 pub walk_gives : (known : Option Content) (p : Place) (upper value : List ℕ) (before now : ℕ) (result : Result (List Link) TreeFault) → FailsByView before now result → IfSome known (λ c. GivesOrFails (λ links. links) tree_cause result (walk_of c p upper value)) → IfSome known (λ c. WalkGives c p upper value result)
@@ -37,9 +37,9 @@ found_links links others meant e f = let g : ◌≡◌ {A = Result (List Link) B
 find_gives_at : (c : Content) (p : Place) (upper name value : List ℕ) (before now : ℕ) (result : Result (List Link) TreeFault) → FailsByView before now result → GivesOrFails (λ links. links) tree_cause result (find_of c p upper name value) → FindGives c p upper name value result
 find_gives_at c p upper name value before now (Ok links) f h = λ t held. found_links links (filter (is_sought upper name) (links_of (walk t))) (find_of c p upper name value) h (find_passes c p upper name value t held)
 find_gives_at c p upper name value before now (Err (Node vcn rule)) f h = (find_breaks c p upper name value (record { vcn = vcn; rule = rule }) h, λ t held. refused_none (find_of c p upper name value) (record { vcn = vcn; rule = rule }) (filter (is_sought upper name) (links_of (walk t))) h (find_passes c p upper name value t held))
-find_gives_at c p upper name value before now (Err Present) f h = f.rose
-find_gives_at c p upper name value before now (Err Absent) f h = f.rose
-find_gives_at c p upper name value before now (Err (Deep height)) f h = f.rose
+find_gives_at c p upper name value before now (Err Present) f h = f.counted
+find_gives_at c p upper name value before now (Err Absent) f h = f.counted
+find_gives_at c p upper name value before now (Err (Deep height)) f h = f.counted
 find_gives_at c p upper name value before now (Err (View cause)) f h = tt
 
 pub find_gives : (known : Option Content) (p : Place) (upper name value : List ℕ) (before now : ℕ) (result : Result (List Link) TreeFault) → FailsByView before now result → IfSome known (λ c. GivesOrFails (λ links. links) tree_cause result (find_of c p upper name value)) → IfSome known (λ c. FindGives c p upper name value result)

@@ -2,6 +2,7 @@
 use Rattle.std.proofs.Common.{◌≡◌, ℕ, zero, suc, ◌+◌, ◌<◌, ◌≤◌, List, [], ◌∷◌, ◌++◌, length, get_or, drop, drop-cons, Option, Result, Ok, Err, refl, sym, ap, ◌∙◌, subst, add-one, arith}
 use Rattle.std.specs.Prelude.{IfSome}
 use Rattle.host_base.specs.Answers.{◌>>=◌, Cause, refused, no_memory, failed, never, Explains, ExplainsOrFails, Gives, GivesOrFails}
+use Rattle.host_base.specs.Causes.{CountsCause}
 use Rattle.host_base.proofs.Known.{both, one, always}
 use Rattle.disk_model.specs.Content.{Content}
 use Rattle.record_model.specs.declared.entry.Entry.{Entry}
@@ -11,7 +12,7 @@ use Rattle.index_model.proofs.Steps.{all_judged-append, met_in_next, met_in_end}
 use Rattle.index_tree.specs.declared.fault.TreeFault.{TreeFault}
 use Rattle.index_tree.specs.declared.fault.TreeFault.TheVariants.{Node, Present, Absent, Deep, View}
 use Rattle.block_view.specs.declared.fault.ViewFault.TheVariants.{Fault, Memory}
-use Rattle.index_tree.specs.Faults.{tree_cause, broken_at, FaultRose, FailsByView}
+use Rattle.index_tree.specs.Faults.{tree_cause, broken_at, FailsByView}
 
 -- ---- errors
 
@@ -28,20 +29,18 @@ or_fails failed meant h = absurd h
 or_fails never meant h = absurd h
 
 -- a call that reads no view fails by none
-no_view : {A : Type 0} (before now : ℕ) (e : TreeFault) (meant : Result A Broken) → Explains (tree_cause e) meant → FaultRose before now e
-no_view before now (Node vcn rule) meant h = tt
-no_view before now Present meant h = absurd h
-no_view before now Absent meant h = absurd h
-no_view before now (Deep height) meant h = absurd h
-no_view before now (View Fault) meant h = absurd h
-no_view before now (View Memory) meant h = tt
+no_view : {A : Type 0} (before now : ℕ) (cause : Cause Broken) (meant : Result A Broken) → now ≡ before → Explains cause meant → CountsCause before now cause
+no_view before now (refused b) meant same h = same
+no_view before now no_memory meant same h = same
+no_view before now failed meant same h = absurd h
+no_view before now never meant same h = absurd h
 
-pub quiet : {X A : Type 0} (before now : ℕ) (view : X → A) (result : Result X TreeFault) (meant : Result A Broken) → before ≤ now → Gives view tree_cause result meant → FailsByView before now result
-quiet before now view (Ok x) meant later h = record { later = later; rose = tt }
-quiet before now view (Err e) meant later h = record { later = later; rose = no_view before now e meant h }
+pub quiet : {X A : Type 0} (before now : ℕ) (view : X → A) (result : Result X TreeFault) (meant : Result A Broken) → now ≡ before → Gives view tree_cause result meant → FailsByView before now result
+quiet before now view (Ok x) meant same h = record { later = omega arith; counted = same }
+quiet before now view (Err e) meant same h = record { later = omega arith; counted = no_view before now (tree_cause e) meant same h }
 
-pub quiet_err : {X A : Type 0} (before now : ℕ) (e : TreeFault) (meant : Result A Broken) → before ≤ now → Explains (tree_cause e) meant → FailsByView {T = X} before now (Err e)
-quiet_err before now e meant later h = record { later = later; rose = no_view before now e meant h }
+pub quiet_err : {X A : Type 0} (before now : ℕ) (e : TreeFault) (meant : Result A Broken) → now ≡ before → Explains (tree_cause e) meant → FailsByView {T = X} before now (Err e)
+quiet_err before now e meant same h = record { later = omega arith; counted = no_view before now (tree_cause e) meant same h }
 
 -- ---- events one after the other
 

@@ -1,7 +1,7 @@
 -- Where an error of a call over an index comes from.
-use Rattle.std.specs.Prelude.{◌≡◌, ℕ, ◌≤◌, ⊤, List, Option, Some, None, Result, Ok, Err, IfErr, Bool, true, false}
+use Rattle.std.specs.Prelude.{◌≡◌, ℕ, ◌≤◌, ⊤, List, Option, Some, None, Result, Ok, Err, Bool, true, false}
 use Rattle.host_base.specs.Answers.{Cause, refused, no_memory, failed, never}
-use Rattle.host_base.specs.Causes.{Rose}
+use Rattle.host_base.specs.Causes.{Counts}
 use Rattle.block_view.specs.declared.fault.ViewFault.{ViewFault}
 use Rattle.block_view.specs.declared.fault.ViewFault.TheVariants.{Fault, Memory}
 use Rattle.index_model.specs.declared.side.Side.{Side}
@@ -26,28 +26,16 @@ tree_cause Absent = never
 tree_cause (Deep height) = never
 tree_cause (View cause) = view_cause cause
 
--- the view's faults rose where it failed
-abbrev pub ViewRose : ℕ → ℕ → ViewFault → Type 0
-ViewRose before now Fault = Rose before now
-ViewRose before now Memory = ⊤
-
--- the error of a call that only reads: a node at fault, or a view whose faults rose where it failed; no other one comes
-abbrev pub FaultRose : ℕ → ℕ → TreeFault → Type 0
-FaultRose before now (Node vcn rule) = ⊤
-FaultRose before now Present = ⊥
-FaultRose before now Absent = ⊥
-FaultRose before now (Deep height) = ⊥
-FaultRose before now (View cause) = ViewRose before now cause
-
--- the view's faults did not fall, and rose where the call failed by them
+-- The view's faults rose where it failed, and are as they were in each other answer. An error is a node at fault, one of the view, or
+-- want of memory; no other one comes.
 pub record FailsByView {T : Type 0} (before now : ℕ) (result : Result T TreeFault) : Type 0 where
   pub later : before ≤ now
-  pub rose : IfErr result (FaultRose before now)
+  pub counted : Counts tree_cause before now result
 
 -- the same of a call that fails as a view alone
 pub record FailsAsView {T : Type 0} (before now : ℕ) (result : Result T ViewFault) : Type 0 where
   pub later : before ≤ now
-  pub rose : IfErr result (ViewRose before now)
+  pub counted : Counts view_cause before now result
 
 -- the node with this VCN, or it as the one at fault
 abbrev pub broken_at : {A : Type 0} → ℕ → Result A ℕ → Result A Broken

@@ -18,7 +18,7 @@ loop-level-init g c = record {
   sized = spots_nil c.new-path.result.items c.new-path.ensures.items;
   few = nil_length c.new-path.result.items 0 c.new-path.ensures.items;
   unchanged = refl;
-  later = omega arith;
+  counted = refl;
 }
 
 pub loop-level-preserved : goal.loop-level-preserved
@@ -29,7 +29,7 @@ loop-level-preserved g c = record {
   sized = spots_more c.loop-level.path.items _ c.new.result c.in_ok-push.ensures.pushed c.loop-level.invariant.sized (rw c.new.ensures c.in_ok-node.ensures.sized);
   few = more_length c.loop-level.path.items _ c.new.result c.loop-level.level c.in_ok-push.ensures.pushed c.loop-level.invariant.few;
   unchanged = c.in_ok-node.ensures.unchanged ∙ c.loop-level.invariant.unchanged;
-  later = let a = c.in_ok-node.ensures.cause.later in let b = c.loop-level.invariant.later in omega arith;
+  counted = c.in_ok-node.ensures.cause.counted ∙ c.loop-level.invariant.counted;
 }
 
 pub returns-in_err-node-clause-way : goal.returns-in_err-node-clause-way

@@ -10,5 +10,5 @@ invariant-loop-level g l = record {
   sized : EachSpotSized l.path.items;
   few : length l.path.items ≤ l.level;
   unchanged : g.N.Nodes.reads l.nodes ≡ g.N.Nodes.reads l.initial.nodes;
-  later : g.N.Nodes.faults l.initial.nodes ≤ g.N.Nodes.faults l.nodes;
+  counted : g.N.Nodes.faults l.nodes ≡ g.N.Nodes.faults l.initial.nodes;
 }

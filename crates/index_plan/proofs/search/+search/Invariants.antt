@@ -1,4 +1,4 @@
-use Rattle.std.proofs.Common.{◌≡◌, ◌≤◌, ◌+◌, ◌*◌}
+use Rattle.std.proofs.Common.{◌≡◌, ◌+◌, ◌*◌}
 use Rattle.index_plan.proofs.Looking.{SeekIs}
 use Rattle.index_plan.proofs.search.+search.Given as goal
 
@@ -15,5 +15,5 @@ abbrev pub invariant-seek_in-loop-at : goal.invariant-seek_in-loop-at
 invariant-seek_in-loop-at g l = record {
   sought : SeekIs (g.N.Nodes.reads l.initial.nodes) (g.T.Target.side l.target) l.levels l.vcn l.node l.at;
   unchanged : g.N.Nodes.reads l.nodes ≡ g.N.Nodes.reads l.initial.nodes;
-  later : g.N.Nodes.faults l.initial.nodes ≤ g.N.Nodes.faults l.nodes;
+  counted : g.N.Nodes.faults l.nodes ≡ g.N.Nodes.faults l.initial.nodes;
 }

@@ -11,7 +11,7 @@ loop-level-preserved g c = record {
       c.loop-level.invariant.unchanged (omega arith) c.in-Some.is c.in_ok-entries.ensures.node c.last_down-down.ensures c.in_ok-push.ensures.pushed c.loop-level.invariant.chain;
   sized = nodes_more c.loop-level.chain.items _ _ c.in_ok-push.ensures.pushed c.loop-level.invariant.sized c.in_ok-entries.ensures.sized;
   unchanged = c.in_ok-entries.ensures.unchanged ∙ c.loop-level.invariant.unchanged;
-  later = let a = c.in_ok-entries.ensures.cause.later in let b = c.loop-level.invariant.later in omega arith;
+  counted = c.in_ok-entries.ensures.cause.counted ∙ c.loop-level.invariant.counted;
 }
 
 pub returns-in_err-entries-clause-chain : goal.returns-in_err-entries-clause-chain

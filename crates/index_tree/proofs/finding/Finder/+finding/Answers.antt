@@ -28,7 +28,7 @@ entries-loop-entry-preserved g t c = record {
       c.loop-entry.invariant.same c.loop-entry-test.true c.entry-item.is (sym (ap is_behind c.in_ok-side.ensures.side) ∙ sym c.is_behind.ensures ∙ c.if-is_behind.false) c.loop-entry.invariant.rest c.in_ok-side.ensures.value;
   same = c.in_ok-side.ensures.same ∙ c.loop-entry.invariant.same;
   kept = c.in_ok-side.ensures.kept ∙ c.loop-entry.invariant.kept;
-  later = omega (arith, c.loop-entry.invariant.later, c.in_ok-side.ensures.cause.later);
+  counted = c.in_ok-side.ensures.cause.counted ∙ c.loop-entry.invariant.counted;
 }
 
 pub entries-returns-clause-value : goal.entries-returns-clause-value
@@ -54,7 +54,7 @@ entry-returns-in_err-find-clause-value g t c =
 pub entry-returns-in_err-find-clause-cause : goal.entry-returns-in_err-find-clause-cause
 entry-returns-in_err-find-clause-cause g t c =
     let p = err_from_is_err_and c.from_residual-in_err-find.result c.from_residual-in_err-find.ensures.1 in
-    rw (p.1, p.2) (quiet_err _ _ _ _ c.in_ok-beside.ensures.cause.later (c.in_err-find.ensures (place_of c.args.self.now.dir.now) c.args.self.now.up.now))
+    rw (p.1, p.2) (quiet_err _ _ _ _ c.in_ok-beside.ensures.cause.counted (c.in_err-find.ensures (place_of c.args.self.now.dir.now) c.args.self.now.up.now))
 
 pub entry-returns-clause-value : goal.entry-returns-clause-value
 entry-returns-clause-value g t c =

@@ -26,5 +26,5 @@ invariant-entries-loop-entry g l = record {
   rest : IfSome (g.V.View.content l.initial.v) (λ c. all_judged (place_of l.self.dir.now) l.self.up.now l.met (sought_in l.self.up.now l.self.name.now (node_of_block c (place_of l.self.dir.now)) l.levels l.vcn (drop l.entry-index l.entries)) ≡ all_judged (place_of l.self.dir.now) l.self.up.now l.initial.met (sought_in l.self.up.now l.self.name.now (node_of_block c (place_of l.self.dir.now)) l.levels l.vcn l.entries));
   same : g.V.View.content l.v ≡ g.V.View.content l.initial.v;
   kept : g.V.View.kept l.v ≡ g.V.View.kept l.initial.v;
-  later : g.V.View.faults l.initial.v ≤ g.V.View.faults l.v;
+  counted : g.V.View.faults l.v ≡ g.V.View.faults l.initial.v;
 }

@@ -21,7 +21,7 @@ entries-loop-entry-preserved g t c = record {
       c.loop-entry.invariant.same c.loop-entry-test.true c.entry-item.is c.loop-entry.invariant.rest c.in_ok-entry.ensures.value;
   same = c.in_ok-entry.ensures.same ∙ c.loop-entry.invariant.same;
   kept = c.in_ok-entry.ensures.kept ∙ c.loop-entry.invariant.kept;
-  later = omega (arith, c.loop-entry.invariant.later, c.in_ok-entry.ensures.cause.later);
+  counted = c.in_ok-entry.ensures.cause.counted ∙ c.loop-entry.invariant.counted;
 }
 
 pub entries-returns-clause-value : goal.entries-returns-clause-value
@@ -41,4 +41,4 @@ entry-returns-clause-value g t c =
     c.in_ok-below.ensures.value (c.key.ensures (place_of c.args.self.now.dir.now))
 
 pub entry-returns-clause-cause : goal.entry-returns-clause-cause
-entry-returns-clause-cause g t c = quiet _ _ _ c.key.result _ c.in_ok-below.ensures.cause.later (c.key.ensures (place_of c.args.self.now.dir.now))
+entry-returns-clause-cause g t c = quiet _ _ _ c.key.result _ c.in_ok-below.ensures.cause.counted (c.key.ensures (place_of c.args.self.now.dir.now))
