@@ -1,7 +1,7 @@
 //! The pages of the journal from a position on.
 ghost use Rattle.std.specs.Prelude.{◌≡◌, ◌+◌, ◌-◌, ◌*◌, ◌/◌, ◌^◌, ◌<◌, ◌≤◌, ◌++◌, Vec, min, length, take, All, IfOk, OnOk, IfSome, IsOk, Ok, IsErrOf};
 ghost use Rattle.host_base.specs.Answers.{GivesOrFails};
-ghost use Rattle.host_base.specs.Causes.{Rose};
+ghost use Rattle.host_base.specs.Causes.{Rose, Counts};
 ghost use Rattle.tree_model.specs.declared.journal.Usn.{Usn as UsnOf};
 ghost use Rattle.journal_model.specs.Journals.{page_entries};
 ghost use Rattle.state_model.specs.Streams.{byte_at};
@@ -47,6 +47,7 @@ fn read_bytes<V: View>(
     ensures ends { IfOk result (λ entries. All (λ (entry : UsnOf). usn_end entry ≤ PAGE * number + PAGE) entries) }
     ensures kept { KeepsView V.content V.kept V.faults view.old view.new }
     ensures fault { IsErrOf result PageFault.View → Rose (V.faults view.old) (V.faults view.new) }
+    ensures counted { Counts page_cause (V.faults view.old) (V.faults view.new) result }
 {
     let begin = PAGE * number;
     fill(view, per, extents, begin, body, page)?;
@@ -76,6 +77,7 @@ fn read_number<V: View>(
     ensures ends { IfOk result (λ entries. All (λ (entry : UsnOf). usn_end entry ≤ PAGE * number + PAGE) entries) }
     ensures kept { KeepsView V.content V.kept V.faults view.old view.new }
     ensures fault { IsErrOf result PageFault.View → Rose (V.faults view.old) (V.faults view.new) }
+    ensures counted { Counts page_cause (V.faults view.old) (V.faults view.new) result }
 {
     let count = (extents.real - PAGE * number).min(PAGE) as usize;
     read_bytes(
@@ -136,6 +138,7 @@ pub fn read_pages<V: View>(
     ensures ends { IfOk result (λ found. All (λ (entry : UsnOf). usn_end entry < 2 ^ 64) found.items) }
     ensures kept { KeepsView V.content V.kept V.faults view.old view.new }
     ensures fault { IsErrOf result PageFault.View → Rose (V.faults view.old) (V.faults view.new) }
+    ensures counted { Counts page_cause (V.faults view.old) (V.faults view.new) result }
 {
     let end = (extents.real + (PAGE - 1)) / PAGE;
     let mut found = Vec::new(alloc);

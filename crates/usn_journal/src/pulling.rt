@@ -1,6 +1,6 @@
 ghost use Rattle.std.specs.Prelude.{◌≡◌, ◌+◌, ◌*◌, ◌^◌, ◌<◌, ◌≤◌, not, find, length, All, IfOk, IfErr, IfSome, IsOk, Ok, Err, IsErrOf};
 ghost use Rattle.host_base.specs.Answers.{GivesOrFails};
-ghost use Rattle.host_base.specs.Causes.{Rose};
+ghost use Rattle.host_base.specs.Causes.{Rose, Counts};
 ghost use Rattle.tree_model.specs.declared.journal.Usn.{Usn as UsnOf};
 ghost use Rattle.stream_map.specs.Runs.{AreSmall};
 ghost use Rattle.block_view.specs.Views.{KeepsView};
@@ -118,6 +118,7 @@ fn pull_inside<V: View>(
     ensures inside { IfErr result IsInside }
     ensures kept { KeepsView V.content V.kept V.faults view.old view.new }
     ensures fault { IsErrOf result PullFault.View → Rose (V.faults view.old) (V.faults view.new) }
+    ensures counted { Counts pull_cause (V.faults view.old) (V.faults view.new) result }
 {
     let next = extents.real;
     if next >= MOST_READ {
@@ -171,6 +172,7 @@ pub fn read_from<V: View>(
     ensures inside { journal_first per extents.now ≤ from → from ≤ extents.now.real → IfErr result IsInside }
     ensures kept { KeepsView V.content V.kept V.faults view.old view.new }
     ensures fault { IsErrOf result PullFault.View → Rose (V.faults view.old) (V.faults view.new) }
+    ensures counted { Counts pull_cause (V.faults view.old) (V.faults view.new) result }
 {
     let next = extents.real;
     let first = first_place(per, extents) as u64;

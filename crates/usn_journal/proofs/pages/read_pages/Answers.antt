@@ -12,6 +12,7 @@ loop-number-init g c = record {
   left = known_start _ c.args.per c.args.extents.now c.args.from c.new-found.result.items (omega (arith, c.requires.first, c.requires.begun)) c.requires.left c.new-found.ensures.items c.requires.whole;
   ends = none_ends c.new-found.result.items c.new-found.ensures.items;
   kept = record { same = refl; stays = refl; later = omega arith };
+  counted = refl;
 }
 
 pub returns-in_err-entries-clause-value : goal.returns-in_err-entries-clause-value
@@ -60,6 +61,7 @@ loop-number-preserved g c =
         stays = c.in_ok-entries.ensures.kept.stays ∙ c.loop-number.invariant.kept.stays;
         later = omega (arith, c.loop-number.invariant.kept.later, c.in_ok-entries.ensures.kept.later);
       };
+      counted = c.in_ok-entries.ensures.counted ∙ c.loop-number.invariant.counted;
     }
 
 pub returns-clause-value : goal.returns-clause-value

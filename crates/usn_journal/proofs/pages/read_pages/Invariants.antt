@@ -1,4 +1,4 @@
-use Rattle.std.proofs.Common.{◌/◌, ◌<◌, ◌≤◌, ◌^◌, All}
+use Rattle.std.proofs.Common.{◌≡◌, ◌/◌, ◌<◌, ◌≤◌, ◌^◌, All}
 use Rattle.tree_model.specs.declared.journal.Usn.{Usn}
 use Rattle.block_view.specs.Views.{KeepsView}
 use Rattle.usn_journal.specs.Pulls.{usn_end}
@@ -11,4 +11,5 @@ invariant-loop-number g l = record {
   left : KnownLeft (g.V.View.content l.initial.view) l.per l.extents l.from l.number l.found.items;
   ends : All (λ (entry : Usn). usn_end entry < 2 ^ 64) l.found.items;
   kept : KeepsView g.V.View.content g.V.View.kept g.V.View.faults l.initial.view l.view;
+  counted : g.V.View.faults l.view ≡ g.V.View.faults l.initial.view;
 }

@@ -1,5 +1,5 @@
-use Rattle.std.proofs.Common.{◌≡◌, ℕ, ◌+◌, ◌*◌, ◌≤◌, false, length, sym, ap, ◌∙◌, arith}
-use Rattle.disk_model.specs.Bytes.{zeros, written}
+use Rattle.std.proofs.Common.{◌≡◌, ℕ, ◌*◌, ◌≤◌, false, length, ap, ◌∙◌, arith}
+use Rattle.disk_model.specs.Bytes.{zeros}
 use Rattle.disk_model.specs.Bodies.{BodyOf}
 use Rattle.disk_model.specs.Sectors.{sectors}
 use Rattle.disk_model.specs.declared.block.BlockKind.{BlockKind}
