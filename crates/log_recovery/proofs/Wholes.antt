@@ -6,6 +6,7 @@ use Rattle.std.proofs.lemmas.Bool.{le-ltb}
 use Rattle.std.proofs.Math.Nat.{le_trans}
 use Rattle.std.proofs.Math.Pow.{pow_mono}
 use Rattle.host_base.specs.Answers.{◌>>=◌, needs, ExplainsOrFails}
+use Rattle.host_base.specs.Causes.{Counts}
 use Rattle.host_base.proofs.Known.{both, one}
 use Rattle.disk_model.specs.Content.{Content}
 use Rattle.log_model.specs.declared.entry.Entry.{Entry}
@@ -67,6 +68,17 @@ readable_no_fault None first second front h = by_test (is_emptied first second) 
 pub front_no_fault : (first second : List ℕ) (result : Result Front RecoveryFault) → result ≡ front_in first second → IsErrOf result Fault → ⊥
 unfolding front_in
 front_no_fault first second result is h = readable_no_fault (chosen_in first second) first second _ (subst (λ (r : Result Front RecoveryFault). IsErrOf r Fault) is h)
+
+-- ---- counts
+
+-- an answer that isn't a fault of the view, of a call after which the count is as it was
+pub counted_unless : {T : Type 0} (result : Result T RecoveryFault) (before now : ℕ) → (IsErrOf result Fault → ⊥) → now ≡ before → Counts recovery_cause before now result
+counted_unless (Ok x) before now no_fault same = same
+counted_unless (Err (LogVersion major minor)) before now no_fault same = same
+counted_unless (Err NoRestart) before now no_fault same = same
+counted_unless (Err (ForeignLog lsn)) before now no_fault same = same
+counted_unless (Err Fault) before now no_fault same = absurd (no_fault refl)
+counted_unless (Err Memory) before now no_fault same = same
 
 -- ---- blocks
 

@@ -2,10 +2,10 @@
 ghost use Rattle.std.specs.Prelude.{◌≡◌, ◌*◌, ◌≤◌, false, length, All, IfOk, IfSome, IfErr, IsErrOf};
 ghost use Rattle.std.specs.Ordering.{nat_cmp};
 ghost use Rattle.std.specs.BTreeSet.{contains};
-ghost use Rattle.host_base.specs.Causes.{Rose};
+ghost use Rattle.host_base.specs.Causes.{Rose, Counts};
 ghost use Rattle.disk_model.specs.Sectors.{sectors};
 ghost use Rattle.block_view.specs.Views.{KeepsView};
-ghost use Rattle.log_reading.specs.Views.{NeverForeign};
+ghost use Rattle.log_reading.specs.Views.{NeverForeign, recovery_cause};
 ghost use Rattle.log_recovery.specs.Blocks.{Judges, shadowed_by};
 ghost use Rattle.log_recovery.specs.Groups.{lent, LentLies};
 ghost use Rattle.log_recovery.specs.Finding.{IsSizedFor};
@@ -77,6 +77,7 @@ pub fn judge<V: View>(
     ensures never { IfErr result NeverForeign }
     ensures kept { KeepsView V.content V.kept V.faults view.old view.new }
     ensures fault { IsErrOf result RecoveryFault.Fault → Rose (V.faults view.old) (V.faults view.new) }
+    ensures counted { Counts recovery_cause (V.faults view.old) (V.faults view.new) result }
 {
     if is_shadowed(ended, entries, block) {
         return Ok(Judged::Shadowed);

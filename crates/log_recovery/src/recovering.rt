@@ -2,9 +2,10 @@
 ghost use Rattle.std.specs.Prelude.{◌≡◌, ◌+◌, ◌<◌, ◌++◌, ◌∷◌, [], All, OnOk, IfOk, IfSome, IfErr, IsErrOf, length, take};
 ghost use Rattle.std.specs.Ordering.{nat_cmp};
 ghost use Rattle.std.specs.BTreeSet.{contains};
-ghost use Rattle.host_base.specs.Causes.{Rose};
+ghost use Rattle.host_base.specs.Causes.{Rose, Counts};
 ghost use Rattle.log_model.specs.Logs.{IsLevel, is_ended};
 ghost use Rattle.block_view.specs.Views.{KeepsView};
+ghost use Rattle.log_reading.specs.Views.{recovery_cause};
 ghost use Rattle.log_recovery.specs.Blocks.{Lies};
 ghost use Rattle.log_recovery.specs.Groups.{HasGroups};
 ghost use Rattle.log_recovery.specs.Places.{HasMet};
@@ -85,6 +86,7 @@ fn note<V: View>(
     ensures bodies { OnOk result (All IsSized bodies.new.items) }
     ensures kept { KeepsView V.content V.kept V.faults view.old view.new }
     ensures fault { IsErrOf result RecoveryFault.Fault → Rose (V.faults view.old) (V.faults view.new) }
+    ensures counted { Counts recovery_cause (V.faults view.old) (V.faults view.new) result }
 {
     let entry = &log.entries[index];
     let Some(block) = update_block(&entry.act) else {
@@ -110,6 +112,7 @@ fn recover_placed<V: View>(
     ensures sized { IfOk result (λ found. All IsSized found.bodies.items) }
     ensures kept { KeepsView V.content V.kept V.faults view.old view.new }
     ensures fault { IsErrOf result RecoveryFault.Fault → Rose (V.faults view.old) (V.faults view.new) }
+    ensures counted { Counts recovery_cause (V.faults view.old) (V.faults view.new) result }
 {
     let log = IndexedLog {
         entries,
@@ -153,6 +156,7 @@ pub fn recover_entries<V: View>(
     ensures sized { IfOk result (λ found. All IsSized found.bodies.items) }
     ensures kept { KeepsView V.content V.kept V.faults view.old view.new }
     ensures fault { IsErrOf result RecoveryFault.Fault → Rose (V.faults view.old) (V.faults view.new) }
+    ensures counted { Counts recovery_cause (V.faults view.old) (V.faults view.new) result }
 {
     match misplaced(entries, clusters) {
         Some(lsn) => Err(RecoveryFault::ForeignLog { lsn }),

@@ -1,10 +1,10 @@
 //! Recovery by the log as it stands on a disk.
 ghost use Rattle.std.specs.Prelude.{◌≡◌, ◌+◌, ◌^◌, ◌<◌, true, nat_lt, None, All, IfOk, IfSome, IsErrOf};
 ghost use Rattle.host_base.specs.Answers.{Gives, GivesOrFails};
-ghost use Rattle.host_base.specs.Causes.{HasFailed, Rose};
+ghost use Rattle.host_base.specs.Causes.{HasFailed, Rose, Counts, last_moment};
 ghost use Rattle.disk_model.specs.Sectors.{sector_of};
 ghost use Rattle.disk_model.specs.Content.{content_of};
-ghost use Rattle.device_view.specs.Devices.{KeepsDevice};
+ghost use Rattle.device_view.specs.Devices.{KeepsDevice, CountsOnDevice};
 ghost use Rattle.log_model.specs.Entries.{FitsEntry};
 ghost use Rattle.log_model.specs.Logs.{IsLevel, first_misplaced};
 ghost use Rattle.log_page.specs.LiveLogs.{lap_above};
@@ -55,6 +55,7 @@ fn read_front<V: View>(
     ensures answer { IfSome (V.content view.old) (λ c. GivesOrFails (λ front. front) recovery_cause result (front_in (page_in c place.now 0) (page_in c place.now 1))) }
     ensures kept { KeepsView V.content V.kept V.faults view.old view.new }
     ensures fault { IsErrOf result RecoveryFault.Fault → Rose (V.faults view.old) (V.faults view.new) }
+    ensures counted { Counts recovery_cause (V.faults view.old) (V.faults view.new) result }
 {
     let mut body = Body::empty(alloc)?;
     let mut first = Vec::new(alloc);
@@ -91,6 +92,7 @@ fn entries_by<V: View>(
     ensures placed { IfOk result (λ entries. first_misplaced entries.items place.now.clusters ≡ None) }
     ensures kept { KeepsView V.content V.kept V.faults view.old view.new }
     ensures fault { IsErrOf result RecoveryFault.Fault → Rose (V.faults view.old) (V.faults view.new) }
+    ensures counted { Counts recovery_cause (V.faults view.old) (V.faults view.new) result }
 {
     if restart.is_clean() {
         return Ok(Vec::new(alloc));
@@ -116,6 +118,7 @@ fn entries_in<V: View>(
     ensures placed { IfOk result (λ entries. first_misplaced entries.items place.now.clusters ≡ None) }
     ensures kept { KeepsView V.content V.kept V.faults view.old view.new }
     ensures fault { IsErrOf result RecoveryFault.Fault → Rose (V.faults view.old) (V.faults view.new) }
+    ensures counted { Counts recovery_cause (V.faults view.old) (V.faults view.new) result }
 {
     match chosen {
         Some(restart) => entries_by(alloc, view, place, restart),
@@ -183,6 +186,7 @@ fn lap_in<V: View>(
     ensures answer { IfSome (V.content view.old) (λ c. GivesOrFails (λ lap. lap) recovery_cause result (lap_in c place.now chosen)) }
     ensures kept { KeepsView V.content V.kept V.faults view.old view.new }
     ensures fault { IsErrOf result RecoveryFault.Fault → Rose (V.faults view.old) (V.faults view.new) }
+    ensures counted { Counts recovery_cause (V.faults view.old) (V.faults view.new) result }
 {
     let mut body = Body::empty(alloc)?;
     let greatest = greatest_lsn(view, place, chosen, &mut body)?;
@@ -214,6 +218,7 @@ pub fn recover_view<V: View>(
     ensures sized { IfOk result (λ found. All IsSized found.blocks.bodies.items) }
     ensures kept { KeepsView V.content V.kept V.faults view.old view.new }
     ensures fault { IsErrOf result RecoveryFault.Fault → Rose (V.faults view.old) (V.faults view.new) }
+    ensures counted { Counts recovery_cause (V.faults view.old) (V.faults view.new) result }
 {
     let front = read_front(alloc, view, place)?;
     let entries = entries_in(alloc, view, place, front.chosen)?;
@@ -242,6 +247,7 @@ pub fn recover<D: Device>(
     ensures sized { IfOk result (λ found. All IsSized found.blocks.bodies.items) }
     ensures kept { KeepsDevice D.gives D.sector_count D.fault_count device.old device.new }
     ensures fault { IsErrOf result RecoveryFault.Fault → HasFailed (D.fault_count device.old) (D.fault_count device.new) (D.moment_of device.new) }
+    ensures counted { D.moment_of device.old < last_moment → CountsOnDevice recovery_cause (D.fault_count device.old) (D.fault_count device.new) (D.moment_of device.new) result }
 {
     let mut room = piece_room(alloc)?;
     let mut view = DeviceView::new(&mut room, device);

@@ -15,6 +15,7 @@ loop-index-init g c = record {
   met = λ b. search rules;
   bodies = subst (λ (rs : List RecoveredBlock). All IsSized rs) (sym c.new-bodies.ensures.items) (All-from_recursion IsSized [] (tt {0}));
   kept = record { same = refl; stays = refl; later = omega arith };
+  counted = refl;
 }
 
 pub returns-clause-answer : goal.returns-clause-answer

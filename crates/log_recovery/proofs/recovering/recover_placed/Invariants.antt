@@ -1,4 +1,4 @@
-use Rattle.std.proofs.Common.{All, take}
+use Rattle.std.proofs.Common.{◌≡◌, All, take}
 use Rattle.std.specs.Prelude.{IfSome}
 use Rattle.block_view.specs.Views.{KeepsView}
 use Rattle.log_recovery.specs.Recovering.{IsSized}
@@ -13,4 +13,5 @@ invariant-loop-index g l = record {
   met : HasMet l.met (take l.index l.entries);
   bodies : All IsSized l.bodies.items;
   kept : KeepsView g.V.View.content g.V.View.kept g.V.View.faults l.initial.view l.view;
+  counted : g.V.View.faults l.view ≡ g.V.View.faults l.initial.view;
 }
