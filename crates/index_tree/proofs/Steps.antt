@@ -10,8 +10,6 @@ use Rattle.index_model.specs.Indexes.{Place}
 use Rattle.index_model.specs.Walks.{Broken, Event, Met, all_judged, entry_met, kid_met, met_in, met_from, nothing_met, root_vcn}
 use Rattle.index_model.proofs.Steps.{all_judged-append, met_in_next, met_in_end}
 use Rattle.index_tree.specs.declared.fault.TreeFault.{TreeFault}
-use Rattle.index_tree.specs.declared.fault.TreeFault.TheVariants.{Node, Present, Absent, Deep, View}
-use Rattle.block_view.specs.declared.fault.ViewFault.TheVariants.{Fault, Memory}
 use Rattle.index_tree.specs.Faults.{tree_cause, broken_at, FailsByView}
 
 -- ---- errors

@@ -1,4 +1,4 @@
-use Rattle.std.proofs.Common.{◌≡◌, ◌+◌, ◌*◌, ◌≤◌, drop}
+use Rattle.std.proofs.Common.{◌≡◌, ◌+◌, ◌*◌, drop}
 use Rattle.std.specs.Prelude.{IfSome}
 use Rattle.index_model.specs.Indexes.{node_of_block}
 use Rattle.index_model.specs.Walks.{all_judged, sought_in}
