@@ -1,5 +1,5 @@
 -- What a volume that was opened keeps, and its recovered content.
-use Rattle.std.specs.Prelude.{ℕ, ◌*◌, ◌<◌, ◌≤◌, ◌^◌, All}
+use Rattle.std.specs.Prelude.{◌*◌, ◌<◌, ◌≤◌, ◌^◌, All}
 use Rattle.disk_model.specs.Content.{Content}
 use Rattle.log_recovery.specs.Recovering.{content_with, IsSized}
 use Rattle.image_scan.specs.declared.opening.Opening.{Opening}

@@ -1,7 +1,7 @@
 //! The boot sector of a device.
 ghost use Rattle.std.specs.Prelude.{◌≡◌, ◌≤◌, IfOk, IfSome, IsErrOf, nat_le, length};
 ghost use Rattle.host_base.specs.Answers.{Gives, GivesOrFails, needs};
-ghost use Rattle.host_base.specs.Causes.{Rose};
+ghost use Rattle.host_base.specs.Causes.{Rose, Counts};
 ghost use Rattle.boot_sector.specs.BootSectors.{boot_of, IsInProfile};
 ghost use Rattle.block_view.specs.Views.{KeepsView};
 ghost use Rattle.image_scan.specs.Errors.{scan_cause, boot_refusal, refused_as};
@@ -31,6 +31,7 @@ fn read_boot<V: View>(view: &mut V, body: &mut Body) -> Result<Boot, ScanError>
     ensures profile { IfOk result IsInProfile }
     ensures kept { KeepsView V.content V.kept V.faults view.old view.new }
     ensures fault { IsErrOf result ScanError.Device → Rose (V.faults view.old) (V.faults view.new) }
+    ensures counted { Counts scan_cause (V.faults view.old) (V.faults view.new) result }
 {
     view.body(BOOT_PLACE, body)?;
     boot_of(body.bytes())
@@ -64,6 +65,7 @@ pub fn boot_on<V: View>(view: &mut V, sectors: u64, body: &mut Body) -> Result<B
     ensures profile { IfOk result IsInProfile }
     ensures kept { KeepsView V.content V.kept V.faults view.old view.new }
     ensures fault { IsErrOf result ScanError.Device → Rose (V.faults view.old) (V.faults view.new) }
+    ensures counted { Counts scan_cause (V.faults view.old) (V.faults view.new) result }
 {
     let boot = read_boot(view, body)?;
     sized_on(sectors, boot)

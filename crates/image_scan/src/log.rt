@@ -1,7 +1,7 @@
 //! The log of a volume: where it lies, and the blocks that recovery by it makes.
 ghost use Rattle.std.specs.Prelude.{◌≡◌, ◌*◌, ◌^◌, ◌<◌, ◌≤◌, All, IfOk, IfErr, IfSome, IsErrOf};
 ghost use Rattle.host_base.specs.Answers.{GivesOrFails};
-ghost use Rattle.host_base.specs.Causes.{Rose};
+ghost use Rattle.host_base.specs.Causes.{Rose, Counts};
 ghost use Rattle.stream_map.specs.Runs.{HasSmallRuns};
 ghost use Rattle.block_view.specs.Views.{KeepsView};
 ghost use Rattle.state_model.specs.Loads.{data_stream};
@@ -55,6 +55,7 @@ fn log_record<V: View>(
     ensures answer { IfSome (V.content view.old) (λ c. GivesOrFails (λ file. file) scan_cause result (log_record c geometry)) }
     ensures kept { KeepsView V.content V.kept V.faults view.old view.new }
     ensures fault { IsErrOf result ScanError.Device → Rose (V.faults view.old) (V.faults view.new) }
+    ensures counted { Counts scan_cause (V.faults view.old) (V.faults view.new) result }
 {
     Ok(boot_record(alloc, view, geometry, 2, body)?)
 }
@@ -88,6 +89,7 @@ fn recovered_at<V: View>(
     ensures sized { IfOk result (λ bodies. All IsSized bodies.items) }
     ensures kept { KeepsView V.content V.kept V.faults view.old view.new }
     ensures fault { IsErrOf result ScanError.Device → Rose (V.faults view.old) (V.faults view.new) }
+    ensures counted { Counts scan_cause (V.faults view.old) (V.faults view.new) result }
 {
     let found = recover_view(alloc, view, place)?;
     Ok(found.blocks.bodies)
@@ -115,6 +117,7 @@ pub fn recovered_in<V: View>(
     ensures sized { IfOk result (λ bodies. All IsSized bodies.items) }
     ensures kept { KeepsView V.content V.kept V.faults view.old view.new }
     ensures fault { IsErrOf result ScanError.Device → Rose (V.faults view.old) (V.faults view.new) }
+    ensures counted { Counts scan_cause (V.faults view.old) (V.faults view.new) result }
 {
     let file = log_record(alloc, view, geometry, body)?;
     let place = log_place(alloc, geometry, clusters, device, &file)?;

@@ -1,7 +1,7 @@
 //! The front of a volume: its boot sector and its log.
 ghost use Rattle.std.specs.Prelude.{◌≡◌, ◌*◌, ◌^◌, ◌<◌, ◌≤◌, IfOk, IfSome, IsErrOf};
 ghost use Rattle.host_base.specs.Answers.{GivesOrFails};
-ghost use Rattle.host_base.specs.Causes.{Rose};
+ghost use Rattle.host_base.specs.Causes.{Rose, Counts};
 ghost use Rattle.boot_sector.specs.BootSectors.{IsInProfile, clusters};
 ghost use Rattle.block_view.specs.Views.{KeepsView};
 ghost use Rattle.image_scan.specs.Errors.{scan_cause};
@@ -66,6 +66,7 @@ fn open_boot<V: View>(
     ensures opening { IfOk result IsOpening }
     ensures kept { KeepsView V.content V.kept V.faults view.old view.new }
     ensures fault { IsErrOf result ScanError.Device → Rose (V.faults view.old) (V.faults view.new) }
+    ensures counted { Counts scan_cause (V.faults view.old) (V.faults view.new) result }
 {
     let geometry = geometry_of(boot);
     let total = clusters_of(boot);
@@ -94,6 +95,7 @@ pub fn open_volume<V: View>(alloc: Global, view: &mut V, sectors: u64) -> Result
     ensures opening { IfOk result IsOpening }
     ensures kept { KeepsView V.content V.kept V.faults view.old view.new }
     ensures fault { IsErrOf result ScanError.Device → Rose (V.faults view.old) (V.faults view.new) }
+    ensures counted { Counts scan_cause (V.faults view.old) (V.faults view.new) result }
 {
     let mut body = Body::empty(alloc)?;
     let boot = boot_on(view, sectors, &mut body)?;

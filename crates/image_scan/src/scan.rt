@@ -1,10 +1,10 @@
 //! The links of the volume on a device.
 ghost use Rattle.std.specs.Prelude.{◌≡◌, ◌*◌, ◌^◌, ◌<◌, ◌≤◌, IfSome, IsErrOf};
 ghost use Rattle.host_base.specs.Answers.{GivesOrFails};
-ghost use Rattle.host_base.specs.Causes.{HasFailed, Rose};
+ghost use Rattle.host_base.specs.Causes.{HasFailed, Rose, Counts, last_moment};
 ghost use Rattle.disk_model.specs.Sectors.{sector_of};
 ghost use Rattle.disk_model.specs.Content.{content_of};
-ghost use Rattle.device_view.specs.Devices.{KeepsDevice};
+ghost use Rattle.device_view.specs.Devices.{KeepsDevice, CountsOnDevice};
 ghost use Rattle.block_view.specs.Views.{KeepsView};
 ghost use Rattle.image_scan.specs.Errors.{scan_cause};
 ghost use Rattle.image_scan.specs.Openings.{IsOpening, content_after};
@@ -33,6 +33,7 @@ fn links_in<V: View>(
     ensures answer { IfSome (V.content view.old) (λ c. GivesOrFails (λ links. links.items) scan_cause result (links_in c geometry)) }
     ensures kept { KeepsView V.content V.kept V.faults view.old view.new }
     ensures fault { IsErrOf result ScanError.Device → Rose (V.faults view.old) (V.faults view.new) }
+    ensures counted { Counts scan_cause (V.faults view.old) (V.faults view.new) result }
 {
     Ok(load_links(alloc, view, geometry)?)
 }
@@ -43,6 +44,7 @@ fn links_of<V: View>(alloc: Global, view: &mut V, opening: &Opening) -> Result<V
     ensures answer { IfSome (V.content view.old) (λ c. GivesOrFails (λ links. links.items) scan_cause result (links_in (content_after opening.now c) opening.now.geometry)) }
     ensures kept { KeepsView V.content V.kept V.faults view.old view.new }
     ensures fault { IsErrOf result ScanError.Device → Rose (V.faults view.old) (V.faults view.new) }
+    ensures counted { Counts scan_cause (V.faults view.old) (V.faults view.new) result }
 {
     let places = places_of(alloc, &opening.bodies)?;
     let mut recovered = RecoveredView::new(view, &opening.bodies, &places);
@@ -54,6 +56,7 @@ fn scan_view<V: View>(alloc: Global, view: &mut V, sectors: u64) -> Result<Vec<L
     ensures answer { IfSome (V.content view.old) (λ c. GivesOrFails (λ links. links.items) scan_cause result (scan_in c sectors)) }
     ensures kept { KeepsView V.content V.kept V.faults view.old view.new }
     ensures fault { IsErrOf result ScanError.Device → Rose (V.faults view.old) (V.faults view.new) }
+    ensures counted { Counts scan_cause (V.faults view.old) (V.faults view.new) result }
 {
     let opening = open_volume(alloc, view, sectors)?;
     links_of(alloc, view, &opening)
@@ -68,6 +71,7 @@ fn scan_device<D: Device>(
     ensures answer { IfSome (D.gives device.old) (λ disk. GivesOrFails (λ links. links.items) scan_cause result (scan_in (content_of (sector_of disk)) sectors)) }
     ensures kept { KeepsDevice D.gives D.sector_count D.fault_count device.old device.new }
     ensures fault { IsErrOf result ScanError.Device → HasFailed (D.fault_count device.old) (D.fault_count device.new) (D.moment_of device.new) }
+    ensures counted { D.moment_of device.old < last_moment → CountsOnDevice scan_cause (D.fault_count device.old) (D.fault_count device.new) (D.moment_of device.new) result }
 {
     let mut room = piece_room(alloc)?;
     let mut view = DeviceView::new(&mut room, device);
@@ -93,6 +97,7 @@ pub fn scan_image<D: Device>(alloc: Global, device: &mut D) -> Result<Vec<Link>,
     ensures answer { IfSome (D.gives device.old) (λ disk. GivesOrFails (λ links. links.items) scan_cause result (scan_of disk)) }
     ensures kept { KeepsDevice D.gives D.sector_count D.fault_count device.old device.new }
     ensures fault { IsErrOf result ScanError.Device → HasFailed (D.fault_count device.old) (D.fault_count device.new) (D.moment_of device.new) }
+    ensures counted { D.moment_of device.old < last_moment → CountsOnDevice scan_cause (D.fault_count device.old) (D.fault_count device.new) (D.moment_of device.new) result }
 {
     let sectors = device.sectors();
     if sectors == 0 {
