@@ -1,7 +1,7 @@
 //! The pages of the journal.
 ghost use Rattle.std.specs.Prelude.{◌≡◌, ◌+◌, ◌-◌, ◌*◌, ◌/◌, ◌^◌, ◌<◌, ◌≤◌, min, length, Ok, IfOk, IfSome, IsErrOf};
 ghost use Rattle.host_base.specs.Answers.{GivesOrFails};
-ghost use Rattle.host_base.specs.Causes.{Rose};
+ghost use Rattle.host_base.specs.Causes.{Rose, Counts};
 ghost use Rattle.journal_model.specs.Journals.{page_entries, journal_from};
 ghost use Rattle.state_model.specs.Streams.{byte_at};
 ghost use Rattle.stream_map.specs.Runs.{AreSmall};
@@ -52,6 +52,7 @@ fn check_bytes<V: View>(
     ensures value { IfSome (V.content view.old) (λ c. GivesOrFails (λ done. done) journal_cause result (judged (page_entries (byte_at c per extents.now) first extents.now.real number))) }
     ensures kept { KeepsView V.content V.kept V.faults view.old view.new }
     ensures fault { IsErrOf result JournalFault.View → Rose (V.faults view.old) (V.faults view.new) }
+    ensures counted { Counts journal_cause (V.faults view.old) (V.faults view.new) result }
 {
     let begin = PAGE * number;
     fill(view, per, extents, begin, body, page)?;
@@ -80,6 +81,7 @@ fn check_number<V: View>(
     ensures value { IfSome (V.content view.old) (λ c. GivesOrFails (λ done. done) journal_cause result (judged (page_entries (byte_at c per extents.now) first extents.now.real number))) }
     ensures kept { KeepsView V.content V.kept V.faults view.old view.new }
     ensures fault { IsErrOf result JournalFault.View → Rose (V.faults view.old) (V.faults view.new) }
+    ensures counted { Counts journal_cause (V.faults view.old) (V.faults view.new) result }
 {
     let count = (extents.real - PAGE * number).min(PAGE) as usize;
     check_bytes(view, per, extents, first, number, body, &mut room[..count])
@@ -103,6 +105,7 @@ fn check_pages<V: View>(
     ensures value { IfSome (V.content view.old) (λ c. GivesOrFails (λ done. done) journal_cause result (judged (journal_from (byte_at c per extents.now) first extents.now.real (first / PAGE)))) }
     ensures kept { KeepsView V.content V.kept V.faults view.old view.new }
     ensures fault { IsErrOf result JournalFault.View → Rose (V.faults view.old) (V.faults view.new) }
+    ensures counted { Counts journal_cause (V.faults view.old) (V.faults view.new) result }
 {
     let end = (extents.real + (PAGE - 1)) / PAGE;
     for number in first / PAGE..end {
@@ -131,6 +134,7 @@ fn last_owned<V: View>(
     ensures value { IfSome (V.content view.old) (λ c. GivesOrFails (λ owned. owned) journal_cause result (Ok (journal_owned c per extents.now))) }
     ensures kept { KeepsView V.content V.kept V.faults view.old view.new }
     ensures fault { IsErrOf result JournalFault.View → Rose (V.faults view.old) (V.faults view.new) }
+    ensures counted { Counts journal_cause (V.faults view.old) (V.faults view.new) result }
 {
     let begin = first.max(PAGE * (extents.real / PAGE));
     let page = &mut room[..(extents.real - begin) as usize];
@@ -164,6 +168,7 @@ pub fn check_entries<V: View>(
     ensures value { IfSome (V.content view.old) (λ c. GivesOrFails (λ owned. owned) journal_cause result (owned_in c per extents.now)) }
     ensures kept { KeepsView V.content V.kept V.faults view.old view.new }
     ensures fault { IsErrOf result JournalFault.View → Rose (V.faults view.old) (V.faults view.new) }
+    ensures counted { Counts journal_cause (V.faults view.old) (V.faults view.new) result }
 {
     if extents.real >= MOST_READ {
         return Err(JournalFault::Memory);

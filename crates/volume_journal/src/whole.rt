@@ -1,7 +1,7 @@
 //! The journal of a volume.
 ghost use Rattle.std.specs.Prelude.{◌≡◌, ◌<◌, ◌≤◌, ℕ, [], length, Some, IfSome, IsErrOf};
 ghost use Rattle.host_base.specs.Answers.{GivesOrFails};
-ghost use Rattle.host_base.specs.Causes.{Rose};
+ghost use Rattle.host_base.specs.Causes.{Rose, Counts};
 ghost use Rattle.disk_model.specs.Content.{Content};
 ghost use Rattle.state_model.specs.Loads.{table_in};
 ghost use Rattle.state_model.specs.Trees.{all_links};
@@ -74,6 +74,7 @@ fn placed_journal<V: View>(
     ensures value { IfSome (V.content view.old) (λ c. GivesOrFails (λ journal. journal) journal_cause result (journal_in_place c per limits extents.now)) }
     ensures kept { KeepsView V.content V.kept V.faults view.old view.new }
     ensures fault { IsErrOf result JournalFault.View → Rose (V.faults view.old) (V.faults view.new) }
+    ensures counted { Counts journal_cause (V.faults view.old) (V.faults view.new) result }
 {
     let first = first_byte(per, extents);
     let owned = check_entries(alloc, view, per, extents, first, body)?;
@@ -96,6 +97,7 @@ fn stream_journal<V: View>(
     ensures value { IfSome (V.content view.old) (λ c. GivesOrFails (λ journal. journal) journal_cause result (bare (journal_of_streams c per flags (Some limits.now) (Some entries.now)))) }
     ensures kept { KeepsView V.content V.kept V.faults view.old view.new }
     ensures fault { IsErrOf result JournalFault.View → Rose (V.faults view.old) (V.faults view.new) }
+    ensures counted { Counts journal_cause (V.faults view.old) (V.faults view.new) result }
 {
     let Some(limits) = limits_of(limits) else {
         return Err(JournalFault::Broken { at: 0 });
@@ -122,6 +124,7 @@ fn optional_journal<V: View>(
     ensures value { IfSome (V.content view.old) (λ c. GivesOrFails (λ journal. journal) journal_cause result (bare (journal_of_streams c per flags limits entries))) }
     ensures kept { KeepsView V.content V.kept V.faults view.old view.new }
     ensures fault { IsErrOf result JournalFault.View → Rose (V.faults view.old) (V.faults view.new) }
+    ensures counted { Counts journal_cause (V.faults view.old) (V.faults view.new) result }
 {
     let Some(limits) = limits else {
         return Ok(None);
@@ -146,6 +149,7 @@ fn file_journal<V: View>(
     ensures value { IfSome (V.content view.old) (λ c. GivesOrFails (λ journal. journal) journal_cause result (bare (journal_of_file c per (Some file.now)))) }
     ensures kept { KeepsView V.content V.kept V.faults view.old view.new }
     ensures fault { IsErrOf result JournalFault.View → Rose (V.faults view.old) (V.faults view.new) }
+    ensures counted { Counts journal_cause (V.faults view.old) (V.faults view.new) result }
 {
     let attrs = file.attrs().as_slice();
     let limits = stream_of(alloc, DATA, &LIMITS_NAME, attrs)?;
@@ -184,6 +188,7 @@ pub fn volume_journal<V: View>(
     ensures value { IfSome (V.content view.old) (λ c. GivesOrFails (λ journal. journal) journal_cause result (bare_journal c up.now (volume_in map.now))) }
     ensures kept { KeepsView V.content V.kept V.faults view.old view.new }
     ensures fault { IsErrOf result JournalFault.View → Rose (V.faults view.old) (V.faults view.new) }
+    ensures counted { Counts journal_cause (V.faults view.old) (V.faults view.new) result }
 {
     let number = journal_number(alloc, up, links)?;
     match file_or_none(map, number) {

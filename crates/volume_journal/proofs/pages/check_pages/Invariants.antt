@@ -1,4 +1,4 @@
-use Rattle.std.proofs.Common.{◌/◌, ◌≤◌}
+use Rattle.std.proofs.Common.{◌≡◌, ◌/◌, ◌≤◌}
 use Rattle.block_view.specs.Views.{KeepsView}
 use Rattle.volume_journal.proofs.PagesLeft.{IsLeft}
 use Rattle.volume_journal.proofs.pages.check_pages.Given as goal
@@ -8,4 +8,5 @@ invariant-loop-number g l = record {
   from : l.first / 4096 ≤ l.number;
   left : IsLeft (g.V.View.content l.initial.view) l.per l.extents l.first l.number;
   kept : KeepsView g.V.View.content g.V.View.kept g.V.View.faults l.initial.view l.view;
+  counted : g.V.View.faults l.view ≡ g.V.View.faults l.initial.view;
 }
