@@ -2,7 +2,7 @@
 ghost use Rattle.std.specs.Prelude.{◌≡◌, ◌<◌, ◌≤◌, ℕ, Ok, Some, IfSome, IsErrOf, length, slice_index};
 ghost use Rattle.std.specs.Option.{option_copied};
 ghost use Rattle.host_base.specs.Answers.{GivesOrFails};
-ghost use Rattle.host_base.specs.Causes.{Rose};
+ghost use Rattle.host_base.specs.Causes.{Rose, Counts};
 ghost use Rattle.state_model.specs.Loads.{table_in};
 ghost use Rattle.state_model.specs.Rules.{names_in, first_failing};
 ghost use Rattle.record_rules.specs.Counts.{names_at};
@@ -68,6 +68,7 @@ fn has_index<V: View>(
     ensures value { IfSome (V.content view.old) (λ c. GivesOrFails (λ kept. kept) index_cause result (Ok (lists_names up.now (table_in files.now) (length files.now) directory (index_links c per up.now file.now)))) }
     ensures kept { KeepsView V.content V.kept V.faults view.old view.new }
     ensures fault { IsErrOf result IndexFault.View → Rose (V.faults view.old) (V.faults view.new) }
+    ensures counted { Counts index_cause (V.faults view.old) (V.faults view.new) result }
 {
     let held = index_links(alloc, view, per, up, file)?;
     Ok(lists_names(up, files, links, count, directory, &held))
@@ -114,6 +115,7 @@ fn keeps_index<V: View>(
     ensures value { IfSome (V.content view.old) (λ c. GivesOrFails (λ kept. kept) index_cause result (Ok (keeps_index c (volume_with per files.now) up.now number))) }
     ensures kept { KeepsView V.content V.kept V.faults view.old view.new }
     ensures fault { IsErrOf result IndexFault.View → Rose (V.faults view.old) (V.faults view.new) }
+    ensures counted { Counts index_cause (V.faults view.old) (V.faults view.new) result }
 {
     let Some(file) = directory_at(files, number) else {
         return Ok(true);
@@ -144,6 +146,7 @@ fn first_failing<V: View>(
     ensures value { IfSome (V.content view.old) (λ c. GivesOrFails (λ found. found) index_cause result (Ok (first_failing (keeps_index c (volume_with per files.now) up.now) (length files.now)))) }
     ensures kept { KeepsView V.content V.kept V.faults view.old view.new }
     ensures fault { IsErrOf result IndexFault.View → Rose (V.faults view.old) (V.faults view.new) }
+    ensures counted { Counts index_cause (V.faults view.old) (V.faults view.new) result }
 {
     for number in 0..files.len() {
         let kept = keeps_index(alloc, view, per, up, files, links, counts, number as u64)?;
@@ -184,6 +187,7 @@ pub fn first_broken<V: View>(
     ensures value { IfSome (V.content view.old) (λ c. (v : Volume) → v.per ≡ per → v.files ≡ files.now → GivesOrFails (λ found. found) index_cause result (Ok (first_failing (keeps_index c v up.now) (length files.now)))) }
     ensures kept { KeepsView V.content V.kept V.faults view.old view.new }
     ensures fault { IsErrOf result IndexFault.View → Rose (V.faults view.old) (V.faults view.new) }
+    ensures counted { Counts index_cause (V.faults view.old) (V.faults view.new) result }
 {
     first_failing(alloc, view, per, up, files, links, counts)
 }

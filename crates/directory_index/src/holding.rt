@@ -1,7 +1,7 @@
 //! The names that a directory's index holds.
 ghost use Rattle.std.specs.Prelude.{◌≡◌, ◌<◌, ◌≤◌, Ok, IfSome, IsErrOf};
 ghost use Rattle.host_base.specs.Answers.{GivesOrFails};
-ghost use Rattle.host_base.specs.Causes.{Rose};
+ghost use Rattle.host_base.specs.Causes.{Rose, Counts};
 ghost use Rattle.index_model.specs.Walks.{walk_of};
 ghost use Rattle.index_tree.specs.Places.{place_of};
 ghost use Rattle.block_view.specs.Views.{KeepsView};
@@ -43,6 +43,7 @@ fn links_at<V: View>(
     ensures value { IfSome (V.content view.old) (λ c. GivesOrFails (λ links. links) index_cause result (Ok (links_read (walk_of c (place_of dir.now) up.now dir.now.root)))) }
     ensures kept { KeepsView V.content V.kept V.faults view.old view.new }
     ensures fault { IsErrOf result IndexFault.View → Rose (V.faults view.old) (V.faults view.new) }
+    ensures counted { Counts index_cause (V.faults view.old) (V.faults view.new) result }
 {
     answer_of(walk(alloc, view, dir, up))
 }
@@ -70,6 +71,7 @@ pub fn index_links<V: View>(
     ensures value { IfSome (V.content view.old) (λ c. GivesOrFails (λ links. links) index_cause result (Ok (index_links c per up.now file.now))) }
     ensures kept { KeepsView V.content V.kept V.faults view.old view.new }
     ensures fault { IsErrOf result IndexFault.View → Rose (V.faults view.old) (V.faults view.new) }
+    ensures counted { Counts index_cause (V.faults view.old) (V.faults view.new) result }
 {
     match index_place(alloc, per, file)? {
         Some(dir) => links_at(alloc, view, up, &dir),

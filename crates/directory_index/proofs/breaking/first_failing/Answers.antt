@@ -8,6 +8,7 @@ pub loop-number-init : goal.loop-number-init
 loop-number-init g c = record {
   fails = fails_first _ (λ content. keeps_index content (volume_with c.args.per c.args.files.now) c.args.up.now) (length c.args.files.now);
   kept = record { same = refl; stays = refl; later = omega arith };
+  counted = refl;
 }
 
 pub loop-number-preserved : goal.loop-number-preserved
@@ -18,6 +19,7 @@ loop-number-preserved g c = record {
     stays = c.in_ok-kept.ensures.kept.stays ∙ c.loop-number.invariant.kept.stays;
     later = omega (arith, c.loop-number.invariant.kept.later, c.in_ok-kept.ensures.kept.later);
   };
+  counted = c.in_ok-kept.ensures.counted ∙ c.loop-number.invariant.counted;
 }
 
 pub returns-then-not-kept-clause-value : goal.returns-then-not-kept-clause-value

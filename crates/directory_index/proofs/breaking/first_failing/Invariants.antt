@@ -1,4 +1,4 @@
-use Rattle.std.proofs.Common.{length}
+use Rattle.std.proofs.Common.{◌≡◌, length}
 use Rattle.std.specs.Prelude.{IfSome}
 use Rattle.block_view.specs.Views.{KeepsView}
 use Rattle.volume_model.specs.Indexes.{keeps_index}
@@ -11,4 +11,5 @@ abbrev pub invariant-loop-number : goal.invariant-loop-number
 invariant-loop-number g l = record {
   fails : IfSome (g.V.View.content l.initial.view) (FailsFrom (λ c. keeps_index c (volume_with l.per l.files) l.up) l.number (length l.files));
   kept : KeepsView g.V.View.content g.V.View.kept g.V.View.faults l.initial.view l.view;
+  counted : g.V.View.faults l.view ≡ g.V.View.faults l.initial.view;
 }
