@@ -69,6 +69,7 @@ fn write_volume<D: Device>(
     ensures sectors { D.sector_count device.new ≡ D.sector_count device.old }
     ensures later { D.fault_count device.old ≤ D.fault_count device.new }
     ensures fault { IsErrOf result device_failed → HasFailed (D.fault_count device.old) (D.fault_count device.new) (D.moment_of device.new) }
+    ensures counted { ¬ IsErrOf result device_failed → D.fault_count device.new ≡ D.fault_count device.old }
 {
     let parts = make_parts(alloc, v, seed, time)?;
     let mut room = vec![in alloc; 0u8; PIECE_BYTES as usize]?;
@@ -110,6 +111,7 @@ pub fn format<D: Device>(
     ensures sectors { D.sector_count device.new ≡ D.sector_count device.old }
     ensures later { D.fault_count device.old ≤ D.fault_count device.new }
     ensures fault { IsErrOf result device_failed → HasFailed (D.fault_count device.old) (D.fault_count device.new) (D.moment_of device.new) }
+    ensures counted { ¬ IsErrOf result device_failed → D.fault_count device.new ≡ D.fault_count device.old }
 {
     let sectors = device.sectors();
     let answer = check(sectors)?;

@@ -4,7 +4,7 @@ use Rattle.volume_format.proofs.Stopping.{any_err, piece_torn}
 use Rattle.volume_format.proofs.writing.put_pieces.Goals as goal
 
 pub loop-piece-init : goal.loop-piece-init
-loop-piece-init g c = record { image = no_piece c.args.filling c.args.cluster (g.D.Device.gives c.args.device.now); sectors = refl; moment = omega arith; later = omega arith }
+loop-piece-init g c = record { image = no_piece c.args.filling c.args.cluster (g.D.Device.gives c.args.device.now); sectors = refl; moment = omega arith; counted = refl }
 
 pub loop-piece-preserved : goal.loop-piece-preserved
 loop-piece-preserved g c = record {
@@ -13,7 +13,7 @@ loop-piece-preserved g c = record {
       (omega arith) (omega (arith, c.loop-piece.auto.room, c.requires.room)) c.loop-piece.invariant.image c.in_ok-put_piece.ensures.image;
   sectors = c.put_piece.ensures.sectors ∙ c.loop-piece.invariant.sectors;
   moment = omega (arith, c.loop-piece.invariant.moment, c.in_ok-put_piece.ensures.moment);
-  later = omega (arith, c.loop-piece.invariant.later, c.put_piece.ensures.cause.later);
+  counted = c.in_ok-put_piece.ensures.cause.unfailed ∙ c.loop-piece.invariant.counted;
 }
 
 pub returns-in_err-put_piece-clause-torn : goal.returns-in_err-put_piece-clause-torn
