@@ -1,7 +1,7 @@
 //! The check.
 ghost use Rattle.std.specs.Prelude.{◌≡◌, IfSome, IsErrOf};
 ghost use Rattle.host_base.specs.Answers.{GivesOrFails};
-ghost use Rattle.host_base.specs.Causes.{Rose};
+ghost use Rattle.host_base.specs.Causes.{Rose, Counts};
 ghost use Rattle.volume_map.specs.Maps.{volume_in, IsMap};
 ghost use Rattle.block_view.specs.Views.{KeepsView};
 ghost use Rattle.volume_state.specs.Trees.{checked};
@@ -36,6 +36,7 @@ fn check_marked<V: View>(
     ensures value { IfSome (V.content view.old) (λ c. AreMarks c (volume_in map.now) marks.now → GivesOrFails (λ tree. tree) check_cause result (checked c (volume_in map.now))) }
     ensures kept { KeepsView V.content V.kept V.faults view.old view.new }
     ensures fault { IsErrOf result CheckFault.View → Rose (V.faults view.old) (V.faults view.new) }
+    ensures counted { Counts check_cause (V.faults view.old) (V.faults view.new) result }
 {
     match from_1(alloc, view, map, names, climber, marks, body)? {
         Some(broken) => Err(CheckFault::Broken(broken)),
@@ -57,6 +58,7 @@ fn check_named<V: View>(
     ensures value { IfSome (V.content view.old) (λ c. GivesOrFails (λ tree. tree) check_cause result (checked c (volume_in map.now))) }
     ensures kept { KeepsView V.content V.kept V.faults view.old view.new }
     ensures fault { IsErrOf result CheckFault.View → Rose (V.faults view.old) (V.faults view.new) }
+    ensures counted { Counts check_cause (V.faults view.old) (V.faults view.new) result }
 {
     let mut body = Body::empty(alloc)?;
     let marks = read_marks(alloc, view, map, &mut body)?;
@@ -85,6 +87,7 @@ pub fn check<V: View>(alloc: Global, view: &mut V, map: &VolumeMap) -> Result<Tr
     ensures value { IfSome (V.content view.old) (λ c. GivesOrFails (λ tree. tree) check_cause result (checked c (volume_in map.now))) }
     ensures kept { KeepsView V.content V.kept V.faults view.old view.new }
     ensures fault { IsErrOf result CheckFault.View → Rose (V.faults view.old) (V.faults view.new) }
+    ensures counted { Counts check_cause (V.faults view.old) (V.faults view.new) result }
 {
     let names = names_of(alloc, &map.files)?;
     let climber = Climber::new(alloc, &map.files, &names.links)?;

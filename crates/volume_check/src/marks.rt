@@ -1,9 +1,9 @@
 //! What a check reads of a volume beside its files, once.
 ghost use Rattle.std.specs.Prelude.{IfOk, IfSome, IsErrOf};
-ghost use Rattle.host_base.specs.Causes.{Rose};
+ghost use Rattle.host_base.specs.Causes.{Rose, Counts};
 ghost use Rattle.volume_map.specs.Maps.{volume_in, IsMap};
 ghost use Rattle.block_view.specs.Views.{KeepsView};
-ghost use Rattle.volume_check.specs.Errors.{NeverBroken};
+ghost use Rattle.volume_check.specs.Errors.{check_cause, NeverBroken};
 ghost use Rattle.volume_check.specs.Parts.{AreMarks};
 
 use crate::fault::CheckFault;
@@ -41,6 +41,7 @@ pub fn read_marks<V: View>(
     ensures never { NeverBroken result }
     ensures kept { KeepsView V.content V.kept V.faults view.old view.new }
     ensures fault { IsErrOf result CheckFault.View → Rose (V.faults view.old) (V.faults view.new) }
+    ensures counted { Counts check_cause (V.faults view.old) (V.faults view.new) result }
 {
     let upper = upper_table(alloc, view, map, body)?;
     let heads = read_heads(alloc, view, map, body)?;

@@ -1,7 +1,7 @@
 //! The tree of a volume, with its journal.
 ghost use Rattle.std.specs.Prelude.{◌≡◌, IfOk, IfSome, IsErrOf, length};
 ghost use Rattle.host_base.specs.Answers.{GivesOrFails};
-ghost use Rattle.host_base.specs.Causes.{Rose};
+ghost use Rattle.host_base.specs.Causes.{Rose, Counts};
 ghost use Rattle.disk_model.specs.Content.{Content as the_content};
 ghost use Rattle.state_model.specs.Loads.{table_in};
 ghost use Rattle.state_model.specs.Trees.{all_links};
@@ -74,6 +74,7 @@ fn with_journal<V: View>(
     ensures value { IfSome (V.content view.old) (λ c. AreMarks c (volume_in map.now) marks.now → GivesOrFails (λ tree. tree) check_cause result (ninth c (volume_in map.now))) }
     ensures kept { KeepsView V.content V.kept V.faults view.old view.new }
     ensures fault { IsErrOf result CheckFault.View → Rose (V.faults view.old) (V.faults view.new) }
+    ensures counted { Counts check_cause (V.faults view.old) (V.faults view.new) result }
 {
     let journal = volume_journal(alloc, view, map, &marks.upper, links.as_slice(), body)?;
     Ok(tree_with(alloc, map, names, climber, marks, links, journal)?)
@@ -98,6 +99,7 @@ pub fn report<V: View>(
     ensures value { IfSome (V.content view.old) (λ c. AreMarks c (volume_in map.now) marks.now → GivesOrFails (λ tree. tree) check_cause result (ninth c (volume_in map.now))) }
     ensures kept { KeepsView V.content V.kept V.faults view.old view.new }
     ensures fault { IsErrOf result CheckFault.View → Rose (V.faults view.old) (V.faults view.new) }
+    ensures counted { Counts check_cause (V.faults view.old) (V.faults view.new) result }
 {
     let links = all_links(alloc, &map.files)?;
     with_journal(alloc, view, map, names, climber, marks, links, body)

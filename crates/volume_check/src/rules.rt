@@ -1,11 +1,11 @@
 //! The rules before the ninth, each tried where those before it are kept.
 ghost use Rattle.std.specs.Prelude.{◌≡◌, ◌+◌, ◌*◌, ◌<◌, IfOk, IfSome, IsErrOf};
-ghost use Rattle.host_base.specs.Causes.{Rose};
+ghost use Rattle.host_base.specs.Causes.{Rose, Counts};
 ghost use Rattle.disk_model.specs.Content.{Content as the_content};
 ghost use Rattle.volume_model.specs.Owners.{volume_runs};
 ghost use Rattle.volume_map.specs.Maps.{volume_in, IsMap};
 ghost use Rattle.block_view.specs.Views.{KeepsView};
-ghost use Rattle.volume_check.specs.Errors.{NeverBroken};
+ghost use Rattle.volume_check.specs.Errors.{check_cause, NeverBroken};
 ghost use Rattle.volume_check.specs.Parts.{AreMarks, AreNames};
 ghost use Rattle.volume_model.specs.Sizes.{is_at, placed_record, keeps_place};
 ghost use Rattle.volume_state.specs.Rules.{broken_4};
@@ -121,6 +121,7 @@ fn first_unfit<V: View>(
     ensures never { NeverBroken result }
     ensures kept { KeepsView V.content V.kept V.faults view.old view.new }
     ensures fault { IsErrOf result CheckFault.View → Rose (V.faults view.old) (V.faults view.new) }
+    ensures counted { Counts check_cause (V.faults view.old) (V.faults view.new) result }
 {
     if !keeps_place(map) {
         return Ok(Some(0));
@@ -146,6 +147,7 @@ fn from_4<V: View>(
     ensures never { NeverBroken result }
     ensures kept { KeepsView V.content V.kept V.faults view.old view.new }
     ensures fault { IsErrOf result CheckFault.View → Rose (V.faults view.old) (V.faults view.new) }
+    ensures counted { Counts check_cause (V.faults view.old) (V.faults view.new) result }
 {
     match first_unfit(alloc, view, map, body)? {
         Some(number) => Ok(Some(Broken { rule: 4, number })),
@@ -171,6 +173,7 @@ fn from_3<V: View>(
     ensures never { NeverBroken result }
     ensures kept { KeepsView V.content V.kept V.faults view.old view.new }
     ensures fault { IsErrOf result CheckFault.View → Rose (V.faults view.old) (V.faults view.new) }
+    ensures counted { Counts check_cause (V.faults view.old) (V.faults view.new) result }
 {
     match directory_index::first_broken(
         alloc,
@@ -204,6 +207,7 @@ fn from_2<V: View>(
     ensures never { NeverBroken result }
     ensures kept { KeepsView V.content V.kept V.faults view.old view.new }
     ensures fault { IsErrOf result CheckFault.View → Rose (V.faults view.old) (V.faults view.new) }
+    ensures counted { Counts check_cause (V.faults view.old) (V.faults view.new) result }
 {
     match first_misplaced(&map.files, &names.links) {
         Some(number) => Ok(Some(Broken { rule: 2, number })),
@@ -234,6 +238,7 @@ pub fn from_1<V: View>(
     ensures never { NeverBroken result }
     ensures kept { KeepsView V.content V.kept V.faults view.old view.new }
     ensures fault { IsErrOf result CheckFault.View → Rose (V.faults view.old) (V.faults view.new) }
+    ensures counted { Counts check_cause (V.faults view.old) (V.faults view.new) result }
 {
     match first_misnamed(&map.files, &names.links) {
         Some(number) => Ok(Some(Broken { rule: 1, number })),
