@@ -6,7 +6,7 @@ use Rattle.std.specs.List.{filter, list_any}
 use Rattle.std.specs.Ordering.{nat_cmp}
 use Rattle.std.specs.BTreeMap.{BTreeMap, get}
 use Rattle.host_base.specs.Answers.{GivesOrFails}
-use Rattle.host_base.specs.Causes.{Rose}
+use Rattle.host_base.specs.Causes.{CountsCause}
 use Rattle.disk_model.specs.Content.{Content}
 use Rattle.record_model.specs.declared.entry.Entry.{Entry as Raw}
 use Rattle.record_model.specs.Nodes.{Node as NodeOf}
@@ -20,7 +20,7 @@ use Rattle.index_model.specs.Laws.{HoldsIndex}
 use Rattle.block_view.specs.declared.fault.ViewFault.{ViewFault}
 use Rattle.index_plan.specs.declared.fault.ReadFault.{ReadFault}
 use Rattle.index_plan.specs.declared.fault.ReadFault.TheVariants as reading
-use Rattle.index_plan.specs.Faults.{OnReadFailed, ReadFails, read_cause}
+use Rattle.index_plan.specs.Faults.{ReadFails, read_cause}
 use Rattle.index_plan.specs.Lists.{own_key}
 use Rattle.index_plan.specs.Reading.{Reads}
 use Rattle.index_tree.specs.declared.fault.TreeFault.{TreeFault}
@@ -48,8 +48,8 @@ read_known None f vcn held node result holds got ok err = tt
 read_known (Some c) f vcn held node result holds got ok err = holds_at f c vcn held node result (holds c refl) got ok err
 
 pub read_quiet : {T : Type 0} (result : Result T ReadFault) → IfErr result (λ e. e ≡ reading.Memory) → ReadFails 0 0 result
-read_quiet (Ok x) err = record { later = omega arith; failed = tt }
-read_quiet (Err e) err = record { later = omega arith; failed = subst (λ (x : ReadFault). OnReadFailed x (Rose 0 0)) (sym err) tt }
+read_quiet (Ok x) err = record { later = omega arith; counted = refl }
+read_quiet (Err e) err = record { later = omega arith; counted = subst (λ (x : ReadFault). CountsCause 0 0 (read_cause x)) (sym err) refl }
 
 abbrev pub Adds : (Content → Reads) → BTreeMap ℕ NodeOf → BTreeMap ℕ NodeOf → Content → Type 0
 Adds f old new c = Holds (f c) old → Holds (f c) new

@@ -1,8 +1,9 @@
 -- Where an error of a plan comes from.
-use Rattle.std.specs.Prelude.{◌≡◌, ℕ, ◌≤◌, ⊤, Result, Ok, Err, IfErr}
+use Rattle.std.specs.Prelude.{◌≡◌, ℕ, ◌≤◌, ⊤, Result, Ok, Err, IfErr, OnOk}
+use Rattle.host_base.specs.Causes.{CountsCause}
 use Rattle.index_tree.specs.declared.fault.TreeFault.{TreeFault}
 use Rattle.index_tree.specs.declared.fault.TreeFault.TheVariants.{Node, Present, Absent, Deep, View}
-use Rattle.index_tree.specs.Faults.{ViewRose}
+use Rattle.index_tree.specs.Faults.{view_cause}
 use Rattle.index_model.specs.Walks.{Broken}
 
 -- the error is of a view, or want of memory
@@ -23,15 +24,16 @@ AfterFind {A = A} (Err Absent) found = (a : A) × (found ≡ Ok a)
 AfterFind {A = A} (Err (Deep height)) found = (a : A) × (found ≡ Ok a)
 AfterFind (Err (View cause)) found = ⊤
 
--- the error of a plan: a view, whose faults rose where it failed, or another one
-abbrev pub PlanRose : ℕ → ℕ → TreeFault → Type 0
-PlanRose before now (Node vcn rule) = ⊤
-PlanRose before now Present = ⊤
-PlanRose before now Absent = ⊤
-PlanRose before now (Deep height) = ⊤
-PlanRose before now (View cause) = ViewRose before now cause
+-- the view's faults at an error of a plan: they rose where it failed, and else are as they were
+abbrev pub PlanCounts : ℕ → ℕ → TreeFault → Type 0
+PlanCounts before now (Node vcn rule) = now ≡ before
+PlanCounts before now Present = now ≡ before
+PlanCounts before now Absent = now ≡ before
+PlanCounts before now (Deep height) = now ≡ before
+PlanCounts before now (View cause) = CountsCause before now (view_cause cause)
 
--- the view's faults did not fall, and rose where a plan failed by them
+-- the view's faults rose where a plan failed by them, and are as they were in each other answer
 pub record Planned {T : Type 0} (before now : ℕ) (result : Result T TreeFault) : Type 0 where
   pub later : before ≤ now
-  pub rose : IfErr result (PlanRose before now)
+  pub unfailed : OnOk result (now ≡ before)
+  pub counted : IfErr result (PlanCounts before now)

@@ -1,4 +1,4 @@
-use Rattle.std.proofs.Common.{List, [], ◌∷◌, ◌++◌, sym, ◌∙◌, subst, arith}
+use Rattle.std.proofs.Common.{List, [], ◌∷◌, ◌++◌, sym, ◌∙◌, subst}
 use Rattle.std.specs.Prelude.{IfSome}
 use Rattle.disk_model.specs.declared.block.Change.{Change}
 use Rattle.disk_model.specs.Content.{Content}
@@ -13,7 +13,7 @@ loop-write-preserved g c = record {
   old = subst (λ (l : List Change). IfSome (g.V.View.content c.args.v.now) (λ (x : Content). AllWereOld x l)) (sym c.in_ok-push.ensures.pushed) (old_known (g.V.View.content c.args.v.now) _ c.loop-write.changes.items c.in_ok-change.change c.loop-write.invariant.same c.loop-write.invariant.old c.in_ok-change.ensures.old);
   same = c.in_ok-change.ensures.same ∙ c.loop-write.invariant.same;
   kept = c.in_ok-change.ensures.kept ∙ c.loop-write.invariant.kept;
-  later = omega (arith, c.loop-write.invariant.later, c.in_ok-change.ensures.cause.later);
+  counted = c.in_ok-change.ensures.cause.counted ∙ c.loop-write.invariant.counted;
 }
 
 pub returns-clause-fits : goal.returns-clause-fits

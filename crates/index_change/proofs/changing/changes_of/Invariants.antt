@@ -1,4 +1,4 @@
-use Rattle.std.proofs.Common.{◌≡◌, ◌≤◌}
+use Rattle.std.proofs.Common.{◌≡◌}
 use Rattle.std.specs.Prelude.{IfSome}
 use Rattle.index_change.specs.Changing.{PutNodes, AllWereOld}
 use Rattle.index_tree.specs.Places.{place_of}
@@ -10,5 +10,5 @@ invariant-loop-write g l = record {
   old : IfSome (g.V.View.content l.initial.v) (λ c. AllWereOld c l.changes.items);
   same : g.V.View.content l.v ≡ g.V.View.content l.initial.v;
   kept : g.V.View.kept l.v ≡ g.V.View.kept l.initial.v;
-  later : g.V.View.faults l.initial.v ≤ g.V.View.faults l.v;
+  counted : g.V.View.faults l.v ≡ g.V.View.faults l.initial.v;
 }

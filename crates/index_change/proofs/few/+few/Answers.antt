@@ -26,5 +26,5 @@ few_in-loop-i-preserved g t c =
       few = omega (arith, c.if-keys-ge2.false);
       same = c.in_ok-below.ensures.same ∙ c.loop-i.invariant.same;
       kept = c.in_ok-below.ensures.kept ∙ c.loop-i.invariant.kept;
-      later = omega (arith, c.loop-i.invariant.later, c.in_ok-below.ensures.cause.later);
+      counted = c.in_ok-below.ensures.cause.counted ∙ c.loop-i.invariant.counted;
     }

@@ -18,5 +18,5 @@ tallest-loop-entry-init g t c = record {
   few = omega arith;
   same = refl;
   kept = refl;
-  later = omega arith;
+  counted = refl;
 }

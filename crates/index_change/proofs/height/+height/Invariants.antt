@@ -19,5 +19,5 @@ invariant-tallest-loop-entry g l = record {
   few : l.most ≤ l.levels + 1;
   same : g.V.View.content l.v ≡ g.V.View.content l.initial.v;
   kept : g.V.View.kept l.v ≡ g.V.View.kept l.initial.v;
-  later : g.V.View.faults l.initial.v ≤ g.V.View.faults l.v;
+  counted : g.V.View.faults l.v ≡ g.V.View.faults l.initial.v;
 }

@@ -1,4 +1,4 @@
-use Rattle.std.proofs.Common.{◌∙◌, arith}
+use Rattle.std.proofs.Common.{◌∙◌}
 use Rattle.disk_model.specs.Content.{Content}
 use Rattle.index_model.specs.Indexes.{node_of_block}
 use Rattle.index_tree.specs.Places.{place_of}
@@ -19,5 +19,5 @@ entries-loop-entry-preserved g t c = record {
       adds_both _ _ (λ (content : Content). node_of_block content (place_of c.args.self.now.dir.now)) c.args.held.now c.loop-entry.held c.entry.new.held c.loop-entry.invariant.same c.loop-entry.invariant.right c.in_ok-side.ensures.right;
   same = c.in_ok-side.ensures.same ∙ c.loop-entry.invariant.same;
   kept = c.in_ok-side.ensures.kept ∙ c.loop-entry.invariant.kept;
-  later = omega (arith, c.loop-entry.invariant.later, c.in_ok-side.ensures.cause.later);
+  counted = c.in_ok-side.ensures.cause.counted ∙ c.loop-entry.invariant.counted;
 }

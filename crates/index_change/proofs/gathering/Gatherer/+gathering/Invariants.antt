@@ -1,4 +1,4 @@
-use Rattle.std.proofs.Common.{◌≡◌, ◌+◌, ◌*◌, ◌≤◌}
+use Rattle.std.proofs.Common.{◌≡◌, ◌+◌, ◌*◌}
 use Rattle.std.specs.Prelude.{IfSome}
 use Rattle.index_model.specs.Indexes.{node_of_block}
 use Rattle.index_change.specs.Holding.{Holds}
@@ -22,5 +22,5 @@ invariant-entries-loop-entry g l = record {
   right : IfSome (g.V.View.content l.initial.v) (λ c. Holds (node_of_block c (place_of l.self.dir.now)) l.initial.held → Holds (node_of_block c (place_of l.self.dir.now)) l.held);
   same : g.V.View.content l.v ≡ g.V.View.content l.initial.v;
   kept : g.V.View.kept l.v ≡ g.V.View.kept l.initial.v;
-  later : g.V.View.faults l.initial.v ≤ g.V.View.faults l.v;
+  counted : g.V.View.faults l.v ≡ g.V.View.faults l.initial.v;
 }
