@@ -1,10 +1,10 @@
 //! The tree of the volume on a device.
 ghost use Rattle.std.specs.Prelude.{◌≡◌, ◌*◌, ◌^◌, ◌<◌, ◌≤◌, IfOk, IfSome, IsErrOf};
 ghost use Rattle.host_base.specs.Answers.{Gives, GivesOrFails};
-ghost use Rattle.host_base.specs.Causes.{HasFailed, Rose};
+ghost use Rattle.host_base.specs.Causes.{HasFailed, Rose, Counts, last_moment};
 ghost use Rattle.disk_model.specs.Sectors.{sector_of};
 ghost use Rattle.disk_model.specs.Content.{content_of};
-ghost use Rattle.device_view.specs.Devices.{KeepsDevice};
+ghost use Rattle.device_view.specs.Devices.{KeepsDevice, CountsOnDevice};
 ghost use Rattle.volume_map.specs.Maps.{IsMap, volume_in};
 ghost use Rattle.block_view.specs.Views.{KeepsView};
 ghost use Rattle.image_scan.specs.Errors.{scan_cause};
@@ -50,6 +50,7 @@ pub fn tree_on<V: View>(alloc: Global, view: &mut V, map: &VolumeMap) -> Result<
     ensures answer { IfSome (V.content view.old) (λ c. GivesOrFails (λ tree. tree) scan_cause result (tree_on c (volume_in map.now))) }
     ensures kept { KeepsView V.content V.kept V.faults view.old view.new }
     ensures fault { IsErrOf result ScanError.Device → Rose (V.faults view.old) (V.faults view.new) }
+    ensures counted { Counts scan_cause (V.faults view.old) (V.faults view.new) result }
 {
     match check(alloc, view, map) {
         Ok(tree) => Ok(tree),
@@ -85,6 +86,7 @@ fn volume_tree<V: View>(alloc: Global, view: &mut V, map: &VolumeMap) -> Result<
     ensures answer { IfSome (V.content view.old) (λ c. GivesOrFails (λ tree. tree) scan_cause result (volume_tree c (volume_in map.now))) }
     ensures kept { KeepsView V.content V.kept V.faults view.old view.new }
     ensures fault { IsErrOf result ScanError.Device → Rose (V.faults view.old) (V.faults view.new) }
+    ensures counted { Counts scan_cause (V.faults view.old) (V.faults view.new) result }
 {
     check_version(map)?;
     tree_on(alloc, view, map)
@@ -109,6 +111,7 @@ pub fn volume_on<V: View>(
     ensures map { IfOk result IsMap }
     ensures kept { KeepsView V.content V.kept V.faults view.old view.new }
     ensures fault { IsErrOf result ScanError.Device → Rose (V.faults view.old) (V.faults view.new) }
+    ensures counted { Counts scan_cause (V.faults view.old) (V.faults view.new) result }
 {
     Ok(load_volume(alloc, view, geometry, total)?)
 }
@@ -126,6 +129,7 @@ fn loaded_tree<V: View>(
     ensures answer { IfSome (V.content view.old) (λ c. GivesOrFails (λ tree. tree) scan_cause result (loaded_tree c geometry total)) }
     ensures kept { KeepsView V.content V.kept V.faults view.old view.new }
     ensures fault { IsErrOf result ScanError.Device → Rose (V.faults view.old) (V.faults view.new) }
+    ensures counted { Counts scan_cause (V.faults view.old) (V.faults view.new) result }
 {
     let map = volume_on(alloc, view, geometry, total)?;
     volume_tree(alloc, view, &map)
@@ -137,6 +141,7 @@ fn opened_tree<V: View>(alloc: Global, view: &mut V, opening: &Opening) -> Resul
     ensures answer { IfSome (V.content view.old) (λ c. GivesOrFails (λ tree. tree) scan_cause result (loaded_tree (content_after opening.now c) opening.now.geometry opening.now.total)) }
     ensures kept { KeepsView V.content V.kept V.faults view.old view.new }
     ensures fault { IsErrOf result ScanError.Device → Rose (V.faults view.old) (V.faults view.new) }
+    ensures counted { Counts scan_cause (V.faults view.old) (V.faults view.new) result }
 {
     let places = places_of(alloc, &opening.bodies)?;
     let mut recovered = RecoveredView::new(view, &opening.bodies, &places);
@@ -148,6 +153,7 @@ fn check_view<V: View>(alloc: Global, view: &mut V, sectors: u64) -> Result<Tree
     ensures answer { IfSome (V.content view.old) (λ c. GivesOrFails (λ tree. tree) scan_cause result (check_in c sectors)) }
     ensures kept { KeepsView V.content V.kept V.faults view.old view.new }
     ensures fault { IsErrOf result ScanError.Device → Rose (V.faults view.old) (V.faults view.new) }
+    ensures counted { Counts scan_cause (V.faults view.old) (V.faults view.new) result }
 {
     let opening = open_volume(alloc, view, sectors)?;
     opened_tree(alloc, view, &opening)
@@ -158,6 +164,7 @@ fn check_device<D: Device>(alloc: Global, device: &mut D, sectors: u64) -> Resul
     ensures answer { IfSome (D.gives device.old) (λ disk. GivesOrFails (λ tree. tree) scan_cause result (check_in (content_of (sector_of disk)) sectors)) }
     ensures kept { KeepsDevice D.gives D.sector_count D.fault_count device.old device.new }
     ensures fault { IsErrOf result ScanError.Device → HasFailed (D.fault_count device.old) (D.fault_count device.new) (D.moment_of device.new) }
+    ensures counted { D.moment_of device.old < last_moment → CountsOnDevice scan_cause (D.fault_count device.old) (D.fault_count device.new) (D.moment_of device.new) result }
 {
     let mut room = piece_room(alloc)?;
     let mut view = DeviceView::new(&mut room, device);
@@ -186,6 +193,7 @@ pub fn check_image<D: Device>(alloc: Global, device: &mut D) -> Result<Tree, Sca
     ensures answer { IfSome (D.gives device.old) (λ disk. GivesOrFails (λ tree. tree) scan_cause result (check_of disk)) }
     ensures kept { KeepsDevice D.gives D.sector_count D.fault_count device.old device.new }
     ensures fault { IsErrOf result ScanError.Device → HasFailed (D.fault_count device.old) (D.fault_count device.new) (D.moment_of device.new) }
+    ensures counted { D.moment_of device.old < last_moment → CountsOnDevice scan_cause (D.fault_count device.old) (D.fault_count device.new) (D.moment_of device.new) result }
 {
     let sectors = device.sectors();
     if sectors == 0 {
