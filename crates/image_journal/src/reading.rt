@@ -1,10 +1,10 @@
 //! The journal of the volume on a device.
 ghost use Rattle.std.specs.Prelude.{◌≡◌, ◌*◌, ◌^◌, ◌<◌, ◌≤◌, Ok, IsOk, IfSome, IsErrOf};
 ghost use Rattle.host_base.specs.Answers.{GivesOrFails};
-ghost use Rattle.host_base.specs.Causes.{HasFailed, Rose};
+ghost use Rattle.host_base.specs.Causes.{HasFailed, Rose, Counts, last_moment};
 ghost use Rattle.disk_model.specs.Sectors.{sector_of};
 ghost use Rattle.disk_model.specs.Content.{content_of};
-ghost use Rattle.device_view.specs.Devices.{KeepsDevice};
+ghost use Rattle.device_view.specs.Devices.{KeepsDevice, CountsOnDevice};
 ghost use Rattle.stream_map.specs.Runs.{AreSmall};
 ghost use Rattle.volume_map.specs.Maps.{IsMap, volume_in};
 ghost use Rattle.block_view.specs.Views.{KeepsView};
@@ -57,6 +57,7 @@ fn records_in<V: View>(
     ensures answer { IfSome (V.content view.old) (λ c. GivesOrFails (λ j. j) scan_cause result (Ok (records_in c per extents.now))) }
     ensures kept { KeepsView V.content V.kept V.faults view.old view.new }
     ensures fault { IsErrOf result ScanError.Device → Rose (V.faults view.old) (V.faults view.new) }
+    ensures counted { Counts scan_cause (V.faults view.old) (V.faults view.new) result }
 {
     let first = first_byte(per, extents);
     let entries = all_entries(alloc, view, per, extents, first, body)?;
@@ -82,6 +83,7 @@ fn records_by<V: View>(
     ensures answer { IfSome (V.content view.old) (λ c. GivesOrFails (λ j. j) scan_cause result (records_by c (volume_in map.now) extents.now)) }
     ensures kept { KeepsView V.content V.kept V.faults view.old view.new }
     ensures fault { IsErrOf result ScanError.Device → Rose (V.faults view.old) (V.faults view.new) }
+    ensures counted { Counts scan_cause (V.faults view.old) (V.faults view.new) result }
 {
     tree_on(alloc, view, map)?;
     records_in(alloc, view, map.per_cluster, extents, body)
@@ -97,6 +99,7 @@ fn placed_records<V: View>(
     ensures answer { IfSome (V.content view.old) (λ c. GivesOrFails (λ j. j) scan_cause result (placed_records c (volume_in map.now))) }
     ensures kept { KeepsView V.content V.kept V.faults view.old view.new }
     ensures fault { IsErrOf result ScanError.Device → Rose (V.faults view.old) (V.faults view.new) }
+    ensures counted { Counts scan_cause (V.faults view.old) (V.faults view.new) result }
 {
     let mut body = Body::empty(alloc)?;
     let extents = place_on(alloc, view, map, &mut body)?;
@@ -113,6 +116,7 @@ fn volume_records<V: View>(
     ensures answer { IfSome (V.content view.old) (λ c. GivesOrFails (λ j. j) scan_cause result (volume_records c (volume_in map.now))) }
     ensures kept { KeepsView V.content V.kept V.faults view.old view.new }
     ensures fault { IsErrOf result ScanError.Device → Rose (V.faults view.old) (V.faults view.new) }
+    ensures counted { Counts scan_cause (V.faults view.old) (V.faults view.new) result }
 {
     check_version(map)?;
     placed_records(alloc, view, map)
@@ -131,6 +135,7 @@ fn loaded_records<V: View>(
     ensures answer { IfSome (V.content view.old) (λ c. GivesOrFails (λ j. j) scan_cause result (loaded_records c geometry total)) }
     ensures kept { KeepsView V.content V.kept V.faults view.old view.new }
     ensures fault { IsErrOf result ScanError.Device → Rose (V.faults view.old) (V.faults view.new) }
+    ensures counted { Counts scan_cause (V.faults view.old) (V.faults view.new) result }
 {
     let map = volume_on(alloc, view, geometry, total)?;
     volume_records(alloc, view, &map)
@@ -146,6 +151,7 @@ fn opened_records<V: View>(
     ensures answer { IfSome (V.content view.old) (λ c. GivesOrFails (λ j. j) scan_cause result (loaded_records (content_after opening.now c) opening.now.geometry opening.now.total)) }
     ensures kept { KeepsView V.content V.kept V.faults view.old view.new }
     ensures fault { IsErrOf result ScanError.Device → Rose (V.faults view.old) (V.faults view.new) }
+    ensures counted { Counts scan_cause (V.faults view.old) (V.faults view.new) result }
 {
     let places = places_of(alloc, &opening.bodies)?;
     let mut recovered = RecoveredView::new(view, &opening.bodies, &places);
@@ -157,6 +163,7 @@ fn read_view<V: View>(alloc: Global, view: &mut V, sectors: u64) -> Result<ReadJ
     ensures answer { IfSome (V.content view.old) (λ c. GivesOrFails (λ j. j) scan_cause result (journal_in c sectors)) }
     ensures kept { KeepsView V.content V.kept V.faults view.old view.new }
     ensures fault { IsErrOf result ScanError.Device → Rose (V.faults view.old) (V.faults view.new) }
+    ensures counted { Counts scan_cause (V.faults view.old) (V.faults view.new) result }
 {
     let opening = open_volume(alloc, view, sectors)?;
     opened_records(alloc, view, &opening)
@@ -171,6 +178,7 @@ fn read_device<D: Device>(
     ensures answer { IfSome (D.gives device.old) (λ disk. GivesOrFails (λ j. j) scan_cause result (journal_in (content_of (sector_of disk)) sectors)) }
     ensures kept { KeepsDevice D.gives D.sector_count D.fault_count device.old device.new }
     ensures fault { IsErrOf result ScanError.Device → HasFailed (D.fault_count device.old) (D.fault_count device.new) (D.moment_of device.new) }
+    ensures counted { D.moment_of device.old < last_moment → CountsOnDevice scan_cause (D.fault_count device.old) (D.fault_count device.new) (D.moment_of device.new) result }
 {
     let mut room = piece_room(alloc)?;
     let mut view = DeviceView::new(&mut room, device);
@@ -194,6 +202,7 @@ pub fn read_journal<D: Device>(alloc: Global, device: &mut D) -> Result<ReadJour
     ensures answer { IfSome (D.gives device.old) (λ disk. GivesOrFails (λ j. j) scan_cause result (journal_of disk)) }
     ensures kept { KeepsDevice D.gives D.sector_count D.fault_count device.old device.new }
     ensures fault { IsErrOf result ScanError.Device → HasFailed (D.fault_count device.old) (D.fault_count device.new) (D.moment_of device.new) }
+    ensures counted { D.moment_of device.old < last_moment → CountsOnDevice scan_cause (D.fault_count device.old) (D.fault_count device.new) (D.moment_of device.new) result }
 {
     let sectors = device.sectors();
     if sectors == 0 {

@@ -1,7 +1,7 @@
 //! The records of a journal whose place is known.
 ghost use Rattle.std.specs.Prelude.{◌≡◌, ◌<◌, ◌≤◌, List, length, IfOk, IfSome, IsOk, IsErrOf, Ok};
 ghost use Rattle.host_base.specs.Answers.{Gives, GivesOrFails};
-ghost use Rattle.host_base.specs.Causes.{Rose};
+ghost use Rattle.host_base.specs.Causes.{Rose, Counts};
 ghost use Rattle.tree_model.specs.declared.journal.Usn.{Usn as UsnOf};
 ghost use Rattle.state_model.specs.Loads.{table_in};
 ghost use Rattle.state_model.specs.Trees.{all_links};
@@ -91,6 +91,7 @@ pub fn place_on<V: View>(
     ensures small { IfOk result (λ e. AreSmall e.runs) }
     ensures kept { KeepsView V.content V.kept V.faults view.old view.new }
     ensures fault { IsErrOf result ScanError.Device → Rose (V.faults view.old) (V.faults view.new) }
+    ensures counted { Counts scan_cause (V.faults view.old) (V.faults view.new) result }
 {
     let up = upper_table(alloc, view, map, body)?;
     let links = all_links(alloc, &map.files)?;
@@ -132,6 +133,7 @@ pub fn all_entries<V: View>(
     ensures answer { IfSome (V.content view.old) (λ c. GivesOrFails (λ (l : List UsnOf). l) scan_cause result (Ok (read_entries (journal_entries c per extents.now)))) }
     ensures kept { KeepsView V.content V.kept V.faults view.old view.new }
     ensures fault { IsErrOf result ScanError.Device → Rose (V.faults view.old) (V.faults view.new) }
+    ensures counted { Counts scan_cause (V.faults view.old) (V.faults view.new) result }
 {
     match read_from(alloc, view, per, extents, first, MOST, body) {
         Ok(pulled) => fewer(pulled.entries),
