@@ -1,5 +1,5 @@
 -- A command that runs no script isn't a run.
-use Rattle.std.proofs.Common.{◌≡◌, ℕ, List, Option, Some, None, refl}
+use Rattle.std.proofs.Common.{◌≡◌, List, Option, Some, None, refl}
 use Rattle.std.specs.Global.{Global}
 use Rattle.std.specs.Prelude.{IfSome, String}
 use Rattle.command_line.specs.declared.command.Command.{Command}

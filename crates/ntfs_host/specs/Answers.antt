@@ -1,11 +1,13 @@
 -- What the commands that run no script answer, and what they leave on the device.
-use Rattle.std.specs.Prelude.{◌≡◌, ⊤, ℕ, List, length, Option, None, Some, Result, Ok}
+use Rattle.std.specs.Prelude.{◌≡◌, ⊤, ℕ, List, length, Option, Result, Ok}
 use Rattle.std.specs.Option.{option_map}
 use Rattle.host_base.specs.Answers.{◌>>=◌}
 use Rattle.volume_format.specs.declared.fault.FormatFault.{FormatFault}
 use Rattle.volume_format.specs.declared.fault.FormatFault.TheVariants as formats
 use Rattle.volume_format.specs.Answers.{format_answer}
-use Rattle.volume_format.specs.Images.{formatted}
+use Rattle.volume_format.specs.Layouts.{layout_of}
+use Rattle.volume_format.specs.Images.{regions, formatted}
+use Rattle.volume_format.specs.Stopping.{PutsFront, KeepsOthers}
 use Rattle.image_scan.specs.declared.refusal.Refusal.{Refusal}
 use Rattle.image_scan.specs.declared.refusal.Refusal.TheVariants.{VolumeLarge, Short, Unbuilt}
 use Rattle.image_scan.specs.declared.refusal.ScanError.{ScanError}
@@ -80,6 +82,23 @@ Leaves Dump gives gives_now = gives_now ≡ gives
 Leaves Check gives gives_now = gives_now ≡ gives
 Leaves Journal gives gives_now = gives_now ≡ gives
 Leaves (Format seed time) gives gives_now = gives_now ≡ option_map (λ disk. formatted disk seed time) gives
+
+-- What a command leaves whose device failed, by the number of its sectors: a format a front of its regions and any sectors of the
+-- next one, another command what was there.
+abbrev pub LeavesFront : Quiet → ℕ → Option (List (List ℕ)) → Option (List (List ℕ)) → Type 0
+LeavesFront Scan sectors gives gives_now = gives_now ≡ gives
+LeavesFront Dump sectors gives gives_now = gives_now ≡ gives
+LeavesFront Check sectors gives gives_now = gives_now ≡ gives
+LeavesFront Journal sectors gives gives_now = gives_now ≡ gives
+LeavesFront (Format seed time) sectors gives gives_now = PutsFront (regions (layout_of sectors) seed time) gives gives_now
+
+-- What each command leaves, whatever comes of it: a format free clusters and all behind them, another command everything.
+abbrev pub LeavesRest : Quiet → ℕ → Option (List (List ℕ)) → Option (List (List ℕ)) → Type 0
+LeavesRest Scan sectors gives gives_now = gives_now ≡ gives
+LeavesRest Dump sectors gives gives_now = gives_now ≡ gives
+LeavesRest Check sectors gives gives_now = gives_now ≡ gives
+LeavesRest Journal sectors gives gives_now = gives_now ≡ gives
+LeavesRest (Format seed time) sectors gives gives_now = KeepsOthers (layout_of sectors) gives gives_now
 
 -- a refusal, and no fault
 abbrev pub IsRefusal : ScanError → Type 0

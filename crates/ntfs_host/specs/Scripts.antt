@@ -6,8 +6,15 @@ use Rattle.host_base.specs.Answers.{Cause, refused, no_memory, failed}
 use Rattle.script_text.specs.declared.fault.ScriptFault.{ScriptFault}
 use Rattle.script_text.specs.declared.fault.ScriptFault.TheVariants as script
 use Rattle.script_text.specs.Scripts.{script_of}
+use Rattle.ntfs_host.specs.declared.reading.SourceError.{SourceError}
+use Rattle.ntfs_host.specs.declared.reading.SourceError.TheVariants as sources
 use Rattle.ntfs_host.specs.declared.scripts.ScriptError.{ScriptError}
 use Rattle.ntfs_host.specs.declared.scripts.ScriptError.TheVariants as errors
+
+-- why a source's bytes can't be had
+abbrev pub source_cause : SourceError → Cause (Unit {0})
+source_cause sources.Memory = no_memory
+source_cause sources.Source = failed
 
 -- where an error comes from
 abbrev pub script_error_cause : ScriptError → Cause ScriptFault

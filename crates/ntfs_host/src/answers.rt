@@ -1,13 +1,16 @@
 //! The texts that answer the commands that run no script.
-ghost use Rattle.std.specs.Prelude.{◌≡◌, ◌≤◌, ◌⊎◌, IfOk, IfErr, IfSome, IsErr, IsErrOf, string_bytes};
+ghost use Rattle.std.specs.Prelude.{◌≡◌, ◌<◌, ◌≤◌, ◌⊎◌, IfOk, IfErr, IfSome, IsErr, IsErrOf, string_bytes};
 ghost use Rattle.std.specs.Option.{option_map};
 ghost use Rattle.host_base.specs.Answers.{GivesOrFails};
-ghost use Rattle.host_base.specs.Causes.{HasFailed};
+ghost use Rattle.host_base.specs.Causes.{HasFailed, last_moment};
+ghost use Rattle.device_view.specs.Devices.{CountsOnDevice};
 ghost use Rattle.volume_format.specs.Answers.{format_answer};
-ghost use Rattle.volume_format.specs.Images.{formatted};
+ghost use Rattle.volume_format.specs.Images.{regions, formatted};
+ghost use Rattle.volume_format.specs.Layouts.{layout_of};
+ghost use Rattle.volume_format.specs.Stopping.{PutsFront, KeepsOthers};
 ghost use Rattle.image_scan.specs.Errors.{scan_cause, refused_as};
 ghost use Rattle.image_dump.specs.Texts.{scan_text, dump_text, check_text, journal_text};
-ghost use Rattle.ntfs_host.specs.Answers.{scan_answer, dump_answer, check_answer, journal_answer, format_refusal, error_of_format, format_line, answer_of, IsReader, Leaves, IsRefusal};
+ghost use Rattle.ntfs_host.specs.Answers.{scan_answer, dump_answer, check_answer, journal_answer, format_refusal, error_of_format, format_line, answer_of, IsReader, Leaves, LeavesFront, LeavesRest, IsRefusal};
 
 use crate::command::Quiet;
 use crate::text::formatted_line;
@@ -61,6 +64,7 @@ fn scan_answer<D: Device>(alloc: Global, device: &mut D) -> Result<String, ScanE
     ensures sectors { D.sector_count device.new ≡ D.sector_count device.old }
     ensures later { D.fault_count device.old ≤ D.fault_count device.new }
     ensures fault { IsErrOf result ScanError.Device → HasFailed (D.fault_count device.old) (D.fault_count device.new) (D.moment_of device.new) }
+    ensures counted { D.moment_of device.old < last_moment → CountsOnDevice scan_cause (D.fault_count device.old) (D.fault_count device.new) (D.moment_of device.new) result }
 {
     let links = scan_image(alloc, device)?;
     Ok(text_of_links(alloc, &links)?)
@@ -73,6 +77,7 @@ fn dump_answer<D: Device>(alloc: Global, device: &mut D) -> Result<String, ScanE
     ensures sectors { D.sector_count device.new ≡ D.sector_count device.old }
     ensures later { D.fault_count device.old ≤ D.fault_count device.new }
     ensures fault { IsErrOf result ScanError.Device → HasFailed (D.fault_count device.old) (D.fault_count device.new) (D.moment_of device.new) }
+    ensures counted { D.moment_of device.old < last_moment → CountsOnDevice scan_cause (D.fault_count device.old) (D.fault_count device.new) (D.moment_of device.new) result }
 {
     let tree = check_image(alloc, device)?;
     Ok(dump_of_tree(alloc, &tree)?)
@@ -85,6 +90,7 @@ fn check_answer<D: Device>(alloc: Global, device: &mut D) -> Result<String, Scan
     ensures sectors { D.sector_count device.new ≡ D.sector_count device.old }
     ensures later { D.fault_count device.old ≤ D.fault_count device.new }
     ensures fault { IsErrOf result ScanError.Device → HasFailed (D.fault_count device.old) (D.fault_count device.new) (D.moment_of device.new) }
+    ensures counted { D.moment_of device.old < last_moment → CountsOnDevice scan_cause (D.fault_count device.old) (D.fault_count device.new) (D.moment_of device.new) result }
 {
     let tree = check_image(alloc, device)?;
     Ok(line_of_tree(alloc, &tree)?)
@@ -97,6 +103,7 @@ fn journal_answer<D: Device>(alloc: Global, device: &mut D) -> Result<String, Sc
     ensures sectors { D.sector_count device.new ≡ D.sector_count device.old }
     ensures later { D.fault_count device.old ≤ D.fault_count device.new }
     ensures fault { IsErrOf result ScanError.Device → HasFailed (D.fault_count device.old) (D.fault_count device.new) (D.moment_of device.new) }
+    ensures counted { D.moment_of device.old < last_moment → CountsOnDevice scan_cause (D.fault_count device.old) (D.fault_count device.new) (D.moment_of device.new) result }
 {
     let journal = read_journal(alloc, device)?;
     Ok(text_of_journal(alloc, &journal)?)
@@ -126,12 +133,15 @@ fn make_volume<D: Device>(
 ) -> Result<Formatted, ScanError>
     ensures answer { GivesOrFails (λ f. f) scan_cause result (refused_as format_refusal (format_answer (D.sector_count device.old))) }
     ensures image { IfOk result (λ f. D.gives device.new ≡ option_map (λ disk. formatted disk seed time) (D.gives device.old)) }
+    ensures stopped { IsErrOf result ScanError.Device → PutsFront (regions (layout_of (D.sector_count device.old)) seed time) (D.gives device.old) (D.gives device.new) }
+    ensures others { KeepsOthers (layout_of (D.sector_count device.old)) (D.gives device.old) (D.gives device.new) }
     ensures refused { IfErr result (λ e. IsRefusal e → D.gives device.new ≡ D.gives device.old) }
     ensures left_refused { IsErr (format_answer (D.sector_count device.old)) → D.gives device.new ≡ D.gives device.old }
     ensures wanting { IsErrOf result ScanError.Memory → D.gives device.new ≡ D.gives device.old }
     ensures sectors { D.sector_count device.new ≡ D.sector_count device.old }
     ensures later { D.fault_count device.old ≤ D.fault_count device.new }
     ensures fault { IsErrOf result ScanError.Device → HasFailed (D.fault_count device.old) (D.fault_count device.new) (D.moment_of device.new) }
+    ensures counted { CountsOnDevice scan_cause (D.fault_count device.old) (D.fault_count device.new) (D.moment_of device.new) result }
 {
     match format(alloc, device, seed, time) {
         Ok(formatted) => Ok(formatted),
@@ -149,12 +159,15 @@ fn format_answer<D: Device>(
 ) -> Result<String, ScanError>
     ensures answer { GivesOrFails (λ text. string_bytes text) scan_cause result (format_line (D.sector_count device.old)) }
     ensures image { IfOk result (λ text. D.gives device.new ≡ option_map (λ disk. formatted disk seed time) (D.gives device.old)) }
+    ensures stopped { IsErrOf result ScanError.Device → PutsFront (regions (layout_of (D.sector_count device.old)) seed time) (D.gives device.old) (D.gives device.new) }
+    ensures others { KeepsOthers (layout_of (D.sector_count device.old)) (D.gives device.old) (D.gives device.new) }
     ensures refused { IfErr result (λ e. IsRefusal e → D.gives device.new ≡ D.gives device.old) }
     ensures left_refused { IsErr (format_line (D.sector_count device.old)) → D.gives device.new ≡ D.gives device.old }
     ensures wanting { IsErrOf result ScanError.Memory → (D.gives device.new ≡ D.gives device.old) ⊎ (D.gives device.new ≡ option_map (λ disk. formatted disk seed time) (D.gives device.old)) }
     ensures sectors { D.sector_count device.new ≡ D.sector_count device.old }
     ensures later { D.fault_count device.old ≤ D.fault_count device.new }
     ensures fault { IsErrOf result ScanError.Device → HasFailed (D.fault_count device.old) (D.fault_count device.new) (D.moment_of device.new) }
+    ensures counted { CountsOnDevice scan_cause (D.fault_count device.old) (D.fault_count device.new) (D.moment_of device.new) result }
 {
     let formatted = make_volume(alloc, device, seed, time)?;
     Ok(formatted_line(alloc, formatted)?)
@@ -172,6 +185,8 @@ pub fn answer<D: Device>(
 ) -> Result<String, ScanError>
     ensures answer { IfSome (D.gives device.old) (λ disk. GivesOrFails (λ text. string_bytes text) scan_cause result (answer_of command.now disk)) }
     ensures leaves { IfOk result (λ text. Leaves command.now (D.gives device.old) (D.gives device.new)) }
+    ensures stopped { IsErrOf result ScanError.Device → LeavesFront command.now (D.sector_count device.old) (D.gives device.old) (D.gives device.new) }
+    ensures others { LeavesRest command.now (D.sector_count device.old) (D.gives device.old) (D.gives device.new) }
     ensures refused { IfErr result (λ e. IsRefusal e → D.gives device.new ≡ D.gives device.old) }
     ensures left_refused { IfSome (D.gives device.old) (λ disk. IsErr (answer_of command.now disk) → D.gives device.new ≡ D.gives device.old) }
     ensures wanting { IsErrOf result ScanError.Memory → (D.gives device.new ≡ D.gives device.old) ⊎ Leaves command.now (D.gives device.old) (D.gives device.new) }
@@ -179,6 +194,7 @@ pub fn answer<D: Device>(
     ensures sectors { D.sector_count device.new ≡ D.sector_count device.old }
     ensures later { D.fault_count device.old ≤ D.fault_count device.new }
     ensures fault { IsErrOf result ScanError.Device → HasFailed (D.fault_count device.old) (D.fault_count device.new) (D.moment_of device.new) }
+    ensures counted { D.moment_of device.old < last_moment → CountsOnDevice scan_cause (D.fault_count device.old) (D.fault_count device.new) (D.moment_of device.new) result }
 {
     match command {
         Quiet::Scan => scan_answer(alloc, device),

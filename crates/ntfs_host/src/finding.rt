@@ -5,6 +5,7 @@ ghost use Rattle.host_base.specs.Answers.{Gives, GivesOrFails};
 ghost use Rattle.host_base.specs.Causes.{HasFailed};
 ghost use Rattle.disk_model.specs.Sectors.{raw_from, sector_of};
 ghost use Rattle.disk_model.specs.Content.{content_of};
+ghost use Rattle.device_view.specs.Devices.{CountsOnDevice};
 ghost use Rattle.image_scan.specs.Errors.{scan_cause};
 ghost use Rattle.ntfs_host.specs.Reading.{KeepsDevice, GivesPiece, IsDeviceOrMemory};
 ghost use Rattle.ntfs_host.specs.Scan.{piece_at, log_of, table_of, volume_on};
@@ -35,6 +36,7 @@ fn read_piece<D: Device>(
     ensures answer { IfSome (D.gives device.old) (λ disk. GivesPiece result (piece_at (content_of (sector_of disk)) first number)) }
     ensures kept { KeepsDevice D.gives D.sector_count D.fault_count device.old device.new }
     ensures fault { IsErrOf result ScanError.Device → HasFailed (D.fault_count device.old) (D.fault_count device.new) (D.moment_of device.new) }
+    ensures counted { CountsOnDevice scan_cause (D.fault_count device.old) (D.fault_count device.new) (D.moment_of device.new) result }
 {
     let mut raw = [0; 1024];
     device.read(first + 2 * number, &mut raw)?;
@@ -55,6 +57,7 @@ pub fn read_chunk<D: Device>(
     ensures memory { IsDeviceOrMemory result }
     ensures kept { KeepsDevice D.gives D.sector_count D.fault_count device.old device.new }
     ensures fault { IsErrOf result ScanError.Device → HasFailed (D.fault_count device.old) (D.fault_count device.new) (D.moment_of device.new) }
+    ensures counted { CountsOnDevice scan_cause (D.fault_count device.old) (D.fault_count device.new) (D.moment_of device.new) result }
 {
     let mut chunk = vec![in alloc; 0u8; 1024 * records as usize]?;
     device.read(sector, &mut chunk)?;
@@ -76,6 +79,7 @@ fn scan_chunk<D: Device>(
     ensures answer { IfSome (D.gives device.old) (λ disk. FoundBelow (piece_at (content_of (sector_of disk)) first) base findings.old → FindsOrFails (piece_at (content_of (sector_of disk)) first) (base + records) result findings.new) }
     ensures kept { KeepsDevice D.gives D.sector_count D.fault_count device.old device.new }
     ensures fault { IsErrOf result ScanError.Device → HasFailed (D.fault_count device.old) (D.fault_count device.new) (D.moment_of device.new) }
+    ensures counted { CountsOnDevice scan_cause (D.fault_count device.old) (D.fault_count device.new) (D.moment_of device.new) result }
 {
     let chunk = read_chunk(alloc, device, first + 2 * base, records)?;
     note_chunk(alloc, base, &chunk, findings)
@@ -93,6 +97,7 @@ fn scan_table<D: Device>(
     ensures answer { IfSome (D.gives device.old) (λ disk. FindsAll (piece_at (content_of (sector_of disk)) first) count result) }
     ensures kept { KeepsDevice D.gives D.sector_count D.fault_count device.old device.new }
     ensures fault { IsErrOf result ScanError.Device → HasFailed (D.fault_count device.old) (D.fault_count device.new) (D.moment_of device.new) }
+    ensures counted { CountsOnDevice scan_cause (D.fault_count device.old) (D.fault_count device.new) (D.moment_of device.new) result }
 {
     let mut findings = Findings {
         links: Vec::new(alloc),
@@ -121,6 +126,7 @@ fn is_emptied<D: Device>(device: &mut D, lcn: u64) -> Result<bool, ScanError>
     ensures device { IsDeviceOrMemory result }
     ensures kept { KeepsDevice D.gives D.sector_count D.fault_count device.old device.new }
     ensures fault { IsErrOf result ScanError.Device → HasFailed (D.fault_count device.old) (D.fault_count device.new) (D.moment_of device.new) }
+    ensures counted { CountsOnDevice scan_cause (D.fault_count device.old) (D.fault_count device.new) (D.moment_of device.new) result }
 {
     let mut pages = [0; 8192];
     device.read(lcn, &mut pages)?;
@@ -135,6 +141,7 @@ pub fn check_log<D: Device>(alloc: Global, device: &mut D, volume: Volume) -> Re
     ensures answer { IfSome (D.gives device.old) (λ disk. GivesOrFails (λ x. x) scan_cause result (log_of disk volume)) }
     ensures kept { KeepsDevice D.gives D.sector_count D.fault_count device.old device.new }
     ensures fault { IsErrOf result ScanError.Device → HasFailed (D.fault_count device.old) (D.fault_count device.new) (D.moment_of device.new) }
+    ensures counted { CountsOnDevice scan_cause (D.fault_count device.old) (D.fault_count device.new) (D.moment_of device.new) result }
 {
     let piece = read_piece(alloc, device, volume.mft, 2)?;
     let stream = judged(alloc, 2, &piece)?;
@@ -161,6 +168,7 @@ pub fn count_records<D: Device>(
     ensures inside { IfOk result (λ count. volume.mft + 2 * count ≤ volume.total) }
     ensures kept { KeepsDevice D.gives D.sector_count D.fault_count device.old device.new }
     ensures fault { IsErrOf result ScanError.Device → HasFailed (D.fault_count device.old) (D.fault_count device.new) (D.moment_of device.new) }
+    ensures counted { CountsOnDevice scan_cause (D.fault_count device.old) (D.fault_count device.new) (D.moment_of device.new) result }
 {
     let piece = read_piece(alloc, device, volume.mft, 0)?;
     let stream = judged(alloc, 0, &piece)?;
@@ -200,6 +208,7 @@ pub fn links_of_table<D: Device>(
     ensures answer { IfSome (D.gives device.old) (λ disk. GivesOrFails (λ links. links.items) scan_cause result (table_links (piece_at (content_of (sector_of disk)) first) count)) }
     ensures kept { KeepsDevice D.gives D.sector_count D.fault_count device.old device.new }
     ensures fault { IsErrOf result ScanError.Device → HasFailed (D.fault_count device.old) (D.fault_count device.new) (D.moment_of device.new) }
+    ensures counted { CountsOnDevice scan_cause (D.fault_count device.old) (D.fault_count device.new) (D.moment_of device.new) result }
 {
     let findings = scan_table(alloc, device, first, count)?;
     settled(findings)
@@ -213,6 +222,7 @@ pub fn read_volume<D: Device>(device: &mut D) -> Result<Volume, ScanError>
     ensures small { IfOk result (λ v. v.total ≤ 16777216) }
     ensures kept { KeepsDevice D.gives D.sector_count D.fault_count device.old device.new }
     ensures fault { IsErrOf result ScanError.Device → HasFailed (D.fault_count device.old) (D.fault_count device.new) (D.moment_of device.new) }
+    ensures counted { CountsOnDevice scan_cause (D.fault_count device.old) (D.fault_count device.new) (D.moment_of device.new) result }
 {
     let sectors = device.sectors();
     if sectors == 0 {

@@ -1,10 +1,10 @@
 //! The top call.
-ghost use Rattle.std.specs.Prelude.{◌≡◌, ◌⊎◌, None, IfOk, IfSome, IsSomeAnd, IsOk, IsErr, IsErrAnd, Ok, ◌≤◌};
+ghost use Rattle.std.specs.Prelude.{◌≡◌, ◌≢◌, ◌<◌, ◌⊎◌, None, IfOk, IfSome, IsSomeAnd, IsOk, IsErr, IsErrAnd, Ok, ◌≤◌};
 ghost use Rattle.std.specs.Io.KnownBytes.{Appends};
-ghost use Rattle.host_base.specs.Causes.{Rose, HasFailed, AppendsPart};
+ghost use Rattle.host_base.specs.Causes.{Rose, HasFailed, AppendsPart, last_moment};
 ghost use Rattle.script_text.specs.Scripts.{script_of};
 ghost use Rattle.upcase_order.specs.Tables.{standard_table};
-ghost use Rattle.ntfs_host.specs.Answers.{answer_of, IsReader, Leaves};
+ghost use Rattle.ntfs_host.specs.Answers.{answer_of, IsReader, Leaves, LeavesFront, LeavesRest};
 ghost use Rattle.ntfs_host.specs.Mounts.{mounted_of};
 ghost use Rattle.ntfs_host.specs.Runs.{PrintsScript, PrintsScriptPart, IsRunStatus};
 ghost use Rattle.ntfs_host.specs.Scripts.{script_line, IsAccepted, IsReadWhole, LosesAtMost};
@@ -46,6 +46,7 @@ fn print_text<K: Sink>(sink: &mut K, text: &str) -> u8
     ensures done { result ≡ 0 → Appends (K.taken sink.old) (K.taken sink.new) text.now }
     ensures part { result ≡ 7 → AppendsPart (K.taken sink.old) (K.taken sink.new) text.now }
     ensures failed { result ≡ 7 → Rose (K.faults sink.old) (K.faults sink.new) }
+    ensures counted { result ≢ 7 → K.faults sink.new ≡ K.faults sink.old }
     ensures later { K.faults sink.old ≤ K.faults sink.new }
 {
     match write_lines(sink, text.as_bytes()) {
@@ -67,9 +68,13 @@ fn answer_into<K: Sink, D: Device>(
     ensures memory { result ≡ 6 → IfSome (D.gives device.old) (λ disk. (K.taken sink.new ≡ K.taken sink.old) ⊎ AppendsPart (K.taken sink.old) (K.taken sink.new) (printed (answer_of command.now disk))) }
     ensures part { result ≡ 7 → IfSome (D.gives device.old) (λ disk. AppendsPart (K.taken sink.old) (K.taken sink.new) (printed (answer_of command.now disk))) }
     ensures sink_failed { result ≡ 7 → Rose (K.faults sink.old) (K.faults sink.new) }
+    ensures sink_counted { result ≢ 7 → K.faults sink.new ≡ K.faults sink.old }
     ensures device_failed { result ≡ 8 → HasFailed (D.fault_count device.old) (D.fault_count device.new) (D.moment_of device.new) }
+    ensures device_counted { D.moment_of device.old < last_moment → result ≢ 8 → D.fault_count device.new ≡ D.fault_count device.old }
     ensures silent { result ≡ 8 → K.taken sink.new ≡ K.taken sink.old }
     ensures leaves { result ≡ 0 → Leaves command.now (D.gives device.old) (D.gives device.new) }
+    ensures stopped { result ≡ 8 → LeavesFront command.now (D.sector_count device.old) (D.gives device.old) (D.gives device.new) }
+    ensures others { LeavesRest command.now (D.sector_count device.old) (D.gives device.old) (D.gives device.new) }
     ensures kept { result ≡ 3 → D.gives device.new ≡ D.gives device.old }
     ensures left { result ≡ 7 → Leaves command.now (D.gives device.old) (D.gives device.new) ⊎ (D.gives device.new ≡ D.gives device.old) }
     ensures left_wanting { result ≡ 6 → (D.gives device.new ≡ D.gives device.old) ⊎ Leaves command.now (D.gives device.old) (D.gives device.new) }
@@ -142,17 +147,23 @@ pub fn quiet_command<K: Sink, D: Device>(
     ensures memory { result.status ≡ 6 → IfSome (D.gives device) (λ disk. (K.taken sink.new ≡ K.taken sink.old) ⊎ AppendsPart (K.taken sink.old) (K.taken sink.new) (printed (answer_of command.now disk))) }
     ensures part { result.status ≡ 7 → IfSome (D.gives device) (λ disk. AppendsPart (K.taken sink.old) (K.taken sink.new) (printed (answer_of command.now disk))) }
 
-    // Faults have their cause, and where the device failed nothing is written.
+    // Faults have their cause, none is passed over or answered by another status, and where the device failed
+    // nothing is written.
     ensures sink_failed { result.status ≡ 7 → Rose (K.faults sink.old) (K.faults sink.new) }
+    ensures sink_counted { result.status ≢ 7 → K.faults sink.new ≡ K.faults sink.old }
     ensures device_failed { result.status ≡ 8 → HasFailed (D.fault_count device) (D.fault_count result.device) (D.moment_of result.device) }
+    ensures device_counted { D.moment_of device < last_moment → result.status ≢ 8 → D.fault_count result.device ≡ D.fault_count device }
     ensures silent { result.status ≡ 8 → K.taken sink.new ≡ K.taken sink.old }
 
     // What reads of the device give stays, but for a format; a refusal leaves it too, whatever comes of its
     // line. A format whose line isn't written has made its volume, or was refused; one that wants memory has made
-    // its volume, or leaves all. A device has as many sectors as before, and its faults don't fall.
+    // its volume, or leaves all; one whose device failed leaves a front of its regions. Free clusters, what lies behind
+    // them and the last sector stay always. A device has as many sectors as before, and its faults don't fall.
     ensures reads { IsReader command.now → D.gives result.device ≡ D.gives device }
     ensures kept { result.status ≡ 3 → D.gives result.device ≡ D.gives device }
     ensures leaves { result.status ≡ 0 → Leaves command.now (D.gives device) (D.gives result.device) }
+    ensures left_stopped { result.status ≡ 8 → LeavesFront command.now (D.sector_count device) (D.gives device) (D.gives result.device) }
+    ensures left_rest { LeavesRest command.now (D.sector_count device) (D.gives device) (D.gives result.device) }
     ensures left { result.status ≡ 7 → Leaves command.now (D.gives device) (D.gives result.device) ⊎ (D.gives result.device ≡ D.gives device) }
     ensures left_wanting { result.status ≡ 6 → (D.gives result.device ≡ D.gives device) ⊎ Leaves command.now (D.gives device) (D.gives result.device) }
     ensures left_done { result.status ≡ 7 → IfSome (D.gives device) (λ disk. IsOk (answer_of command.now disk) → Leaves command.now (D.gives device) (D.gives result.device)) }
@@ -214,6 +225,7 @@ fn write_usage<K: Sink>(sink: &mut K) -> u8
     ensures usage { result ≡ 2 → Appends (K.taken sink.old) (K.taken sink.new) usage }
     ensures part { result ≡ 7 → AppendsPart (K.taken sink.old) (K.taken sink.new) usage }
     ensures failed { result ≡ 7 → Rose (K.faults sink.old) (K.faults sink.new) }
+    ensures counted { result ≢ 7 → K.faults sink.new ≡ K.faults sink.old }
 {
     match write_all(sink, USAGE_LINE.as_bytes()) {
         Ok(()) => USAGE,
@@ -271,10 +283,14 @@ pub fn ntfs_host<R: Threads + Wait + Sync, S: Source, K: Sink, D: Device + Send,
     ensures run_part { IfSome (run_in words.now) (λ time. result.status ≡ 7 → IfSome (S.left source.old) (λ bytes. IfSome (D.gives device) (λ disk. PrintsScriptPart (K.taken sink.old) (K.taken sink.new) disk time (D.fault_count result.device) (script_of bytes)))) }
     ensures run_complete { IsRun words.now → IsSomeAnd (S.left source.old) (λ bytes. IsOk (script_of bytes)) → IsSomeAnd (D.gives device) (λ disk. IsOk (mounted_of standard_table disk)) → ¬ Rose (S.faults source.old) (S.faults source.new) → ¬ Rose (K.faults sink.old) (K.faults sink.new) → ¬ HasFailed (D.fault_count device) (D.fault_count result.device) (D.moment_of result.device) → (result.status ≡ 0) ⊎ (result.status ≡ 6) }
 
-    // Faults have their cause, and where the source or the device failed nothing is written.
+    // Faults have their cause, none is passed over or answered by another status, and where the source or the
+    // device failed nothing is written.
     ensures source_failed { result.status ≡ 5 → Rose (S.faults source.old) (S.faults source.new) }
+    ensures source_counted { result.status ≢ 5 → S.faults source.new ≡ S.faults source.old }
     ensures sink_failed { result.status ≡ 7 → Rose (K.faults sink.old) (K.faults sink.new) }
+    ensures sink_counted { result.status ≢ 7 → K.faults sink.new ≡ K.faults sink.old }
     ensures device_failed { result.status ≡ 8 → HasFailed (D.fault_count device) (D.fault_count result.device) (D.moment_of result.device) }
+    ensures device_counted { D.moment_of device < last_moment → result.status ≢ 8 → D.fault_count result.device ≡ D.fault_count device }
     ensures silent { (result.status ≡ 5) ⊎ (result.status ≡ 8) → K.taken sink.new ≡ K.taken sink.old }
 
     // Words that are no line, whatever comes of the usage line, and a source without a script come before the device,
@@ -286,10 +302,13 @@ pub fn ntfs_host<R: Threads + Wait + Sync, S: Source, K: Sink, D: Device + Send,
 
     // What reads of the device give stays, but for a format; a refusal leaves it too, whatever comes of its
     // line. A format whose line isn't written has made its volume, or was refused; one that wants memory has made
-    // its volume, or leaves all. A device has as many sectors as before, and its faults don't fall.
+    // its volume, or leaves all; one whose device failed leaves a front of its regions. Free clusters, what lies behind
+    // them and the last sector stay always. A device has as many sectors as before, and its faults don't fall.
     ensures reads { Reads (quiet_in words.now) → D.gives result.device ≡ D.gives device }
     ensures kept { result.status ≡ 3 → D.gives result.device ≡ D.gives device }
     ensures leaves { IfSome (quiet_in words.now) (λ command. result.status ≡ 0 → Leaves command (D.gives device) (D.gives result.device)) }
+    ensures left_stopped { IfSome (quiet_in words.now) (λ command. result.status ≡ 8 → LeavesFront command (D.sector_count device) (D.gives device) (D.gives result.device)) }
+    ensures left_rest { IfSome (quiet_in words.now) (λ command. LeavesRest command (D.sector_count device) (D.gives device) (D.gives result.device)) }
     ensures left { IfSome (quiet_in words.now) (λ command. result.status ≡ 7 → Leaves command (D.gives device) (D.gives result.device) ⊎ (D.gives result.device ≡ D.gives device)) }
     ensures left_wanting { result.status ≡ 6 → (D.gives result.device ≡ D.gives device) ⊎ IfSome (quiet_in words.now) (λ command. Leaves command (D.gives device) (D.gives result.device)) }
     ensures left_done { IfSome (quiet_in words.now) (λ command. result.status ≡ 7 → IfSome (D.gives device) (λ disk. IsOk (answer_of command disk) → Leaves command (D.gives device) (D.gives result.device))) }

@@ -6,6 +6,7 @@ ghost use Rattle.disk_model.specs.declared.block.BlockKind.TheVariants.{FileRec 
 ghost use Rattle.disk_model.specs.Sectors.{sector_of};
 ghost use Rattle.disk_model.specs.Content.{body_of, content_of};
 ghost use Rattle.ntfs_host.specs.declared.piece.Piece.{Piece as the_piece};
+ghost use Rattle.device_view.specs.Devices.{CountsOnDevice};
 ghost use Rattle.image_scan.specs.Errors.{scan_cause};
 ghost use Rattle.ntfs_host.specs.Mounts.{used_record, records_of};
 ghost use Rattle.ntfs_host.specs.Pieces.{piece_of};
@@ -75,6 +76,7 @@ fn load_more<D: Device>(
     ensures outside { IsDeviceOrMemory result }
     ensures kept { KeepsDevice D.gives D.sector_count D.fault_count device.old device.new }
     ensures fault { IsErrOf result ScanError.Device → HasFailed (D.fault_count device.old) (D.fault_count device.new) (D.moment_of device.new) }
+    ensures counted { CountsOnDevice scan_cause (D.fault_count device.old) (D.fault_count device.new) (D.moment_of device.new) result }
 {
     let chunk = read_chunk(alloc, device, first + 2 * base, count)?;
     load_chunk(alloc, &chunk, records)?;
@@ -94,6 +96,7 @@ pub fn load_table<D: Device>(
     ensures answer { IfSome (D.gives device.old) (λ disk. GivesOrFails (λ records. records.items) scan_cause result (Ok (records_of (piece_at (content_of (sector_of disk)) first) count))) }
     ensures kept { KeepsDevice D.gives D.sector_count D.fault_count device.old device.new }
     ensures fault { IsErrOf result ScanError.Device → HasFailed (D.fault_count device.old) (D.fault_count device.new) (D.moment_of device.new) }
+    ensures counted { CountsOnDevice scan_cause (D.fault_count device.old) (D.fault_count device.new) (D.moment_of device.new) result }
 {
     let mut records = Vec::new(alloc);
     let mut base = 0;

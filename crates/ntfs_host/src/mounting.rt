@@ -4,6 +4,7 @@ ghost use Rattle.host_base.specs.Answers.{Gives, GivesOrFails};
 ghost use Rattle.host_base.specs.Causes.{HasFailed};
 ghost use Rattle.disk_model.specs.Sectors.{sector_of};
 ghost use Rattle.disk_model.specs.Content.{content_of};
+ghost use Rattle.device_view.specs.Devices.{CountsOnDevice};
 ghost use Rattle.image_scan.specs.Errors.{scan_cause};
 ghost use Rattle.ntfs_host.specs.Mounts.{records_of, soundness, judged_records, table_records, table_records_of, volume_records, mounted_of};
 ghost use Rattle.ntfs_host.specs.Reading.{KeepsDevice};
@@ -60,6 +61,7 @@ fn sound_table<D: Device>(
     ensures answer { IfSome (D.gives device.old) (λ disk. GivesOrFails (λ records. records.items) scan_cause result (judged_records upper.now (records_of (piece_at (content_of (sector_of disk)) first) count))) }
     ensures kept { KeepsDevice D.gives D.sector_count D.fault_count device.old device.new }
     ensures fault { IsErrOf result ScanError.Device → HasFailed (D.fault_count device.old) (D.fault_count device.new) (D.moment_of device.new) }
+    ensures counted { CountsOnDevice scan_cause (D.fault_count device.old) (D.fault_count device.new) (D.moment_of device.new) result }
 {
     let records = load_table(alloc, device, first, count)?;
     judged_records(alloc, upper, records)
@@ -78,6 +80,7 @@ fn records_of_table<D: Device>(
     ensures answer { IfSome (D.gives device.old) (λ disk. GivesOrFails (λ records. records.items) scan_cause result (table_records upper.now (piece_at (content_of (sector_of disk)) first) count)) }
     ensures kept { KeepsDevice D.gives D.sector_count D.fault_count device.old device.new }
     ensures fault { IsErrOf result ScanError.Device → HasFailed (D.fault_count device.old) (D.fault_count device.new) (D.moment_of device.new) }
+    ensures counted { CountsOnDevice scan_cause (D.fault_count device.old) (D.fault_count device.new) (D.moment_of device.new) result }
 {
     let _links = links_of_table(alloc, device, first, count)?;
     sound_table(alloc, upper, device, first, count)
@@ -96,6 +99,7 @@ fn table_records_of<D: Device>(
     ensures answer { IfSome (D.gives device.old) (λ disk. GivesOrFails (λ records. records.items) scan_cause result (table_records_of upper.now disk volume)) }
     ensures kept { KeepsDevice D.gives D.sector_count D.fault_count device.old device.new }
     ensures fault { IsErrOf result ScanError.Device → HasFailed (D.fault_count device.old) (D.fault_count device.new) (D.moment_of device.new) }
+    ensures counted { CountsOnDevice scan_cause (D.fault_count device.old) (D.fault_count device.new) (D.moment_of device.new) result }
 {
     let count = count_records(alloc, device, volume)?;
     records_of_table(alloc, upper, device, volume.mft, count)
@@ -114,6 +118,7 @@ fn volume_records<D: Device>(
     ensures answer { IfSome (D.gives device.old) (λ disk. GivesOrFails (λ records. records.items) scan_cause result (volume_records upper.now disk volume)) }
     ensures kept { KeepsDevice D.gives D.sector_count D.fault_count device.old device.new }
     ensures fault { IsErrOf result ScanError.Device → HasFailed (D.fault_count device.old) (D.fault_count device.new) (D.moment_of device.new) }
+    ensures counted { CountsOnDevice scan_cause (D.fault_count device.old) (D.fault_count device.new) (D.moment_of device.new) result }
 {
     check_log(alloc, device, volume)?;
     table_records_of(alloc, upper, device, volume)
@@ -132,6 +137,7 @@ pub fn mount<D: Device>(
     ensures answer { IfSome (D.gives device.old) (λ disk. GivesOrFails (λ records. records.items) scan_cause result (mounted_of upper.now disk)) }
     ensures kept { KeepsDevice D.gives D.sector_count D.fault_count device.old device.new }
     ensures fault { IsErrOf result ScanError.Device → HasFailed (D.fault_count device.old) (D.fault_count device.new) (D.moment_of device.new) }
+    ensures counted { CountsOnDevice scan_cause (D.fault_count device.old) (D.fault_count device.new) (D.moment_of device.new) result }
 {
     let volume = read_volume(device)?;
     volume_records(alloc, upper, device, volume)

@@ -1,8 +1,9 @@
 //! Text that goes to the sink.
 ghost use Rattle.std.specs.Prelude.{◌≡◌, ◌≤◌, OnOk, OnErr, IsErrOf};
 ghost use Rattle.std.specs.Io.KnownBytes.{Appends};
-ghost use Rattle.host_base.specs.Causes.{Rose, AppendsPart};
+ghost use Rattle.host_base.specs.Causes.{Rose, Counts, AppendsPart};
 ghost use Rattle.ntfs_host.specs.Scripts.{script_line};
+ghost use Rattle.ntfs_host.specs.Statuses.{write_cause};
 ghost use Rattle.ntfs_host.specs.Text.{refusal_line};
 
 use crate::text::{refusal_line, script_line};
@@ -23,6 +24,7 @@ pub fn write_refusal<K: Sink>(
     ensures err { OnErr result (AppendsPart (K.taken sink.old) (K.taken sink.new) (refusal_line refusal)) }
     ensures later { K.faults sink.old ≤ K.faults sink.new }
     ensures fault { IsErrOf result WriteError.Sink → Rose (K.faults sink.old) (K.faults sink.new) }
+    ensures counted { Counts write_cause (K.faults sink.old) (K.faults sink.new) result }
 {
     let line = refusal_line(alloc, refusal)?;
     write_all(sink, line.as_bytes())?;
@@ -40,6 +42,7 @@ pub fn write_script_fault<K: Sink>(
     ensures err { OnErr result (AppendsPart (K.taken sink.old) (K.taken sink.new) (script_line fault)) }
     ensures later { K.faults sink.old ≤ K.faults sink.new }
     ensures fault { IsErrOf result WriteError.Sink → Rose (K.faults sink.old) (K.faults sink.new) }
+    ensures counted { Counts write_cause (K.faults sink.old) (K.faults sink.new) result }
 {
     let line = script_line(alloc, fault)?;
     write_all(sink, line.as_bytes())?;

@@ -1,8 +1,8 @@
 //! The bytes of a source.
 ghost use Rattle.std.specs.Prelude.{◌≡◌, ◌≤◌, ◌<◌, ◌++◌, IfOk, IsErrOf, length, take};
 ghost use Rattle.std.specs.Io.KnownBytes.{Consumes, IsAtEnd};
-ghost use Rattle.host_base.specs.Causes.{Rose};
-ghost use Rattle.ntfs_host.specs.Scripts.{LosesAtMost};
+ghost use Rattle.host_base.specs.Causes.{Rose, Counts};
+ghost use Rattle.ntfs_host.specs.Scripts.{source_cause, LosesAtMost};
 
 use host_base::{Failed, Source};
 use std::alloc::{AllocError, Global};
@@ -59,6 +59,7 @@ fn read_more<S: Source>(
     ensures end { IfOk result (λ count. count ≡ 0 → IsAtEnd (S.left source.new)) }
     ensures later { S.faults source.old ≤ S.faults source.new }
     ensures fault { IsErrOf result SourceError.Source → Rose (S.faults source.old) (S.faults source.new) }
+    ensures counted { Counts source_cause (S.faults source.old) (S.faults source.new) result }
 {
     let (front, _) = chunk.split_at_mut(room);
     let count = source.read(front)?;
@@ -79,6 +80,7 @@ fn read_through<S: Source>(
     ensures most { IfOk result (λ bytes. length bytes.items ≤ 16777217) }
     ensures later { S.faults source.old ≤ S.faults source.new }
     ensures fault { IsErrOf result SourceError.Source → Rose (S.faults source.old) (S.faults source.new) }
+    ensures counted { Counts source_cause (S.faults source.old) (S.faults source.new) result }
 {
     let mut bytes = Vec::new(alloc);
     while bytes.len() < MOST {
@@ -101,6 +103,7 @@ pub fn read_source<S: Source>(alloc: Global, source: &mut S) -> Result<Vec<u8>, 
     ensures most { IfOk result (λ bytes. length bytes.items ≤ 16777217) }
     ensures later { S.faults source.old ≤ S.faults source.new }
     ensures fault { IsErrOf result SourceError.Source → Rose (S.faults source.old) (S.faults source.new) }
+    ensures counted { Counts source_cause (S.faults source.old) (S.faults source.new) result }
 {
     let mut chunk = vec![in alloc; 0u8; CHUNK]?;
     read_through(alloc, source, &mut chunk)

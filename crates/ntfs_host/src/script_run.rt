@@ -1,5 +1,5 @@
 //! The run of a script on a volume.
-ghost use Rattle.std.specs.Prelude.{◌≡◌, ◌⊎◌, ◌≤◌, IfSome, IsOk, IsErr, IsErrAnd, IfOk, string_bytes, [], Ok};
+ghost use Rattle.std.specs.Prelude.{◌≡◌, ◌≢◌, ◌⊎◌, ◌≤◌, IfSome, IsOk, IsErr, IsErrAnd, IfOk, string_bytes, [], Ok};
 ghost use Rattle.std.specs.Io.KnownBytes.{Appends};
 ghost use Rattle.host_base.specs.Causes.{Rose, HasFailed, AppendsPart};
 ghost use Rattle.script_text.specs.Scripts.{script_of};
@@ -76,6 +76,7 @@ fn print_run<R: Threads + Wait, K: Sink, D: Device, G: Gate>(
     ensures memory { result ≡ 6 → K.taken sink.new ≡ K.taken sink.old }
     ensures part { result ≡ 7 → PrintsVolumePart (K.taken sink.old) (K.taken sink.new) (Ok records.now) script.now time (D.fault_count device.now) }
     ensures failed { result ≡ 7 → Rose (K.faults sink.old) (K.faults sink.new) }
+    ensures counted { result ≢ 7 → K.faults sink.new ≡ K.faults sink.old }
     ensures later { K.faults sink.old ≤ K.faults sink.new }
 {
     let text = match run_text(rt, alloc, upper, records, script, time, device, gate) {
@@ -104,7 +105,9 @@ fn run_mounted<R: Threads + Wait, K: Sink, D: Device, G: Gate>(
     ensures memory { result ≡ 6 → IfSome (D.gives device.old) (λ disk. (K.taken sink.new ≡ K.taken sink.old) ⊎ PrintsVolumePart (K.taken sink.old) (K.taken sink.new) (mounted_of standard_table disk) script.now time (D.fault_count device.new)) }
     ensures part { result ≡ 7 → IfSome (D.gives device.old) (λ disk. PrintsVolumePart (K.taken sink.old) (K.taken sink.new) (mounted_of standard_table disk) script.now time (D.fault_count device.new)) }
     ensures sink_failed { result ≡ 7 → Rose (K.faults sink.old) (K.faults sink.new) }
+    ensures sink_counted { result ≢ 7 → K.faults sink.new ≡ K.faults sink.old }
     ensures device_failed { result ≡ 8 → HasFailed (D.fault_count device.old) (D.fault_count device.new) (D.moment_of device.new) }
+    ensures device_counted { result ≢ 8 → D.fault_count device.new ≡ D.fault_count device.old }
     ensures silent { result ≡ 8 → K.taken sink.new ≡ K.taken sink.old }
     ensures gives { D.gives device.new ≡ D.gives device.old }
     ensures sectors { D.sector_count device.new ≡ D.sector_count device.old }
@@ -151,10 +154,13 @@ pub fn run_command<R: Threads + Wait, S: Source, K: Sink, D: Device, G: Gate>(
     ensures refused { result ≡ 3 → IfSome (S.left source.old) (λ bytes. IsOk (script_of bytes) × IfSome (D.gives device.old) (λ disk. IsErr (mounted_of standard_table disk) × PrintsScript (K.taken sink.old) (K.taken sink.new) disk time (D.fault_count device.new) (script_of bytes))) }
     ensures no_script { result ≡ 4 → IfSome (S.left source.old) (λ bytes. IsErrAnd (script_of bytes) (λ fault. Appends (K.taken sink.old) (K.taken sink.new) (script_line fault))) }
     ensures source_failed { result ≡ 5 → Rose (S.faults source.old) (S.faults source.new) }
+    ensures source_counted { result ≢ 5 → S.faults source.new ≡ S.faults source.old }
     ensures memory { result ≡ 6 → IfSome (S.left source.old) (λ bytes. IfSome (D.gives device.old) (λ disk. (K.taken sink.new ≡ K.taken sink.old) ⊎ PrintsScriptPart (K.taken sink.old) (K.taken sink.new) disk time (D.fault_count device.new) (script_of bytes))) }
     ensures part { result ≡ 7 → IfSome (S.left source.old) (λ bytes. IfSome (D.gives device.old) (λ disk. PrintsScriptPart (K.taken sink.old) (K.taken sink.new) disk time (D.fault_count device.new) (script_of bytes))) }
     ensures sink_failed { result ≡ 7 → Rose (K.faults sink.old) (K.faults sink.new) }
+    ensures sink_counted { result ≢ 7 → K.faults sink.new ≡ K.faults sink.old }
     ensures device_failed { result ≡ 8 → HasFailed (D.fault_count device.old) (D.fault_count device.new) (D.moment_of device.new) }
+    ensures device_counted { result ≢ 8 → D.fault_count device.new ≡ D.fault_count device.old }
     ensures silent { (result ≡ 5) ⊎ (result ≡ 8) → K.taken sink.new ≡ K.taken sink.old }
     ensures gives { D.gives device.new ≡ D.gives device.old }
     ensures sectors { D.sector_count device.new ≡ D.sector_count device.old }

@@ -1,7 +1,7 @@
 //! The script that a source has.
 ghost use Rattle.std.specs.Prelude.{◌≡◌, ◌≤◌, IfSome, IfOk, IsErrOf};
 ghost use Rattle.host_base.specs.Answers.{GivesOrFails};
-ghost use Rattle.host_base.specs.Causes.{Rose};
+ghost use Rattle.host_base.specs.Causes.{Rose, Counts};
 ghost use Rattle.script_text.specs.Scripts.{script_of};
 ghost use Rattle.ntfs_host.specs.Scripts.{script_error_cause, IsAccepted, LosesAtMost, ReadsWhole};
 
@@ -32,6 +32,7 @@ pub fn read_script<S: Source>(alloc: Global, source: &mut S) -> Result<Script, S
     ensures most_read { LosesAtMost 16777217 (S.left source.old) (S.left source.new) }
     ensures later { S.faults source.old ≤ S.faults source.new }
     ensures fault { IsErrOf result ScriptError.Source → Rose (S.faults source.old) (S.faults source.new) }
+    ensures counted { Counts script_error_cause (S.faults source.old) (S.faults source.new) result }
 {
     let bytes = match read_source(alloc, source) {
         Ok(bytes) => bytes,

@@ -8,6 +8,7 @@ pub loop-base-init : goal.loop-base-init
 loop-base-init g c = record {
   found = always _ _ (λ disk. none_noted _ _ c.new.ensures.items refl refl);
   kept = record { same = refl; sectors = refl; later = omega arith };
+  counted = refl;
   within = omega arith;
 }
 
@@ -19,6 +20,7 @@ loop-base-preserved g c = record {
     sectors = c.in_ok-scan_chunk.ensures.kept.sectors ∙ c.loop-base.invariant.kept.sectors;
     later = omega (arith, c.loop-base.invariant.kept.later, c.in_ok-scan_chunk.ensures.kept.later);
   };
+  counted = c.in_ok-scan_chunk.ensures.counted ∙ c.loop-base.invariant.counted;
   within = omega (arith, c.min-records.ensures);
 }
 

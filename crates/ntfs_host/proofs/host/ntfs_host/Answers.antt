@@ -1,4 +1,4 @@
-use Rattle.std.proofs.Common.{◌≡◌, ◌∙◌, sym, ap}
+use Rattle.std.proofs.Common.{◌∙◌, sym, ap}
 use Rattle.ntfs_host.specs.Words.{quiet_some}
 use Rattle.ntfs_host.proofs.Worded.{named}
 use Rattle.ntfs_host.proofs.host.ntfs_host.Goals as goal

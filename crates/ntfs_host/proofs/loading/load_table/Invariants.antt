@@ -12,6 +12,7 @@ invariant-loop-base g l = record {
   loaded : IfSome (g.D.Device.gives l.initial.device) (λ disk. l.records.items ≡ records_of (piece_at (content_of (sector_of disk)) l.first) l.base);
   size : length l.records.items ≡ l.base;
   kept : KeepsDevice g.D.Device.gives g.D.Device.sector_count g.D.Device.fault_count l.initial.device l.device;
+  counted : g.D.Device.fault_count l.device ≡ g.D.Device.fault_count l.initial.device;
   within : l.base ≤ l.count;
 }
 

@@ -1,4 +1,4 @@
-use Rattle.std.proofs.Common.{arith}
+use Rattle.std.proofs.Common.{◌∙◌}
 use Rattle.std.proofs.lemmas.List.{take-append-drop}
 use Rattle.host_base.proofs.Appending.{one_more, part_behind}
 use Rattle.ntfs_host.proofs.printing.write_lines.Goals as goal
@@ -6,7 +6,7 @@ use Rattle.ntfs_host.proofs.printing.write_lines.Goals as goal
 pub loop-rest-preserved : goal.loop-rest-preserved
 loop-rest-preserved g c = (
   rw c.split_at.ensures.back (one_more _ _ _ _ _ c.line_length.result c.loop-rest.invariant.0 (rw c.split_at.ensures.front at c.in-Ok.ensures.ok)),
-  omega (arith, c.loop-rest.invariant.1, c.in-Ok.ensures.cause.later),
+  c.in-Ok.ensures.cause.unfailed ∙ c.loop-rest.invariant.1,
 )
 
 pub returns-in-Err-clause-err : goal.returns-in-Err-clause-err
