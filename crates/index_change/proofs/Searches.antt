@@ -1,5 +1,5 @@
 -- What a plan says of the search before it.
-use Rattle.std.proofs.Common.{◌≡◌, ℕ, List, Option, Result, Ok, Err, refl, sym, subst}
+use Rattle.std.proofs.Common.{◌≡◌, ℕ, List, Option, Some, None, Result, Ok, Err, refl, sym, subst}
 use Rattle.std.specs.Prelude.{IfSome, IfErr}
 use Rattle.host_base.specs.Answers.{ExplainsOrFails}
 use Rattle.host_base.proofs.Known.{one}
@@ -8,7 +8,8 @@ use Rattle.index_model.specs.Walks.{Broken}
 use Rattle.index_tree.specs.declared.fault.TreeFault.{TreeFault}
 use Rattle.index_tree.specs.declared.fault.TreeFault.TheVariants.{Node, Present, Absent, Deep, View}
 use Rattle.index_tree.specs.Faults.{tree_cause}
-use Rattle.index_change.specs.Faults.{AfterFind}
+use Rattle.tree_model.specs.declared.link.Link.{Link}
+use Rattle.index_change.specs.Faults.{AfterFind, DeepAfterWalk, IsOfView}
 
 broken_of : ℕ → ℕ → Broken
 broken_of vcn rule = record { vcn = vcn; rule = rule }
@@ -38,3 +39,18 @@ search_stopped T known f m n e same h =
 pub search_passed : {T A : Type 0} (known : Option Content) (r : Result T TreeFault) (f : Content → List ℕ → Result A Broken) (m n : List ℕ) (a : A) → m ≡ n → IfSome known (λ c. f c m ≡ Ok a) → IfSome known (λ c. AfterFind r (f c n))
 search_passed known r f m n a same h =
     subst (λ (x : List ℕ). IfSome known (λ c. AfterFind r (f c x))) same (one known (λ c. f c m ≡ Ok a) (λ c. AfterFind r (f c m)) (λ c is. passed r (f c m) a is) h)
+
+-- an index that was walked may be too deep
+pub deep_walked : (T : Type 0) (known : Option Content) (height : ℕ) (f : Content → Result (List Link) Broken) (links : List Link)
+    → IfSome known (λ c. f c ≡ Ok links) → IfSome known (λ c. DeepAfterWalk {T = T} (Err (Deep height)) (f c))
+deep_walked T known height f links h = one known (λ c. f c ≡ Ok links) (λ c. DeepAfterWalk {T = T} (Err (Deep height)) (f c)) (λ c e. (links, e)) h
+
+-- a plan, and a failure of the view, say nothing of a walk
+pub view_walked : {T A : Type 0} (known : Option Content) (r : Result T TreeFault) (f : Content → Result A Broken) → IfErr r IsOfView → IfSome known (λ c. DeepAfterWalk r (f c))
+view_walked None r f h = tt
+view_walked (Some c) (Ok x) f h = tt
+view_walked (Some c) (Err (View cause)) f h = tt
+view_walked (Some c) (Err (Node vcn rule)) f h = absurd h
+view_walked (Some c) (Err Present) f h = absurd h
+view_walked (Some c) (Err Absent) f h = absurd h
+view_walked (Some c) (Err (Deep height)) f h = absurd h

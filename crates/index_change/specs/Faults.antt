@@ -24,6 +24,15 @@ AfterFind {A = A} (Err Absent) found = (a : A) × (found ≡ Ok a)
 AfterFind {A = A} (Err (Deep height)) found = (a : A) × (found ≡ Ok a)
 AfterFind (Err (View cause)) found = ⊤
 
+-- that there are too many levels is said only of an index whose walk meets no broken node
+abbrev pub DeepAfterWalk : {T A : Type 0} → Result T TreeFault → Result A Broken → Type 0
+DeepAfterWalk (Ok x) walked = ⊤
+DeepAfterWalk (Err (Node vcn rule)) walked = ⊤
+DeepAfterWalk (Err Present) walked = ⊤
+DeepAfterWalk (Err Absent) walked = ⊤
+DeepAfterWalk {A = A} (Err (Deep height)) walked = (a : A) × (walked ≡ Ok a)
+DeepAfterWalk (Err (View cause)) walked = ⊤
+
 -- the view's faults at an error of a plan: they rose where it failed, and else are as they were
 abbrev pub PlanCounts : ℕ → ℕ → TreeFault → Type 0
 PlanCounts before now (Node vcn rule) = now ≡ before

@@ -4,13 +4,13 @@ ghost use Rattle.block_view.specs.Changes.{Fits};
 ghost use Rattle.record_model.specs.Nodes.{root_at};
 ghost use Rattle.record_model.specs.Values.{is_file_name};
 ghost use Rattle.index_model.specs.Indexes.{node_of_block};
-ghost use Rattle.index_model.specs.Walks.{find_of};
+ghost use Rattle.index_model.specs.Walks.{find_of, walk_of};
 ghost use Rattle.index_plan.specs.Faults.{OnDeep};
 ghost use Rattle.index_plan.specs.Laws.{InsertsInto, LevelFits, NeedsLevel, TakesFew};
 ghost use Rattle.index_plan.specs.Lists.{own_key};
 ghost use Rattle.index_plan.specs.Reading.{nodes_of};
 ghost use Rattle.index_change.specs.Changing.{AllWereOld};
-ghost use Rattle.index_change.specs.Faults.{AfterFind, IsOfView, Planned};
+ghost use Rattle.index_change.specs.Faults.{AfterFind, DeepAfterWalk, IsOfView, Planned};
 ghost use Rattle.index_tree.specs.Faults.{FailsByView};
 ghost use Rattle.index_change.specs.Holding.{Holds};
 ghost use Rattle.index_change.specs.Orders.{goes, is_of, link_of};
@@ -140,6 +140,7 @@ impl<'a> Insertion<'a> {
         requires key { is_file_name self.now.key.now.key ≡ true }
         requires name { self.now.name.now ≡ (link_of (own_key self.now.key.now)).name }
         ensures value { IfSome (V.content v.old) (λ c. PutsNew c (place_of self.now.dir.now) self.now.up.now self.now.dir.now.root self.now.dir.now.used (own_key self.now.key.now) self.now.fresh.now result) }
+        ensures walked { IfSome (V.content v.old) (λ c. DeepAfterWalk result (walk_of c (place_of self.now.dir.now) self.now.up.now self.now.dir.now.root)) }
         ensures old { IfSome (V.content v.old) (λ c. IfOk result (λ plan. AllWereOld c plan.changes.items)) }
         ensures fits { IfOk result (λ plan. All Fits plan.changes.items) }
         ensures same { V.content v.new ≡ V.content v.old }
@@ -165,6 +166,7 @@ impl<'a> Insertion<'a> {
         requires key { is_file_name self.now.key.now.key ≡ true }
         requires name { self.now.name.now ≡ (link_of (own_key self.now.key.now)).name }
         ensures value { IfSome (V.content v.old) (λ c. PutsNew c (place_of self.now.dir.now) self.now.up.now self.now.dir.now.root self.now.dir.now.used (own_key self.now.key.now) self.now.fresh.now result) }
+        ensures walked { IfSome (V.content v.old) (λ c. DeepAfterWalk result (walk_of c (place_of self.now.dir.now) self.now.up.now self.now.dir.now.root)) }
         ensures old { IfSome (V.content v.old) (λ c. IfOk result (λ plan. AllWereOld c plan.changes.items)) }
         ensures fits { IfOk result (λ plan. All Fits plan.changes.items) }
         ensures same { V.content v.new ≡ V.content v.old }
@@ -222,6 +224,7 @@ pub fn plan_insert<V: View>(
     requires enough { 17 ≤ length fresh.now }
     ensures value { IfSome (V.content v.old) (λ c. InsertGives c (place_of dir.now) up.now dir.now.root dir.now.used (own_key key.now) fresh.now result) }
     ensures search { IfSome (V.content v.old) (λ c. AfterFind result (find_of c (place_of dir.now) up.now (link_of (own_key key.now)).name dir.now.root)) }
+    ensures walked { IfSome (V.content v.old) (λ c. DeepAfterWalk result (walk_of c (place_of dir.now) up.now dir.now.root)) }
     ensures old { IfSome (V.content v.old) (λ c. IfOk result (λ plan. AllWereOld c plan.changes.items)) }
     ensures fits { IfOk result (λ plan. All Fits plan.changes.items) }
     ensures same { V.content v.new ≡ V.content v.old }

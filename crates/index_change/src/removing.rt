@@ -4,7 +4,7 @@ ghost use Rattle.block_view.specs.Changes.{Fits};
 ghost use Rattle.record_model.specs.Nodes.{root_at};
 ghost use Rattle.record_model.specs.Values.{is_file_name};
 ghost use Rattle.index_model.specs.Indexes.{node_of_block};
-ghost use Rattle.index_model.specs.Walks.{find_of};
+ghost use Rattle.index_model.specs.Walks.{find_of, walk_of};
 ghost use Rattle.index_model.specs.Trees.{last_raw};
 ghost use Rattle.index_plan.specs.Faults.{OnDeep};
 ghost use Rattle.index_plan.specs.Laws.{NeedsLevelWithout, RemovesFrom, TakesFewOut};
@@ -14,7 +14,7 @@ ghost use Rattle.index_tree.specs.Faults.{FailsByView};
 ghost use Rattle.index_tree.specs.Places.{place_of};
 ghost use Rattle.index_change.specs.Amounts.{keys_of};
 ghost use Rattle.index_change.specs.Changing.{AllWereOld};
-ghost use Rattle.index_change.specs.Faults.{AfterFind, IsOfView, Planned};
+ghost use Rattle.index_change.specs.Faults.{AfterFind, DeepAfterWalk, IsOfView, Planned};
 ghost use Rattle.index_change.specs.Holding.{Holds};
 ghost use Rattle.index_change.specs.Orders.{has_link, is_same_link, link_of, stands};
 ghost use Rattle.index_change.specs.Plans.{clusters_of, root_room, seventeen, IsMade};
@@ -152,6 +152,7 @@ impl<'a> Removal<'a> {
         requires root { root_at self.now.dir.now.root ≡ Ok self.now.root.now }
         requires keys { ForSome (V.content v.old) (λ c. 2 ≤ keys_of (node_of_block c (place_of self.now.dir.now)) self.now.root.now) }
         ensures value { IfSome (V.content v.old) (λ c. TakesLink c (place_of self.now.dir.now) self.now.up.now self.now.dir.now.root self.now.dir.now.used self.now.link.now self.now.fresh.now result) }
+        ensures walked { IfSome (V.content v.old) (λ c. DeepAfterWalk result (walk_of c (place_of self.now.dir.now) self.now.up.now self.now.dir.now.root)) }
         ensures old { IfSome (V.content v.old) (λ c. IfOk result (λ plan. AllWereOld c plan.changes.items)) }
         ensures fits { IfOk result (λ plan. All Fits plan.changes.items) }
         ensures same { V.content v.new ≡ V.content v.old }
@@ -176,6 +177,7 @@ impl<'a> Removal<'a> {
         requires root { root_at self.now.dir.now.root ≡ Ok self.now.root.now }
         requires keys { ForSome (V.content v.old) (λ c. 2 ≤ keys_of (node_of_block c (place_of self.now.dir.now)) self.now.root.now) }
         ensures value { IfSome (V.content v.old) (λ c. TakesLink c (place_of self.now.dir.now) self.now.up.now self.now.dir.now.root self.now.dir.now.used self.now.link.now self.now.fresh.now result) }
+        ensures walked { IfSome (V.content v.old) (λ c. DeepAfterWalk result (walk_of c (place_of self.now.dir.now) self.now.up.now self.now.dir.now.root)) }
         ensures old { IfSome (V.content v.old) (λ c. IfOk result (λ plan. AllWereOld c plan.changes.items)) }
         ensures fits { IfOk result (λ plan. All Fits plan.changes.items) }
         ensures same { V.content v.new ≡ V.content v.old }
@@ -199,6 +201,7 @@ impl<'a> Removal<'a> {
         requires enough { 17 ≤ length self.now.fresh.now }
         requires root { root_at self.now.dir.now.root ≡ Ok self.now.root.now }
         ensures value { IfSome (V.content v.old) (λ c. TakesLink c (place_of self.now.dir.now) self.now.up.now self.now.dir.now.root self.now.dir.now.used self.now.link.now self.now.fresh.now result) }
+        ensures walked { IfSome (V.content v.old) (λ c. DeepAfterWalk result (walk_of c (place_of self.now.dir.now) self.now.up.now self.now.dir.now.root)) }
         ensures old { IfSome (V.content v.old) (λ c. IfOk result (λ plan. AllWereOld c plan.changes.items)) }
         ensures fits { IfOk result (λ plan. All Fits plan.changes.items) }
         ensures same { V.content v.new ≡ V.content v.old }
@@ -261,6 +264,7 @@ pub fn plan_remove<V: View>(
     requires enough { 17 ≤ length fresh.now }
     ensures value { IfSome (V.content v.old) (λ c. RemoveGives c (place_of dir.now) up.now dir.now.root dir.now.used (link_of (own_key key.now)) fresh.now result) }
     ensures search { IfSome (V.content v.old) (λ c. AfterFind result (find_of c (place_of dir.now) up.now (link_of (own_key key.now)).name dir.now.root)) }
+    ensures walked { IfSome (V.content v.old) (λ c. DeepAfterWalk result (walk_of c (place_of dir.now) up.now dir.now.root)) }
     ensures old { IfSome (V.content v.old) (λ c. IfOk result (λ plan. AllWereOld c plan.changes.items)) }
     ensures fits { IfOk result (λ plan. All Fits plan.changes.items) }
     ensures same { V.content v.new ≡ V.content v.old }

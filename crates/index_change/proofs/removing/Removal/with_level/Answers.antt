@@ -2,6 +2,10 @@ use Rattle.std.proofs.Common.{◌∙◌}
 use Rattle.index_tree.specs.Places.{place_of}
 use Rattle.index_change.proofs.Insertions.{judged_known, by_height}
 use Rattle.index_change.proofs.Removings.{takes_known, deep_known}
+use Rattle.disk_model.specs.Content.{Content}
+use Rattle.index_model.specs.Walks.{walk_of}
+use Rattle.index_change.specs.declared.plan.DirPlan.{DirPlan}
+use Rattle.index_change.proofs.Searches.{deep_walked, view_walked}
 use Rattle.index_change.proofs.removing.Removal.with_level.Goals as goal
 
 pub returns-in-Ok-clause-value : goal.returns-in-Ok-clause-value
@@ -20,3 +24,13 @@ returns-in-Err-Deep-clause-value g c =
     deep_known p o.up.now o.dir.now.root o.dir.now.used o.link.now o.fresh.now o.root.now _ _ c.in_ok-height.height c.in-Err-Deep.height
     (c.in_ok-height.ensures.same ∙ c.in_ok-walk.ensures.same) c.requires.enough c.requires.root d.0 d.1 d.2
     (judged_known _ _ p o.root.now c.as_slice.result.now c.in_ok-height.height c.in_ok-height.ensures.same c.as_slice.ensures c.in_ok-height.ensures.value)
+
+pub returns-in-Ok-clause-walked : goal.returns-in-Ok-clause-walked
+returns-in-Ok-clause-walked g c =
+    let o = c.args.self.now in
+    view_walked _ c.finish.result (λ (x : Content). walk_of x (place_of o.dir.now) o.up.now o.dir.now.root) c.finish.ensures.only
+
+pub returns-in-Err-Deep-clause-walked : goal.returns-in-Err-Deep-clause-walked
+returns-in-Err-Deep-clause-walked g c =
+    let o = c.args.self.now in
+    deep_walked DirPlan _ c.in-Err-Deep.height (λ (x : Content). walk_of x (place_of o.dir.now) o.up.now o.dir.now.root) _ c.in_ok-walk.ensures.value
