@@ -162,7 +162,7 @@ fn check_view<V: View>(alloc: Global, view: &mut V, sectors: u64) -> Result<Tree
 // The tree of a device of so many sectors.
 fn check_device<D: Device>(alloc: Global, device: &mut D, sectors: u64) -> Result<Tree, ScanError>
     ensures answer { IfSome (D.gives device.old) (λ disk. GivesOrFails (λ tree. tree) scan_cause result (check_in (content_of (sector_of disk)) sectors)) }
-    ensures kept { KeepsDevice D.gives D.sector_count D.fault_count device.old device.new }
+    ensures kept { KeepsDevice D.gives D.sector_count D.changes_of D.fault_count device.old device.new }
     ensures fault { IsErrOf result ScanError.Device → HasFailed (D.fault_count device.old) (D.fault_count device.new) (D.moment_of device.new) }
     ensures counted { D.moment_of device.old < last_moment → CountsOnDevice scan_cause (D.fault_count device.old) (D.fault_count device.new) (D.moment_of device.new) result }
 {
@@ -191,7 +191,7 @@ fn check_device<D: Device>(alloc: Global, device: &mut D, sectors: u64) -> Resul
 /// - [`ScanError::Memory`]: want of memory.
 pub fn check_image<D: Device>(alloc: Global, device: &mut D) -> Result<Tree, ScanError>
     ensures answer { IfSome (D.gives device.old) (λ disk. GivesOrFails (λ tree. tree) scan_cause result (check_of disk)) }
-    ensures kept { KeepsDevice D.gives D.sector_count D.fault_count device.old device.new }
+    ensures kept { KeepsDevice D.gives D.sector_count D.changes_of D.fault_count device.old device.new }
     ensures fault { IsErrOf result ScanError.Device → HasFailed (D.fault_count device.old) (D.fault_count device.new) (D.moment_of device.new) }
     ensures counted { D.moment_of device.old < last_moment → CountsOnDevice scan_cause (D.fault_count device.old) (D.fault_count device.new) (D.moment_of device.new) result }
 {

@@ -36,7 +36,8 @@ pub struct ReadJournal {
     pub entries: UsnList,
     /// The byte of `$J` at which the journal begins.
     pub first: u64,
-    /// The byte of `$J` behind its last record, where the next one goes.
+    /// The real size of `$J`: the next record goes there, or, where it has no room in that page, at the
+    /// front of the next one. Zeros may stand between the last record and this byte.
     pub next: u64,
 }
 
@@ -176,7 +177,7 @@ fn read_device<D: Device>(
     sectors: u64,
 ) -> Result<ReadJournal, ScanError>
     ensures answer { IfSome (D.gives device.old) (λ disk. GivesOrFails (λ j. j) scan_cause result (journal_in (content_of (sector_of disk)) sectors)) }
-    ensures kept { KeepsDevice D.gives D.sector_count D.fault_count device.old device.new }
+    ensures kept { KeepsDevice D.gives D.sector_count D.changes_of D.fault_count device.old device.new }
     ensures fault { IsErrOf result ScanError.Device → HasFailed (D.fault_count device.old) (D.fault_count device.new) (D.moment_of device.new) }
     ensures counted { D.moment_of device.old < last_moment → CountsOnDevice scan_cause (D.fault_count device.old) (D.fault_count device.new) (D.moment_of device.new) result }
 {
@@ -200,7 +201,7 @@ fn read_device<D: Device>(
 /// - [`ScanError::Memory`]: want of memory, also where the journal has 2^32 - 1 records or more.
 pub fn read_journal<D: Device>(alloc: Global, device: &mut D) -> Result<ReadJournal, ScanError>
     ensures answer { IfSome (D.gives device.old) (λ disk. GivesOrFails (λ j. j) scan_cause result (journal_of disk)) }
-    ensures kept { KeepsDevice D.gives D.sector_count D.fault_count device.old device.new }
+    ensures kept { KeepsDevice D.gives D.sector_count D.changes_of D.fault_count device.old device.new }
     ensures fault { IsErrOf result ScanError.Device → HasFailed (D.fault_count device.old) (D.fault_count device.new) (D.moment_of device.new) }
     ensures counted { D.moment_of device.old < last_moment → CountsOnDevice scan_cause (D.fault_count device.old) (D.fault_count device.new) (D.moment_of device.new) result }
 {

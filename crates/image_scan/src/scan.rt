@@ -69,7 +69,7 @@ fn scan_device<D: Device>(
     sectors: u64,
 ) -> Result<Vec<Link>, ScanError>
     ensures answer { IfSome (D.gives device.old) (λ disk. GivesOrFails (λ links. links.items) scan_cause result (scan_in (content_of (sector_of disk)) sectors)) }
-    ensures kept { KeepsDevice D.gives D.sector_count D.fault_count device.old device.new }
+    ensures kept { KeepsDevice D.gives D.sector_count D.changes_of D.fault_count device.old device.new }
     ensures fault { IsErrOf result ScanError.Device → HasFailed (D.fault_count device.old) (D.fault_count device.new) (D.moment_of device.new) }
     ensures counted { D.moment_of device.old < last_moment → CountsOnDevice scan_cause (D.fault_count device.old) (D.fault_count device.new) (D.moment_of device.new) result }
 {
@@ -95,7 +95,7 @@ fn scan_device<D: Device>(
 /// - [`ScanError::Memory`]: want of memory.
 pub fn scan_image<D: Device>(alloc: Global, device: &mut D) -> Result<Vec<Link>, ScanError>
     ensures answer { IfSome (D.gives device.old) (λ disk. GivesOrFails (λ links. links.items) scan_cause result (scan_of disk)) }
-    ensures kept { KeepsDevice D.gives D.sector_count D.fault_count device.old device.new }
+    ensures kept { KeepsDevice D.gives D.sector_count D.changes_of D.fault_count device.old device.new }
     ensures fault { IsErrOf result ScanError.Device → HasFailed (D.fault_count device.old) (D.fault_count device.new) (D.moment_of device.new) }
     ensures counted { D.moment_of device.old < last_moment → CountsOnDevice scan_cause (D.fault_count device.old) (D.fault_count device.new) (D.moment_of device.new) result }
 {

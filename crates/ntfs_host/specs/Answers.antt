@@ -5,7 +5,8 @@ use Rattle.host_base.specs.Answers.{◌>>=◌}
 use Rattle.volume_format.specs.declared.fault.FormatFault.{FormatFault}
 use Rattle.volume_format.specs.declared.fault.FormatFault.TheVariants as formats
 use Rattle.volume_format.specs.Answers.{format_answer}
-use Rattle.volume_format.specs.Layouts.{layout_of}
+use Rattle.sector_device.specs.Moments.{Changes, Begins}
+use Rattle.volume_format.specs.Layouts.{layout_of, device_writes}
 use Rattle.volume_format.specs.Images.{regions, formatted}
 use Rattle.volume_format.specs.Stopping.{PutsFront, KeepsOthers}
 use Rattle.image_scan.specs.declared.refusal.Refusal.{Refusal}
@@ -82,6 +83,15 @@ Leaves Dump gives gives_now = gives_now ≡ gives
 Leaves Check gives gives_now = gives_now ≡ gives
 Leaves Journal gives gives_now = gives_now ≡ gives
 Leaves (Format seed time) gives gives_now = gives_now ≡ option_map (λ disk. formatted disk seed time) gives
+
+-- The writes and syncs that a command has begun once it is done, by the number of sectors: a format a write for each
+-- region or piece of one, and one sync; another command none.
+abbrev pub BeginsBy : Quiet → ℕ → Changes → Changes → Type 0
+BeginsBy Scan sectors before now = now ≡ before
+BeginsBy Dump sectors before now = now ≡ before
+BeginsBy Check sectors before now = now ≡ before
+BeginsBy Journal sectors before now = now ≡ before
+BeginsBy (Format seed time) sectors before now = Begins (device_writes (layout_of sectors)) 1 before now
 
 -- What a command leaves whose device failed, by the number of its sectors: a format a front of its regions and any sectors of the
 -- next one, another command what was there.

@@ -6,11 +6,12 @@ ghost use Rattle.host_base.specs.Causes.{HasFailed, last_moment};
 ghost use Rattle.device_view.specs.Devices.{CountsOnDevice};
 ghost use Rattle.volume_format.specs.Answers.{format_answer};
 ghost use Rattle.volume_format.specs.Images.{regions, formatted};
-ghost use Rattle.volume_format.specs.Layouts.{layout_of};
+ghost use Rattle.sector_device.specs.Moments.{Begins};
+ghost use Rattle.volume_format.specs.Layouts.{layout_of, device_writes};
 ghost use Rattle.volume_format.specs.Stopping.{PutsFront, KeepsOthers};
 ghost use Rattle.image_scan.specs.Errors.{scan_cause, refused_as};
 ghost use Rattle.image_dump.specs.Texts.{scan_text, dump_text, check_text, journal_text};
-ghost use Rattle.ntfs_host.specs.Answers.{scan_answer, dump_answer, check_answer, journal_answer, format_refusal, error_of_format, format_line, answer_of, IsReader, Leaves, LeavesFront, LeavesRest, IsRefusal};
+ghost use Rattle.ntfs_host.specs.Answers.{scan_answer, dump_answer, check_answer, journal_answer, format_refusal, error_of_format, format_line, answer_of, IsReader, Leaves, LeavesFront, LeavesRest, IsRefusal, BeginsBy};
 
 use crate::command::Quiet;
 use crate::text::formatted_line;
@@ -61,6 +62,7 @@ fn text_of_journal(alloc: Global, journal: &ReadJournal) -> Result<String, Memor
 fn scan_answer<D: Device>(alloc: Global, device: &mut D) -> Result<String, ScanError>
     ensures answer { IfSome (D.gives device.old) (λ disk. GivesOrFails (λ text. string_bytes text) scan_cause result (scan_answer disk)) }
     ensures gives { D.gives device.new ≡ D.gives device.old }
+    ensures only_read { D.changes_of device.new ≡ D.changes_of device.old }
     ensures sectors { D.sector_count device.new ≡ D.sector_count device.old }
     ensures later { D.fault_count device.old ≤ D.fault_count device.new }
     ensures fault { IsErrOf result ScanError.Device → HasFailed (D.fault_count device.old) (D.fault_count device.new) (D.moment_of device.new) }
@@ -74,6 +76,7 @@ fn scan_answer<D: Device>(alloc: Global, device: &mut D) -> Result<String, ScanE
 fn dump_answer<D: Device>(alloc: Global, device: &mut D) -> Result<String, ScanError>
     ensures answer { IfSome (D.gives device.old) (λ disk. GivesOrFails (λ text. string_bytes text) scan_cause result (dump_answer disk)) }
     ensures gives { D.gives device.new ≡ D.gives device.old }
+    ensures only_read { D.changes_of device.new ≡ D.changes_of device.old }
     ensures sectors { D.sector_count device.new ≡ D.sector_count device.old }
     ensures later { D.fault_count device.old ≤ D.fault_count device.new }
     ensures fault { IsErrOf result ScanError.Device → HasFailed (D.fault_count device.old) (D.fault_count device.new) (D.moment_of device.new) }
@@ -87,6 +90,7 @@ fn dump_answer<D: Device>(alloc: Global, device: &mut D) -> Result<String, ScanE
 fn check_answer<D: Device>(alloc: Global, device: &mut D) -> Result<String, ScanError>
     ensures answer { IfSome (D.gives device.old) (λ disk. GivesOrFails (λ text. string_bytes text) scan_cause result (check_answer disk)) }
     ensures gives { D.gives device.new ≡ D.gives device.old }
+    ensures only_read { D.changes_of device.new ≡ D.changes_of device.old }
     ensures sectors { D.sector_count device.new ≡ D.sector_count device.old }
     ensures later { D.fault_count device.old ≤ D.fault_count device.new }
     ensures fault { IsErrOf result ScanError.Device → HasFailed (D.fault_count device.old) (D.fault_count device.new) (D.moment_of device.new) }
@@ -100,6 +104,7 @@ fn check_answer<D: Device>(alloc: Global, device: &mut D) -> Result<String, Scan
 fn journal_answer<D: Device>(alloc: Global, device: &mut D) -> Result<String, ScanError>
     ensures answer { IfSome (D.gives device.old) (λ disk. GivesOrFails (λ text. string_bytes text) scan_cause result (journal_answer disk)) }
     ensures gives { D.gives device.new ≡ D.gives device.old }
+    ensures only_read { D.changes_of device.new ≡ D.changes_of device.old }
     ensures sectors { D.sector_count device.new ≡ D.sector_count device.old }
     ensures later { D.fault_count device.old ≤ D.fault_count device.new }
     ensures fault { IsErrOf result ScanError.Device → HasFailed (D.fault_count device.old) (D.fault_count device.new) (D.moment_of device.new) }
@@ -133,9 +138,11 @@ fn make_volume<D: Device>(
 ) -> Result<Formatted, ScanError>
     ensures answer { GivesOrFails (λ f. f) scan_cause result (refused_as format_refusal (format_answer (D.sector_count device.old))) }
     ensures image { IfOk result (λ f. D.gives device.new ≡ option_map (λ disk. formatted disk seed time) (D.gives device.old)) }
+    ensures begins { IfOk result (λ _. Begins (device_writes (layout_of (D.sector_count device.old))) 1 (D.changes_of device.old) (D.changes_of device.new)) }
     ensures stopped { IsErrOf result ScanError.Device → PutsFront (regions (layout_of (D.sector_count device.old)) seed time) (D.gives device.old) (D.gives device.new) }
     ensures others { KeepsOthers (layout_of (D.sector_count device.old)) (D.gives device.old) (D.gives device.new) }
     ensures refused { IfErr result (λ e. IsRefusal e → D.gives device.new ≡ D.gives device.old) }
+    ensures unwritten { IfErr result (λ e. IsRefusal e → D.changes_of device.new ≡ D.changes_of device.old) }
     ensures left_refused { IsErr (format_answer (D.sector_count device.old)) → D.gives device.new ≡ D.gives device.old }
     ensures wanting { IsErrOf result ScanError.Memory → D.gives device.new ≡ D.gives device.old }
     ensures sectors { D.sector_count device.new ≡ D.sector_count device.old }
@@ -159,9 +166,11 @@ fn format_answer<D: Device>(
 ) -> Result<String, ScanError>
     ensures answer { GivesOrFails (λ text. string_bytes text) scan_cause result (format_line (D.sector_count device.old)) }
     ensures image { IfOk result (λ text. D.gives device.new ≡ option_map (λ disk. formatted disk seed time) (D.gives device.old)) }
+    ensures begins { IfOk result (λ _. Begins (device_writes (layout_of (D.sector_count device.old))) 1 (D.changes_of device.old) (D.changes_of device.new)) }
     ensures stopped { IsErrOf result ScanError.Device → PutsFront (regions (layout_of (D.sector_count device.old)) seed time) (D.gives device.old) (D.gives device.new) }
     ensures others { KeepsOthers (layout_of (D.sector_count device.old)) (D.gives device.old) (D.gives device.new) }
     ensures refused { IfErr result (λ e. IsRefusal e → D.gives device.new ≡ D.gives device.old) }
+    ensures unwritten { IfErr result (λ e. IsRefusal e → D.changes_of device.new ≡ D.changes_of device.old) }
     ensures left_refused { IsErr (format_line (D.sector_count device.old)) → D.gives device.new ≡ D.gives device.old }
     ensures wanting { IsErrOf result ScanError.Memory → (D.gives device.new ≡ D.gives device.old) ⊎ (D.gives device.new ≡ option_map (λ disk. formatted disk seed time) (D.gives device.old)) }
     ensures sectors { D.sector_count device.new ≡ D.sector_count device.old }
@@ -185,12 +194,15 @@ pub fn answer<D: Device>(
 ) -> Result<String, ScanError>
     ensures answer { IfSome (D.gives device.old) (λ disk. GivesOrFails (λ text. string_bytes text) scan_cause result (answer_of command.now disk)) }
     ensures leaves { IfOk result (λ text. Leaves command.now (D.gives device.old) (D.gives device.new)) }
+    ensures begins { IfOk result (λ text. BeginsBy command.now (D.sector_count device.old) (D.changes_of device.old) (D.changes_of device.new)) }
     ensures stopped { IsErrOf result ScanError.Device → LeavesFront command.now (D.sector_count device.old) (D.gives device.old) (D.gives device.new) }
     ensures others { LeavesRest command.now (D.sector_count device.old) (D.gives device.old) (D.gives device.new) }
     ensures refused { IfErr result (λ e. IsRefusal e → D.gives device.new ≡ D.gives device.old) }
+    ensures unwritten { IfErr result (λ e. IsRefusal e → D.changes_of device.new ≡ D.changes_of device.old) }
     ensures left_refused { IfSome (D.gives device.old) (λ disk. IsErr (answer_of command.now disk) → D.gives device.new ≡ D.gives device.old) }
     ensures wanting { IsErrOf result ScanError.Memory → (D.gives device.new ≡ D.gives device.old) ⊎ Leaves command.now (D.gives device.old) (D.gives device.new) }
     ensures reads { IsReader command.now → D.gives device.new ≡ D.gives device.old }
+    ensures only_read { IsReader command.now → D.changes_of device.new ≡ D.changes_of device.old }
     ensures sectors { D.sector_count device.new ≡ D.sector_count device.old }
     ensures later { D.fault_count device.old ≤ D.fault_count device.new }
     ensures fault { IsErrOf result ScanError.Device → HasFailed (D.fault_count device.old) (D.fault_count device.new) (D.moment_of device.new) }

@@ -5,9 +5,9 @@ ghost use Rattle.host_base.specs.Answers.{Gives, GivesOrFails};
 ghost use Rattle.host_base.specs.Causes.{HasFailed};
 ghost use Rattle.disk_model.specs.Sectors.{raw_from, sector_of};
 ghost use Rattle.disk_model.specs.Content.{content_of};
-ghost use Rattle.device_view.specs.Devices.{CountsOnDevice};
+ghost use Rattle.device_view.specs.Devices.{KeepsDevice, CountsOnDevice};
 ghost use Rattle.image_scan.specs.Errors.{scan_cause};
-ghost use Rattle.ntfs_host.specs.Reading.{KeepsDevice, GivesPiece, IsDeviceOrMemory};
+ghost use Rattle.ntfs_host.specs.Reading.{GivesPiece, IsDeviceOrMemory};
 ghost use Rattle.ntfs_host.specs.Scan.{piece_at, log_of, table_of, volume_on};
 ghost use Rattle.ntfs_host.specs.Tables.{is_emptied, table_links};
 ghost use Rattle.ntfs_host.specs.Walks.{FoundBelow, FindsOrFails, FindsAll, settled};
@@ -34,7 +34,7 @@ fn read_piece<D: Device>(
     requires within { first + 2 * number + 2 ≤ D.sector_count device.old }
     requires fits { first + 2 * number + 2 < 2 ^ 64 }
     ensures answer { IfSome (D.gives device.old) (λ disk. GivesPiece result (piece_at (content_of (sector_of disk)) first number)) }
-    ensures kept { KeepsDevice D.gives D.sector_count D.fault_count device.old device.new }
+    ensures kept { KeepsDevice D.gives D.sector_count D.changes_of D.fault_count device.old device.new }
     ensures fault { IsErrOf result ScanError.Device → HasFailed (D.fault_count device.old) (D.fault_count device.new) (D.moment_of device.new) }
     ensures counted { CountsOnDevice scan_cause (D.fault_count device.old) (D.fault_count device.new) (D.moment_of device.new) result }
 {
@@ -55,7 +55,7 @@ pub fn read_chunk<D: Device>(
     ensures len { IfOk result (λ chunk. length chunk.items ≡ 1024 * records) }
     ensures bytes { IfSome (D.gives device.old) (λ disk. IfOk result (λ chunk. chunk.items ≡ raw_from (sector_of disk) sector (2 * records))) }
     ensures memory { IsDeviceOrMemory result }
-    ensures kept { KeepsDevice D.gives D.sector_count D.fault_count device.old device.new }
+    ensures kept { KeepsDevice D.gives D.sector_count D.changes_of D.fault_count device.old device.new }
     ensures fault { IsErrOf result ScanError.Device → HasFailed (D.fault_count device.old) (D.fault_count device.new) (D.moment_of device.new) }
     ensures counted { CountsOnDevice scan_cause (D.fault_count device.old) (D.fault_count device.new) (D.moment_of device.new) result }
 {
@@ -77,7 +77,7 @@ fn scan_chunk<D: Device>(
     requires fits { first + 2 * base + 2 * records < 2 ^ 32 }
     requires few { records ≤ 64 }
     ensures answer { IfSome (D.gives device.old) (λ disk. FoundBelow (piece_at (content_of (sector_of disk)) first) base findings.old → FindsOrFails (piece_at (content_of (sector_of disk)) first) (base + records) result findings.new) }
-    ensures kept { KeepsDevice D.gives D.sector_count D.fault_count device.old device.new }
+    ensures kept { KeepsDevice D.gives D.sector_count D.changes_of D.fault_count device.old device.new }
     ensures fault { IsErrOf result ScanError.Device → HasFailed (D.fault_count device.old) (D.fault_count device.new) (D.moment_of device.new) }
     ensures counted { CountsOnDevice scan_cause (D.fault_count device.old) (D.fault_count device.new) (D.moment_of device.new) result }
 {
@@ -95,7 +95,7 @@ fn scan_table<D: Device>(
     requires within { first + 2 * count ≤ D.sector_count device.old }
     requires fits { first + 2 * count < 2 ^ 32 }
     ensures answer { IfSome (D.gives device.old) (λ disk. FindsAll (piece_at (content_of (sector_of disk)) first) count result) }
-    ensures kept { KeepsDevice D.gives D.sector_count D.fault_count device.old device.new }
+    ensures kept { KeepsDevice D.gives D.sector_count D.changes_of D.fault_count device.old device.new }
     ensures fault { IsErrOf result ScanError.Device → HasFailed (D.fault_count device.old) (D.fault_count device.new) (D.moment_of device.new) }
     ensures counted { CountsOnDevice scan_cause (D.fault_count device.old) (D.fault_count device.new) (D.moment_of device.new) result }
 {
@@ -124,7 +124,7 @@ fn is_emptied<D: Device>(device: &mut D, lcn: u64) -> Result<bool, ScanError>
     requires { lcn + 16 ≤ D.sector_count device.old }
     ensures answer { IfSome (D.gives device.old) (λ disk. IfOk result (λ is. is ≡ is_emptied (sector_of disk) lcn)) }
     ensures device { IsDeviceOrMemory result }
-    ensures kept { KeepsDevice D.gives D.sector_count D.fault_count device.old device.new }
+    ensures kept { KeepsDevice D.gives D.sector_count D.changes_of D.fault_count device.old device.new }
     ensures fault { IsErrOf result ScanError.Device → HasFailed (D.fault_count device.old) (D.fault_count device.new) (D.moment_of device.new) }
     ensures counted { CountsOnDevice scan_cause (D.fault_count device.old) (D.fault_count device.new) (D.moment_of device.new) result }
 {
@@ -139,7 +139,7 @@ pub fn check_log<D: Device>(alloc: Global, device: &mut D, volume: Volume) -> Re
     requires within { volume.total ≤ D.sector_count device.old }
     requires small { volume.total ≤ 16777216 }
     ensures answer { IfSome (D.gives device.old) (λ disk. GivesOrFails (λ x. x) scan_cause result (log_of disk volume)) }
-    ensures kept { KeepsDevice D.gives D.sector_count D.fault_count device.old device.new }
+    ensures kept { KeepsDevice D.gives D.sector_count D.changes_of D.fault_count device.old device.new }
     ensures fault { IsErrOf result ScanError.Device → HasFailed (D.fault_count device.old) (D.fault_count device.new) (D.moment_of device.new) }
     ensures counted { CountsOnDevice scan_cause (D.fault_count device.old) (D.fault_count device.new) (D.moment_of device.new) result }
 {
@@ -166,7 +166,7 @@ pub fn count_records<D: Device>(
     requires small { volume.total ≤ 16777216 }
     ensures answer { IfSome (D.gives device.old) (λ disk. GivesOrFails (λ x. x) scan_cause result (table_of disk volume)) }
     ensures inside { IfOk result (λ count. volume.mft + 2 * count ≤ volume.total) }
-    ensures kept { KeepsDevice D.gives D.sector_count D.fault_count device.old device.new }
+    ensures kept { KeepsDevice D.gives D.sector_count D.changes_of D.fault_count device.old device.new }
     ensures fault { IsErrOf result ScanError.Device → HasFailed (D.fault_count device.old) (D.fault_count device.new) (D.moment_of device.new) }
     ensures counted { CountsOnDevice scan_cause (D.fault_count device.old) (D.fault_count device.new) (D.moment_of device.new) result }
 {
@@ -206,7 +206,7 @@ pub fn links_of_table<D: Device>(
     requires within { first + 2 * count ≤ D.sector_count device.old }
     requires fits { first + 2 * count < 2 ^ 32 }
     ensures answer { IfSome (D.gives device.old) (λ disk. GivesOrFails (λ links. links.items) scan_cause result (table_links (piece_at (content_of (sector_of disk)) first) count)) }
-    ensures kept { KeepsDevice D.gives D.sector_count D.fault_count device.old device.new }
+    ensures kept { KeepsDevice D.gives D.sector_count D.changes_of D.fault_count device.old device.new }
     ensures fault { IsErrOf result ScanError.Device → HasFailed (D.fault_count device.old) (D.fault_count device.new) (D.moment_of device.new) }
     ensures counted { CountsOnDevice scan_cause (D.fault_count device.old) (D.fault_count device.new) (D.moment_of device.new) result }
 {
@@ -220,7 +220,7 @@ pub fn read_volume<D: Device>(device: &mut D) -> Result<Volume, ScanError>
     ensures records { IfOk result (λ v. v.mft + 8 ≤ v.total) }
     ensures within { IfOk result (λ v. v.total ≤ D.sector_count device.new) }
     ensures small { IfOk result (λ v. v.total ≤ 16777216) }
-    ensures kept { KeepsDevice D.gives D.sector_count D.fault_count device.old device.new }
+    ensures kept { KeepsDevice D.gives D.sector_count D.changes_of D.fault_count device.old device.new }
     ensures fault { IsErrOf result ScanError.Device → HasFailed (D.fault_count device.old) (D.fault_count device.new) (D.moment_of device.new) }
     ensures counted { CountsOnDevice scan_cause (D.fault_count device.old) (D.fault_count device.new) (D.moment_of device.new) result }
 {

@@ -6,11 +6,11 @@ ghost use Rattle.disk_model.specs.declared.block.BlockKind.TheVariants.{FileRec 
 ghost use Rattle.disk_model.specs.Sectors.{sector_of};
 ghost use Rattle.disk_model.specs.Content.{body_of, content_of};
 ghost use Rattle.ntfs_host.specs.declared.piece.Piece.{Piece as the_piece};
-ghost use Rattle.device_view.specs.Devices.{CountsOnDevice};
+ghost use Rattle.device_view.specs.Devices.{KeepsDevice, CountsOnDevice};
 ghost use Rattle.image_scan.specs.Errors.{scan_cause};
 ghost use Rattle.ntfs_host.specs.Mounts.{used_record, records_of};
 ghost use Rattle.ntfs_host.specs.Pieces.{piece_of};
-ghost use Rattle.ntfs_host.specs.Reading.{KeepsDevice, IsDeviceOrMemory};
+ghost use Rattle.ntfs_host.specs.Reading.{IsDeviceOrMemory};
 ghost use Rattle.ntfs_host.specs.Scan.{piece_at};
 ghost use Rattle.ntfs_host.specs.Walks.{IsChunk};
 
@@ -74,7 +74,7 @@ fn load_more<D: Device>(
     ensures loaded { IfSome (D.gives device.old) (λ disk. records.old.items ≡ records_of (piece_at (content_of (sector_of disk)) first) base → OnOk result (records.new.items ≡ records_of (piece_at (content_of (sector_of disk)) first) (base + count))) }
     ensures grown { OnOk result (length records.new.items ≡ base + count) }
     ensures outside { IsDeviceOrMemory result }
-    ensures kept { KeepsDevice D.gives D.sector_count D.fault_count device.old device.new }
+    ensures kept { KeepsDevice D.gives D.sector_count D.changes_of D.fault_count device.old device.new }
     ensures fault { IsErrOf result ScanError.Device → HasFailed (D.fault_count device.old) (D.fault_count device.new) (D.moment_of device.new) }
     ensures counted { CountsOnDevice scan_cause (D.fault_count device.old) (D.fault_count device.new) (D.moment_of device.new) result }
 {
@@ -94,7 +94,7 @@ pub fn load_table<D: Device>(
     requires within { first + 2 * count ≤ D.sector_count device.old }
     requires fits { first + 2 * count < 2 ^ 32 }
     ensures answer { IfSome (D.gives device.old) (λ disk. GivesOrFails (λ records. records.items) scan_cause result (Ok (records_of (piece_at (content_of (sector_of disk)) first) count))) }
-    ensures kept { KeepsDevice D.gives D.sector_count D.fault_count device.old device.new }
+    ensures kept { KeepsDevice D.gives D.sector_count D.changes_of D.fault_count device.old device.new }
     ensures fault { IsErrOf result ScanError.Device → HasFailed (D.fault_count device.old) (D.fault_count device.new) (D.moment_of device.new) }
     ensures counted { CountsOnDevice scan_cause (D.fault_count device.old) (D.fault_count device.new) (D.moment_of device.new) result }
 {

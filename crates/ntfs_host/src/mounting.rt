@@ -4,10 +4,9 @@ ghost use Rattle.host_base.specs.Answers.{Gives, GivesOrFails};
 ghost use Rattle.host_base.specs.Causes.{HasFailed};
 ghost use Rattle.disk_model.specs.Sectors.{sector_of};
 ghost use Rattle.disk_model.specs.Content.{content_of};
-ghost use Rattle.device_view.specs.Devices.{CountsOnDevice};
+ghost use Rattle.device_view.specs.Devices.{KeepsDevice, CountsOnDevice};
 ghost use Rattle.image_scan.specs.Errors.{scan_cause};
 ghost use Rattle.ntfs_host.specs.Mounts.{records_of, soundness, judged_records, table_records, table_records_of, volume_records, mounted_of};
-ghost use Rattle.ntfs_host.specs.Reading.{KeepsDevice};
 ghost use Rattle.ntfs_host.specs.Scan.{piece_at};
 
 use crate::boot::Volume;
@@ -59,7 +58,7 @@ fn sound_table<D: Device>(
     requires within { first + 2 * count ≤ D.sector_count device.old }
     requires fits { first + 2 * count < 2 ^ 32 }
     ensures answer { IfSome (D.gives device.old) (λ disk. GivesOrFails (λ records. records.items) scan_cause result (judged_records upper.now (records_of (piece_at (content_of (sector_of disk)) first) count))) }
-    ensures kept { KeepsDevice D.gives D.sector_count D.fault_count device.old device.new }
+    ensures kept { KeepsDevice D.gives D.sector_count D.changes_of D.fault_count device.old device.new }
     ensures fault { IsErrOf result ScanError.Device → HasFailed (D.fault_count device.old) (D.fault_count device.new) (D.moment_of device.new) }
     ensures counted { CountsOnDevice scan_cause (D.fault_count device.old) (D.fault_count device.new) (D.moment_of device.new) result }
 {
@@ -78,7 +77,7 @@ fn records_of_table<D: Device>(
     requires within { first + 2 * count ≤ D.sector_count device.old }
     requires fits { first + 2 * count < 2 ^ 32 }
     ensures answer { IfSome (D.gives device.old) (λ disk. GivesOrFails (λ records. records.items) scan_cause result (table_records upper.now (piece_at (content_of (sector_of disk)) first) count)) }
-    ensures kept { KeepsDevice D.gives D.sector_count D.fault_count device.old device.new }
+    ensures kept { KeepsDevice D.gives D.sector_count D.changes_of D.fault_count device.old device.new }
     ensures fault { IsErrOf result ScanError.Device → HasFailed (D.fault_count device.old) (D.fault_count device.new) (D.moment_of device.new) }
     ensures counted { CountsOnDevice scan_cause (D.fault_count device.old) (D.fault_count device.new) (D.moment_of device.new) result }
 {
@@ -97,7 +96,7 @@ fn table_records_of<D: Device>(
     requires within { volume.total ≤ D.sector_count device.old }
     requires small { volume.total ≤ 16777216 }
     ensures answer { IfSome (D.gives device.old) (λ disk. GivesOrFails (λ records. records.items) scan_cause result (table_records_of upper.now disk volume)) }
-    ensures kept { KeepsDevice D.gives D.sector_count D.fault_count device.old device.new }
+    ensures kept { KeepsDevice D.gives D.sector_count D.changes_of D.fault_count device.old device.new }
     ensures fault { IsErrOf result ScanError.Device → HasFailed (D.fault_count device.old) (D.fault_count device.new) (D.moment_of device.new) }
     ensures counted { CountsOnDevice scan_cause (D.fault_count device.old) (D.fault_count device.new) (D.moment_of device.new) result }
 {
@@ -116,7 +115,7 @@ fn volume_records<D: Device>(
     requires within { volume.total ≤ D.sector_count device.old }
     requires small { volume.total ≤ 16777216 }
     ensures answer { IfSome (D.gives device.old) (λ disk. GivesOrFails (λ records. records.items) scan_cause result (volume_records upper.now disk volume)) }
-    ensures kept { KeepsDevice D.gives D.sector_count D.fault_count device.old device.new }
+    ensures kept { KeepsDevice D.gives D.sector_count D.changes_of D.fault_count device.old device.new }
     ensures fault { IsErrOf result ScanError.Device → HasFailed (D.fault_count device.old) (D.fault_count device.new) (D.moment_of device.new) }
     ensures counted { CountsOnDevice scan_cause (D.fault_count device.old) (D.fault_count device.new) (D.moment_of device.new) result }
 {
@@ -135,7 +134,7 @@ pub fn mount<D: Device>(
     device: &mut D,
 ) -> Result<Vec<Option<FileRec>>, ScanError>
     ensures answer { IfSome (D.gives device.old) (λ disk. GivesOrFails (λ records. records.items) scan_cause result (mounted_of upper.now disk)) }
-    ensures kept { KeepsDevice D.gives D.sector_count D.fault_count device.old device.new }
+    ensures kept { KeepsDevice D.gives D.sector_count D.changes_of D.fault_count device.old device.new }
     ensures fault { IsErrOf result ScanError.Device → HasFailed (D.fault_count device.old) (D.fault_count device.new) (D.moment_of device.new) }
     ensures counted { CountsOnDevice scan_cause (D.fault_count device.old) (D.fault_count device.new) (D.moment_of device.new) result }
 {

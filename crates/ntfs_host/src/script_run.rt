@@ -110,6 +110,7 @@ fn run_mounted<R: Threads + Wait, K: Sink, D: Device, G: Gate>(
     ensures device_counted { result ≢ 8 → D.fault_count device.new ≡ D.fault_count device.old }
     ensures silent { result ≡ 8 → K.taken sink.new ≡ K.taken sink.old }
     ensures gives { D.gives device.new ≡ D.gives device.old }
+    ensures only_read { D.changes_of device.new ≡ D.changes_of device.old }
     ensures sectors { D.sector_count device.new ≡ D.sector_count device.old }
     ensures later { D.fault_count device.old ≤ D.fault_count device.new }
 {
@@ -163,6 +164,7 @@ pub fn run_command<R: Threads + Wait, S: Source, K: Sink, D: Device, G: Gate>(
     ensures device_counted { result ≢ 8 → D.fault_count device.new ≡ D.fault_count device.old }
     ensures silent { (result ≡ 5) ⊎ (result ≡ 8) → K.taken sink.new ≡ K.taken sink.old }
     ensures gives { D.gives device.new ≡ D.gives device.old }
+    ensures only_read { D.changes_of device.new ≡ D.changes_of device.old }
     ensures sectors { D.sector_count device.new ≡ D.sector_count device.old }
     ensures later { D.fault_count device.old ≤ D.fault_count device.new }
 {

@@ -3,7 +3,7 @@ ghost use Rattle.std.specs.Option.{option_map};
 ghost use Rattle.disk_model.specs.Bytes.{written};
 ghost use Rattle.disk_model.specs.Sectors.{sector_of, raw_from};
 ghost use Rattle.host_base.specs.Causes.{FailsByCause, last_moment};
-ghost use Rattle.sector_device.specs.Moments.{moment_after, DoesNothing};
+ghost use Rattle.sector_device.specs.Moments.{moment_after, DoesNothing, Changes, after_write, after_sync};
 ghost use Rattle.sector_device.specs.Sectors.{sectors_of, IsDiskOf, IsTornBy};
 
 use host_base::Failed;
@@ -13,6 +13,14 @@ pub const SECTOR_BYTES: usize = 512;
 
 /// From this moment on a device answers `Failed` and does nothing else.
 pub const LAST_MOMENT: u64 = 1 << 62;
+
+// The calls that a device counts.
+#[derive(Clone, Copy)]
+pub(crate) enum Call {
+    Read,
+    Write,
+    Sync,
+}
 
 /// A list of 512-byte sectors.
 ///
@@ -32,6 +40,9 @@ pub trait Device {
 
     /// Never falls.
     ghost fault_count: { Self → ℕ };
+
+    /// The writes and the syncs begun: while they stay, nothing was written or synced.
+    ghost changes_of: { Self → Changes };
 
     /// The number of sectors; the offset of each of their bytes fits a `u64`.
     fn sectors(&self) -> u64
@@ -55,6 +66,7 @@ pub trait Device {
         ensures gives { gives self.new ≡ gives self.old }
         ensures sectors { sector_count self.new ≡ sector_count self.old }
         ensures moment { moment_of self.new ≡ moment_after (moment_of self.old) }
+        ensures changes { changes_of self.new ≡ changes_of self.old }
         ensures cause { FailsByCause (fault_count self.old) (fault_count self.new) (moment_of self.new) result }
         ensures ended { last_moment ≤ moment_of self.old → DoesNothing (gives self.old) (gives self.new) (fault_count self.old) (fault_count self.new) result }
         ensures untouched { last_moment ≤ moment_of self.old → out.new ≡ out.old };
@@ -68,6 +80,7 @@ pub trait Device {
         ensures torn { OnErr result (IsTornBy first (sectors_of bytes.now) (gives self.old) (gives self.new)) }
         ensures sectors { sector_count self.new ≡ sector_count self.old }
         ensures moment { moment_of self.new ≡ moment_after (moment_of self.old) }
+        ensures changes { changes_of self.new ≡ after_write (moment_of self.old) (changes_of self.old) }
         ensures cause { FailsByCause (fault_count self.old) (fault_count self.new) (moment_of self.new) result }
         ensures ended { last_moment ≤ moment_of self.old → DoesNothing (gives self.old) (gives self.new) (fault_count self.old) (fault_count self.new) result };
 
@@ -76,6 +89,7 @@ pub trait Device {
         ensures gives { gives self.new ≡ gives self.old }
         ensures sectors { sector_count self.new ≡ sector_count self.old }
         ensures moment { moment_of self.new ≡ moment_after (moment_of self.old) }
+        ensures changes { changes_of self.new ≡ after_sync (moment_of self.old) (changes_of self.old) }
         ensures cause { FailsByCause (fault_count self.old) (fault_count self.new) (moment_of self.new) result }
         ensures ended { last_moment ≤ moment_of self.old → DoesNothing (gives self.old) (gives self.new) (fault_count self.old) (fault_count self.new) result };
 

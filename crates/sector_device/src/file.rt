@@ -1,8 +1,8 @@
 ghost use Rattle.std.specs.Prelude.{◌≡◌, ◌+◌, ◌*◌, ◌^◌, ◌<◌, ◌≤◌, None, Result, IsErr, ◌↔◌, length};
 ghost use Rattle.host_base.specs.Causes.{HasCause, last_moment};
-ghost use Rattle.sector_device.specs.Moments.{moment_after};
+ghost use Rattle.sector_device.specs.Moments.{moment_after, after_call};
 
-use crate::device::{Device, LAST_MOMENT};
+use crate::device::{Call, Device, LAST_MOMENT};
 use host_base::Failed;
 use std::fs::{OpenFile, OpenOptions};
 use std::io::{Read, Seek, SeekFrom, Write};
@@ -17,9 +17,12 @@ pub struct FileDevice<F: Read + Write + Seek + OpenFile + Drop> {
     file: Option<F>,
     for_writing: bool,
     sectors: u64,
+    writes: u64,
+    syncs: u64,
     moment: u64,
     faults: u64,
     ghost few: { sectors < 2 ^ 55 },
+    ghost counted: { writes + syncs ≤ moment },
 }
 
 // The file, and whether it can be written.
@@ -50,6 +53,7 @@ impl<F: Read + Write + Seek + OpenFile + Drop> FileDevice<F> {
     /// sectors whose every read, write and sync fails.
     pub fn at<R: Files<File = F>>(rt: &R, path: &str) -> Self
         ensures moment { ⟦<FileDevice<F> as Device>⟧.moment_of result ≡ 0 }
+        ensures changes { ⟦<FileDevice<F> as Device>⟧.changes_of result ≡ record { writes = 0; syncs = 0 } }
         ensures faults { ⟦<FileDevice<F> as Device>⟧.fault_count result ≡ 0 }
     {
         let mut sectors = SECTORS_WHERE_SHUT;
@@ -64,14 +68,17 @@ impl<F: Read + Write + Seek + OpenFile + Drop> FileDevice<F> {
             file,
             for_writing,
             sectors,
+            writes: 0,
+            syncs: 0,
             moment: 0,
             faults: 0,
         }
     }
 
     // Begins a call's moments, before the last one.
-    fn begin(&mut self) -> Result<(), Failed>
+    fn begin(&mut self, call: Call) -> Result<(), Failed>
         ensures moment { self.new.moment ≡ moment_after self.old.moment }
+        ensures changes { ⟦<FileDevice<F> as Device>⟧.changes_of self.new ≡ after_call call self.old.moment (⟦<FileDevice<F> as Device>⟧.changes_of self.old) }
         ensures sectors { self.new.sectors ≡ self.old.sectors }
         ensures faults { self.new.faults ≡ self.old.faults }
         ensures ended { IsErr result ↔ (last_moment ≤ self.old.moment) }
@@ -80,6 +87,11 @@ impl<F: Read + Write + Seek + OpenFile + Drop> FileDevice<F> {
             return Err(Failed);
         }
         self.moment += 2;
+        match call {
+            Call::Read => {}
+            Call::Write => self.writes += 1,
+            Call::Sync => self.syncs += 1,
+        }
         Ok(())
     }
 
@@ -87,6 +99,7 @@ impl<F: Read + Write + Seek + OpenFile + Drop> FileDevice<F> {
     fn answer(&mut self, done: Result<(), Failed>) -> Result<(), Failed>
         ensures sectors { self.new.sectors ≡ self.old.sectors }
         ensures moment { self.new.moment ≡ self.old.moment }
+        ensures changes { ⟦<FileDevice<F> as Device>⟧.changes_of self.new ≡ ⟦<FileDevice<F> as Device>⟧.changes_of self.old }
         ensures value { result ≡ done }
         ensures cause { HasCause self.old.faults self.new.faults result }
     {
@@ -106,6 +119,8 @@ impl<F: Read + Write + Seek + OpenFile + Drop> Device for FileDevice<F> {
 
     ghost fault_count = { λ d. d.faults };
 
+    ghost changes_of = { λ d. record { writes = d.writes; syncs = d.syncs } };
+
     fn sectors(&self) -> u64 {
         self.sectors
     }
@@ -119,7 +134,7 @@ impl<F: Read + Write + Seek + OpenFile + Drop> Device for FileDevice<F> {
     }
 
     fn read(&mut self, first: u64, out: &mut [u8]) -> Result<(), Failed> {
-        self.begin()?;
+        self.begin(Call::Read)?;
         let done = match &mut self.file {
             Some(file) => fill(file, 512 * first, out),
             None => Err(Failed),
@@ -128,7 +143,7 @@ impl<F: Read + Write + Seek + OpenFile + Drop> Device for FileDevice<F> {
     }
 
     fn write(&mut self, first: u64, bytes: &[u8]) -> Result<(), Failed> {
-        self.begin()?;
+        self.begin(Call::Write)?;
         let done = match &mut self.file {
             Some(file) if self.for_writing => put(file, 512 * first, bytes),
             _ => Err(Failed),
@@ -137,7 +152,7 @@ impl<F: Read + Write + Seek + OpenFile + Drop> Device for FileDevice<F> {
     }
 
     fn sync(&mut self) -> Result<(), Failed> {
-        self.begin()?;
+        self.begin(Call::Sync)?;
         let done = match &self.file {
             Some(file) => file.sync_all().or(Err(Failed)),
             None => Err(Failed),

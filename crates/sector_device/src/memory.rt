@@ -4,11 +4,11 @@ ghost use Rattle.std.proofs.Common.{arith};
 ghost use Rattle.disk_model.specs.Bytes.{part, written};
 ghost use Rattle.disk_model.specs.Sectors.{sector_of, raw_from};
 ghost use Rattle.host_base.specs.Causes.{FailsByCause, last_moment};
-ghost use Rattle.sector_device.specs.Moments.{moment_after, DoesNothing};
+ghost use Rattle.sector_device.specs.Moments.{moment_after, DoesNothing, after_write, after_sync, after_call};
 ghost use Rattle.sector_device.specs.Sectors.{sectors_of, IsTornBy};
 ghost use Rattle.sector_device.specs.WholeSectors.{IsDiskOf-sectors_of};
 
-use crate::device::{Device, LAST_MOMENT, SECTOR_BYTES};
+use crate::device::{Call, Device, LAST_MOMENT, SECTOR_BYTES};
 use host_base::Failed;
 
 // Fills the buffer with the bytes from `at` on.
@@ -37,10 +37,15 @@ pub struct MemoryDevice {
     pub failing: Vec<u64>,
     /// The calls begun so far.
     pub calls: u64,
+    /// The writes among them.
+    pub writes: u64,
+    /// The syncs among them.
+    pub syncs: u64,
     moment: u64,
     faults: u64,
     ghost whole: { length bytes.items % 512 ≡ 0 },
     ghost few: { length bytes.items < 2 ^ 63 },
+    ghost counted: { writes + syncs ≤ moment },
 }
 
 impl MemoryDevice {
@@ -53,6 +58,7 @@ impl MemoryDevice {
         ensures gives { ⟦<MemoryDevice as Device>⟧.gives result ≡ Some (sectors_of bytes.items) }
         ensures sectors { ⟦<MemoryDevice as Device>⟧.sector_count result ≡ length bytes.items / 512 }
         ensures moment { ⟦<MemoryDevice as Device>⟧.moment_of result ≡ 0 }
+        ensures changes { ⟦<MemoryDevice as Device>⟧.changes_of result ≡ record { writes = 0; syncs = 0 } }
         ensures faults { ⟦<MemoryDevice as Device>⟧.fault_count result ≡ 0 }
         ensures failing { result.failing.items ≡ failing.items }
         ensures calls { result.calls ≡ 0 }
@@ -61,6 +67,8 @@ impl MemoryDevice {
             bytes,
             failing,
             calls: 0,
+            writes: 0,
+            syncs: 0,
             moment: 0,
             faults: 0,
         }
@@ -68,9 +76,10 @@ impl MemoryDevice {
 
     // Begins a call, which fails from the last moment on, and where its number is among those that
     // are to fail.
-    fn begin(&mut self) -> Result<(), Failed>
+    fn begin(&mut self, call: Call) -> Result<(), Failed>
         ensures bytes { self.new.bytes.items ≡ self.old.bytes.items }
         ensures moment { self.new.moment ≡ moment_after self.old.moment }
+        ensures changes { ⟦<MemoryDevice as Device>⟧.changes_of self.new ≡ after_call call self.old.moment (⟦<MemoryDevice as Device>⟧.changes_of self.old) }
         ensures cause { FailsByCause self.old.faults self.new.faults self.new.moment result }
         ensures failing { self.new.failing.items ≡ self.old.failing.items }
         ensures calls { self.new.calls ≡ calls_after self.old.moment self.old.calls }
@@ -81,9 +90,14 @@ impl MemoryDevice {
             return Err(Failed);
         }
         self.moment += 2;
-        let call = self.calls.saturating_add(1);
-        self.calls = call;
-        if self.failing.contains(&call) {
+        match call {
+            Call::Read => {}
+            Call::Write => self.writes += 1,
+            Call::Sync => self.syncs += 1,
+        }
+        let number = self.calls.saturating_add(1);
+        self.calls = number;
+        if self.failing.contains(&number) {
             self.faults = self.faults.saturating_add(1);
             return Err(Failed);
         }
@@ -101,6 +115,8 @@ impl Device for MemoryDevice {
     ghost moment_of = { λ d. d.moment };
 
     ghost fault_count = { λ d. d.faults };
+
+    ghost changes_of = { λ d. record { writes = d.writes; syncs = d.syncs } };
 
     fn sectors(&self) -> u64 {
         (self.bytes.len() / SECTOR_BYTES) as u64
@@ -123,6 +139,7 @@ impl Device for MemoryDevice {
         ensures gives { ⟦<MemoryDevice as Device>⟧.gives self.new ≡ ⟦<MemoryDevice as Device>⟧.gives self.old }
         ensures sectors { ⟦<MemoryDevice as Device>⟧.sector_count self.new ≡ ⟦<MemoryDevice as Device>⟧.sector_count self.old }
         ensures moment { ⟦<MemoryDevice as Device>⟧.moment_of self.new ≡ moment_after (⟦<MemoryDevice as Device>⟧.moment_of self.old) }
+        ensures changes { ⟦<MemoryDevice as Device>⟧.changes_of self.new ≡ ⟦<MemoryDevice as Device>⟧.changes_of self.old }
         ensures cause { FailsByCause (⟦<MemoryDevice as Device>⟧.fault_count self.old) (⟦<MemoryDevice as Device>⟧.fault_count self.new) (⟦<MemoryDevice as Device>⟧.moment_of self.new) result }
         ensures ended { last_moment ≤ ⟦<MemoryDevice as Device>⟧.moment_of self.old → DoesNothing (⟦<MemoryDevice as Device>⟧.gives self.old) (⟦<MemoryDevice as Device>⟧.gives self.new) (⟦<MemoryDevice as Device>⟧.fault_count self.old) (⟦<MemoryDevice as Device>⟧.fault_count self.new) result }
         ensures untouched { last_moment ≤ ⟦<MemoryDevice as Device>⟧.moment_of self.old → out.new ≡ out.old }
@@ -130,7 +147,7 @@ impl Device for MemoryDevice {
         ensures failing { self.new.failing.items ≡ self.old.failing.items }
         ensures calls { self.new.calls ≡ calls_after (⟦<MemoryDevice as Device>⟧.moment_of self.old) self.old.calls }
     {
-        self.begin()?;
+        self.begin(Call::Read)?;
         get(&self.bytes, SECTOR_BYTES * first as usize, out);
         Ok(())
     }
@@ -144,6 +161,7 @@ impl Device for MemoryDevice {
         ensures torn { OnErr result (IsTornBy first (sectors_of bytes.now) (⟦<MemoryDevice as Device>⟧.gives self.old) (⟦<MemoryDevice as Device>⟧.gives self.new)) }
         ensures sectors { ⟦<MemoryDevice as Device>⟧.sector_count self.new ≡ ⟦<MemoryDevice as Device>⟧.sector_count self.old }
         ensures moment { ⟦<MemoryDevice as Device>⟧.moment_of self.new ≡ moment_after (⟦<MemoryDevice as Device>⟧.moment_of self.old) }
+        ensures changes { ⟦<MemoryDevice as Device>⟧.changes_of self.new ≡ after_write (⟦<MemoryDevice as Device>⟧.moment_of self.old) (⟦<MemoryDevice as Device>⟧.changes_of self.old) }
         ensures cause { FailsByCause (⟦<MemoryDevice as Device>⟧.fault_count self.old) (⟦<MemoryDevice as Device>⟧.fault_count self.new) (⟦<MemoryDevice as Device>⟧.moment_of self.new) result }
         ensures ended { last_moment ≤ ⟦<MemoryDevice as Device>⟧.moment_of self.old → DoesNothing (⟦<MemoryDevice as Device>⟧.gives self.old) (⟦<MemoryDevice as Device>⟧.gives self.new) (⟦<MemoryDevice as Device>⟧.fault_count self.old) (⟦<MemoryDevice as Device>⟧.fault_count self.new) result }
         ensures nothing { OnErr result (⟦<MemoryDevice as Device>⟧.gives self.new ≡ ⟦<MemoryDevice as Device>⟧.gives self.old) }
@@ -152,7 +170,7 @@ impl Device for MemoryDevice {
         ensures calls { self.new.calls ≡ calls_after (⟦<MemoryDevice as Device>⟧.moment_of self.old) self.old.calls }
     {
         // A failing write writes nothing.
-        self.begin()?;
+        self.begin(Call::Write)?;
         put(&mut self.bytes, SECTOR_BYTES * first as usize, bytes);
         Ok(())
     }
@@ -163,6 +181,7 @@ impl Device for MemoryDevice {
         ensures gives { ⟦<MemoryDevice as Device>⟧.gives self.new ≡ ⟦<MemoryDevice as Device>⟧.gives self.old }
         ensures sectors { ⟦<MemoryDevice as Device>⟧.sector_count self.new ≡ ⟦<MemoryDevice as Device>⟧.sector_count self.old }
         ensures moment { ⟦<MemoryDevice as Device>⟧.moment_of self.new ≡ moment_after (⟦<MemoryDevice as Device>⟧.moment_of self.old) }
+        ensures changes { ⟦<MemoryDevice as Device>⟧.changes_of self.new ≡ after_sync (⟦<MemoryDevice as Device>⟧.moment_of self.old) (⟦<MemoryDevice as Device>⟧.changes_of self.old) }
         ensures cause { FailsByCause (⟦<MemoryDevice as Device>⟧.fault_count self.old) (⟦<MemoryDevice as Device>⟧.fault_count self.new) (⟦<MemoryDevice as Device>⟧.moment_of self.new) result }
         ensures ended { last_moment ≤ ⟦<MemoryDevice as Device>⟧.moment_of self.old → DoesNothing (⟦<MemoryDevice as Device>⟧.gives self.old) (⟦<MemoryDevice as Device>⟧.gives self.new) (⟦<MemoryDevice as Device>⟧.fault_count self.old) (⟦<MemoryDevice as Device>⟧.fault_count self.new) result }
         ensures due { IsErr result ↔ FailsNext (⟦<MemoryDevice as Device>⟧.moment_of self.old) self.old.failing.items self.old.calls }
@@ -170,7 +189,7 @@ impl Device for MemoryDevice {
         ensures calls { self.new.calls ≡ calls_after (⟦<MemoryDevice as Device>⟧.moment_of self.old) self.old.calls }
     {
         // What was written stands there already.
-        self.begin()
+        self.begin(Call::Sync)
     }
 
     ghost whole = { λ d. IsDiskOf-sectors_of d.bytes.items };

@@ -34,6 +34,7 @@ fn what_was_written_is_read(rt: HostRuntime) -> Result<(), Fail> {
     assert_eq!(rt; (out[0], out[511], out[1024]), (0, 0, 0));
     assert_eq!(rt; (out[512], out[1023]), (5, 5));
     assert_eq!(rt; (device.faults(), device.moment()), (2, 10));
+    assert_eq!(rt; (device.writes, device.syncs), (2, 2));
     Ok(())
 }
 

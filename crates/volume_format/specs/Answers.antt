@@ -2,6 +2,7 @@
 use Rattle.std.specs.Prelude.{◌≡◌, ℕ, nat_le, nat_lt, Option, Result, Ok}
 use Rattle.host_base.specs.Answers.{◌>>=◌, needs, Cause, refused, no_memory, failed}
 use Rattle.boot_sector.specs.BootSectors.{most_clusters}
+use Rattle.sector_device.specs.Moments.{Changes}
 use Rattle.volume_format.specs.declared.fault.Formatted.{Formatted}
 use Rattle.volume_format.specs.declared.fault.FormatFault.{FormatFault}
 use Rattle.volume_format.specs.declared.fault.FormatFault.TheVariants.{VolumeLarge, Short, Fault, Memory}
@@ -22,8 +23,9 @@ format_cause (Short sectors device) = refused (Short sectors device)
 format_cause Fault = failed
 format_cause Memory = no_memory
 
--- what reads give, the moment and the count of faults stay: the device wasn't called
-pub record IsUntouched {A : Type 0} (gives gives_now : Option A) (moment moment_now faults faults_now : ℕ) : Type 0 where
+-- what reads give, the moment, the writes, the syncs and the count of faults stay: the device wasn't called
+pub record IsUntouched {A : Type 0} (gives gives_now : Option A) (moment moment_now : ℕ) (changes changes_now : Changes) (faults faults_now : ℕ) : Type 0 where
   pub same_gives : gives_now ≡ gives
   pub same_moment : moment_now ≡ moment
+  pub same_changes : changes_now ≡ changes
   pub same_faults : faults_now ≡ faults

@@ -72,10 +72,14 @@ layout_of device = record {
 abbrev pub piece_calls : ℕ → ℕ
 piece_calls clusters = (clusters + 15) / 16
 
--- All calls of a device: one for each region, but one for each piece of the table of upper-case units, the log and the
--- bitmap of the clusters; and the sync.
+-- The writes of a device: one for each region, but one for each piece of the table of upper-case units, the log and the
+-- bitmap of the clusters.
+abbrev pub device_writes : Layout → ℕ
+device_writes v = 5 + piece_calls 32 + piece_calls v.log_pages + piece_calls v.bitmap_clusters
+
+-- all calls of a device: the writes, and the sync
 abbrev pub device_calls : Layout → ℕ
-device_calls v = 6 + piece_calls 32 + piece_calls v.log_pages + piece_calls v.bitmap_clusters
+device_calls v = device_writes v + 1
 
 -- a layout of a volume: all that is used lies in the volume, and the volume isn't too large
 pub record IsLayout (v : Layout) : Type 0 where

@@ -2,8 +2,9 @@ ghost use Rattle.std.specs.Prelude.{◌≡◌, ◌+◌, ◌*◌, ◌≤◌, ◌�
 ghost use Rattle.std.specs.Option.{option_map};
 ghost use Rattle.host_base.specs.Answers.{GivesOrFails};
 ghost use Rattle.host_base.specs.Causes.{HasFailed};
+ghost use Rattle.sector_device.specs.Moments.{Begins};
 ghost use Rattle.volume_format.specs.declared.fault.FormatFault.TheVariants.{Fault as device_failed, Memory as no_memory};
-ghost use Rattle.volume_format.specs.Layouts.{IsLayout, layout_of, device_calls};
+ghost use Rattle.volume_format.specs.Layouts.{IsLayout, layout_of, device_calls, device_writes};
 ghost use Rattle.volume_format.specs.Answers.{format_answer, format_cause, IsUntouched};
 ghost use Rattle.volume_format.specs.Images.{formatted, Puts, regions};
 ghost use Rattle.volume_format.specs.Stopping.{PutsFront, KeepsOthers};
@@ -61,11 +62,12 @@ fn write_volume<D: Device>(
     requires layout { IsLayout v }
     requires within { 8 * v.clusters ≤ D.sector_count device.old }
     ensures causes { IsErr result → IsErrOf result device_failed ⊎ IsErrOf result no_memory }
-    ensures memory { IsErrOf result no_memory → IsUntouched (D.gives device.old) (D.gives device.new) (D.moment_of device.old) (D.moment_of device.new) (D.fault_count device.old) (D.fault_count device.new) }
+    ensures memory { IsErrOf result no_memory → IsUntouched (D.gives device.old) (D.gives device.new) (D.moment_of device.old) (D.moment_of device.new) (D.changes_of device.old) (D.changes_of device.new) (D.fault_count device.old) (D.fault_count device.new) }
     ensures image { OnOk result (Puts (regions v seed time) (D.gives device.old) (D.gives device.new)) }
     ensures stopped { IsErrOf result device_failed → PutsFront (regions v seed time) (D.gives device.old) (D.gives device.new) }
     ensures others { KeepsOthers v (D.gives device.old) (D.gives device.new) }
     ensures moment { OnOk result (D.moment_of device.new ≡ D.moment_of device.old + 2 * device_calls v) }
+    ensures changes { OnOk result (Begins (device_writes v) 1 (D.changes_of device.old) (D.changes_of device.new)) }
     ensures sectors { D.sector_count device.new ≡ D.sector_count device.old }
     ensures later { D.fault_count device.old ≤ D.fault_count device.new }
     ensures fault { IsErrOf result device_failed → HasFailed (D.fault_count device.old) (D.fault_count device.new) (D.moment_of device.new) }
@@ -84,8 +86,8 @@ fn write_volume<D: Device>(
 /// the last sector too.
 ///
 /// It takes time linear in the clusters, constant memory, and writes at most 64 KiB in a call; the
-/// last call is a sync. Of this the contract says how many calls there are: a device counts reads,
-/// writes and syncs alike, so that no clause tells a sync from a write of no bytes.
+/// last call is a sync. Of this the contract says how many writes there are, that there is one sync,
+/// and no read.
 ///
 /// - [`FormatFault::Short`]: the device has no sector, or fewer than 4,537.
 /// - [`FormatFault::VolumeLarge`]: there would be more than 16,777,216 clusters. It comes before
@@ -105,9 +107,10 @@ pub fn format<D: Device>(
     ensures stopped { IsErrOf result device_failed → PutsFront (regions (layout_of (D.sector_count device.old)) seed time) (D.gives device.old) (D.gives device.new) }
     ensures others { KeepsOthers (layout_of (D.sector_count device.old)) (D.gives device.old) (D.gives device.new) }
     ensures calls { IfOk result (λ _. D.moment_of device.new ≡ D.moment_of device.old + 2 * device_calls (layout_of (D.sector_count device.old))) }
+    ensures changes { IfOk result (λ _. Begins (device_writes (layout_of (D.sector_count device.old))) 1 (D.changes_of device.old) (D.changes_of device.new)) }
     ensures only { IsErr (format_answer (D.sector_count device.old)) → result ≡ format_answer (D.sector_count device.old) }
-    ensures memory { IsErrOf result no_memory → IsUntouched (D.gives device.old) (D.gives device.new) (D.moment_of device.old) (D.moment_of device.new) (D.fault_count device.old) (D.fault_count device.new) }
-    ensures refused { IsErr (format_answer (D.sector_count device.old)) → IsUntouched (D.gives device.old) (D.gives device.new) (D.moment_of device.old) (D.moment_of device.new) (D.fault_count device.old) (D.fault_count device.new) }
+    ensures memory { IsErrOf result no_memory → IsUntouched (D.gives device.old) (D.gives device.new) (D.moment_of device.old) (D.moment_of device.new) (D.changes_of device.old) (D.changes_of device.new) (D.fault_count device.old) (D.fault_count device.new) }
+    ensures refused { IsErr (format_answer (D.sector_count device.old)) → IsUntouched (D.gives device.old) (D.gives device.new) (D.moment_of device.old) (D.moment_of device.new) (D.changes_of device.old) (D.changes_of device.new) (D.fault_count device.old) (D.fault_count device.new) }
     ensures sectors { D.sector_count device.new ≡ D.sector_count device.old }
     ensures later { D.fault_count device.old ≤ D.fault_count device.new }
     ensures fault { IsErrOf result device_failed → HasFailed (D.fault_count device.old) (D.fault_count device.new) (D.moment_of device.new) }

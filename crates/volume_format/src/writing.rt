@@ -2,8 +2,9 @@ ghost use Rattle.std.specs.Prelude.{◌≡◌, ◌+◌, ◌*◌, ◌/◌, ◌%�
 ghost use Rattle.std.specs.Option.{option_map};
 ghost use Rattle.host_base.specs.Causes.{FailsByCause};
 ghost use Rattle.disk_model.specs.Bytes.{written};
+ghost use Rattle.sector_device.specs.Moments.{Begins};
 ghost use Rattle.sector_device.specs.Sectors.{sectors_of, IsTornBy};
-ghost use Rattle.volume_format.specs.Layouts.{IsLayout, upper_case_first, log_first, cluster_bits_first, piece_calls, device_calls, table_first, mirror_first, record_bits_first};
+ghost use Rattle.volume_format.specs.Layouts.{IsLayout, upper_case_first, log_first, cluster_bits_first, piece_calls, device_calls, device_writes, table_first, mirror_first, record_bits_first};
 ghost use Rattle.volume_format.specs.Images.{Puts, upper_case_bytes, log_bytes, cluster_bits};
 ghost use Rattle.volume_format.specs.Stopping.{PutsFront, PutsTorn, KeepsOthers};
 ghost use Rattle.volume_format.specs.Fillings.{filling_bytes, IsInside};
@@ -25,6 +26,7 @@ fn put<D: Device>(device: &mut D, cluster: u64, bytes: &[u8]) -> Result<(), Fail
     ensures image { OnOk result (Puts (record { cluster = cluster; bytes = bytes.now } ∷ []) (D.gives device.old) (D.gives device.new)) }
     ensures torn { OnErr result (PutsTorn (record { cluster = cluster; bytes = bytes.now }) (D.gives device.old) (D.gives device.new)) }
     ensures moment { OnOk result (D.moment_of device.new ≡ D.moment_of device.old + 2) }
+    ensures changes { OnOk result (Begins 1 0 (D.changes_of device.old) (D.changes_of device.new)) }
     ensures sectors { D.sector_count device.new ≡ D.sector_count device.old }
     ensures cause { FailsByCause (D.fault_count device.old) (D.fault_count device.new) (D.moment_of device.new) result }
 {
@@ -46,6 +48,7 @@ fn put_piece<D: Device>(
     ensures image { OnOk result (D.gives device.new ≡ option_map (written (8 * cluster + at / 512) (sectors_of (filling_bytes filling at (length piece.old)))) (D.gives device.old)) }
     ensures torn { OnErr result (IsTornBy (8 * cluster + at / 512) (sectors_of (filling_bytes filling at (length piece.old))) (D.gives device.old) (D.gives device.new)) }
     ensures moment { OnOk result (D.moment_of device.new ≡ D.moment_of device.old + 2) }
+    ensures changes { OnOk result (Begins 1 0 (D.changes_of device.old) (D.changes_of device.new)) }
     ensures sectors { D.sector_count device.new ≡ D.sector_count device.old }
     ensures cause { FailsByCause (D.fault_count device.old) (D.fault_count device.new) (D.moment_of device.new) result }
 {
@@ -67,6 +70,7 @@ fn put_pieces<D: Device>(
     ensures image { OnOk result (Puts (record { cluster = cluster; bytes = filling_bytes filling 0 (65536 * count) } ∷ []) (D.gives device.old) (D.gives device.new)) }
     ensures torn { OnErr result (PutsTorn (record { cluster = cluster; bytes = filling_bytes filling 0 (65536 * count) }) (D.gives device.old) (D.gives device.new)) }
     ensures moment { OnOk result (D.moment_of device.new ≡ D.moment_of device.old + 2 * count) }
+    ensures changes { OnOk result (Begins count 0 (D.changes_of device.old) (D.changes_of device.new)) }
     ensures sectors { D.sector_count device.new ≡ D.sector_count device.old }
     ensures cause { FailsByCause (D.fault_count device.old) (D.fault_count device.new) (D.moment_of device.new) result }
 {
@@ -91,6 +95,7 @@ fn put_filled<D: Device>(
     ensures image { OnOk result (Puts (record { cluster = cluster; bytes = filling_bytes filling 0 bytes } ∷ []) (D.gives device.old) (D.gives device.new)) }
     ensures torn { OnErr result (PutsTorn (record { cluster = cluster; bytes = filling_bytes filling 0 bytes }) (D.gives device.old) (D.gives device.new)) }
     ensures moment { OnOk result (D.moment_of device.new ≡ D.moment_of device.old + 2 * ((bytes + 65535) / 65536)) }
+    ensures changes { OnOk result (Begins ((bytes + 65535) / 65536) 0 (D.changes_of device.old) (D.changes_of device.new)) }
     ensures sectors { D.sector_count device.new ≡ D.sector_count device.old }
     ensures cause { FailsByCause (D.fault_count device.old) (D.fault_count device.new) (D.moment_of device.new) result }
 {
@@ -116,6 +121,7 @@ fn put_upper_case<D: Device>(device: &mut D, room: &mut [u8]) -> Result<(), Fail
     ensures image { OnOk result (Puts (record { cluster = upper_case_first; bytes = upper_case_bytes } ∷ []) (D.gives device.old) (D.gives device.new)) }
     ensures torn { OnErr result (PutsTorn (record { cluster = upper_case_first; bytes = upper_case_bytes }) (D.gives device.old) (D.gives device.new)) }
     ensures moment { OnOk result (D.moment_of device.new ≡ D.moment_of device.old + 2 * piece_calls 32) }
+    ensures changes { OnOk result (Begins (piece_calls 32) 0 (D.changes_of device.old) (D.changes_of device.new)) }
     ensures sectors { D.sector_count device.new ≡ D.sector_count device.old }
     ensures cause { FailsByCause (D.fault_count device.old) (D.fault_count device.new) (D.moment_of device.new) result }
 {
@@ -130,6 +136,7 @@ fn put_log<D: Device>(device: &mut D, v: Layout, room: &mut [u8]) -> Result<(), 
     ensures image { OnOk result (Puts (record { cluster = log_first; bytes = log_bytes v } ∷ []) (D.gives device.old) (D.gives device.new)) }
     ensures torn { OnErr result (PutsTorn (record { cluster = log_first; bytes = log_bytes v }) (D.gives device.old) (D.gives device.new)) }
     ensures moment { OnOk result (D.moment_of device.new ≡ D.moment_of device.old + 2 * piece_calls v.log_pages) }
+    ensures changes { OnOk result (Begins (piece_calls v.log_pages) 0 (D.changes_of device.old) (D.changes_of device.new)) }
     ensures sectors { D.sector_count device.new ≡ D.sector_count device.old }
     ensures cause { FailsByCause (D.fault_count device.old) (D.fault_count device.new) (D.moment_of device.new) result }
 {
@@ -144,6 +151,7 @@ fn put_cluster_bits<D: Device>(device: &mut D, v: Layout, room: &mut [u8]) -> Re
     ensures image { OnOk result (Puts (record { cluster = cluster_bits_first v; bytes = cluster_bits v } ∷ []) (D.gives device.old) (D.gives device.new)) }
     ensures torn { OnErr result (PutsTorn (record { cluster = cluster_bits_first v; bytes = cluster_bits v }) (D.gives device.old) (D.gives device.new)) }
     ensures moment { OnOk result (D.moment_of device.new ≡ D.moment_of device.old + 2 * piece_calls v.bitmap_clusters) }
+    ensures changes { OnOk result (Begins (piece_calls v.bitmap_clusters) 0 (D.changes_of device.old) (D.changes_of device.new)) }
     ensures sectors { D.sector_count device.new ≡ D.sector_count device.old }
     ensures cause { FailsByCause (D.fault_count device.old) (D.fault_count device.new) (D.moment_of device.new) result }
 {
@@ -164,6 +172,7 @@ fn put_records<D: Device>(device: &mut D, parts: &Parts) -> Result<(), Failed>
     ensures image { OnOk result (Puts (record { cluster = table_first; bytes = parts.now.table.items } ∷ record { cluster = mirror_first; bytes = parts.now.mirror.items } ∷ record { cluster = record_bits_first; bytes = parts.now.record_bits.items } ∷ []) (D.gives device.old) (D.gives device.new)) }
     ensures stopped { OnErr result (PutsFront (record { cluster = table_first; bytes = parts.now.table.items } ∷ record { cluster = mirror_first; bytes = parts.now.mirror.items } ∷ record { cluster = record_bits_first; bytes = parts.now.record_bits.items } ∷ []) (D.gives device.old) (D.gives device.new)) }
     ensures moment { OnOk result (D.moment_of device.new ≡ D.moment_of device.old + 6) }
+    ensures changes { OnOk result (Begins 3 0 (D.changes_of device.old) (D.changes_of device.new)) }
     ensures sectors { D.sector_count device.new ≡ D.sector_count device.old }
     ensures cause { FailsByCause (D.fault_count device.old) (D.fault_count device.new) (D.moment_of device.new) result }
 {
@@ -180,6 +189,7 @@ fn put_long<D: Device>(device: &mut D, v: Layout, room: &mut [u8]) -> Result<(),
     ensures image { OnOk result (Puts (record { cluster = upper_case_first; bytes = upper_case_bytes } ∷ record { cluster = log_first; bytes = log_bytes v } ∷ record { cluster = cluster_bits_first v; bytes = cluster_bits v } ∷ []) (D.gives device.old) (D.gives device.new)) }
     ensures stopped { OnErr result (PutsFront (record { cluster = upper_case_first; bytes = upper_case_bytes } ∷ record { cluster = log_first; bytes = log_bytes v } ∷ record { cluster = cluster_bits_first v; bytes = cluster_bits v } ∷ []) (D.gives device.old) (D.gives device.new)) }
     ensures moment { OnOk result (D.moment_of device.new ≡ D.moment_of device.old + 2 * (piece_calls 32 + piece_calls v.log_pages + piece_calls v.bitmap_clusters)) }
+    ensures changes { OnOk result (Begins (piece_calls 32 + piece_calls v.log_pages + piece_calls v.bitmap_clusters) 0 (D.changes_of device.old) (D.changes_of device.new)) }
     ensures sectors { D.sector_count device.new ≡ D.sector_count device.old }
     ensures cause { FailsByCause (D.fault_count device.old) (D.fault_count device.new) (D.moment_of device.new) result }
 {
@@ -188,11 +198,12 @@ fn put_long<D: Device>(device: &mut D, v: Layout, room: &mut [u8]) -> Result<(),
     put_cluster_bits(device, v, room)
 }
 
-// Syncs. That this call is a sync is known by this body alone: a device counts its calls alike.
-#[tactic(auto, using(crate::proofs::Calls::went_on))]
+// Syncs.
+#[tactic(auto, using(crate::proofs::Calls::went_on, crate::proofs::Calls::began_sync))]
 fn finish<D: Device>(device: &mut D) -> Result<(), Failed>
     ensures gives { D.gives device.new ≡ D.gives device.old }
     ensures moment { OnOk result (D.moment_of device.new ≡ D.moment_of device.old + 2) }
+    ensures changes { OnOk result (Begins 0 1 (D.changes_of device.old) (D.changes_of device.new)) }
     ensures sectors { D.sector_count device.new ≡ D.sector_count device.old }
     ensures cause { FailsByCause (D.fault_count device.old) (D.fault_count device.new) (D.moment_of device.new) result }
 {
@@ -215,6 +226,7 @@ pub fn put_image<D: Device>(
     ensures stopped { OnErr result (PutsFront (regions_of v parts.now) (D.gives device.old) (D.gives device.new)) }
     ensures others { KeepsOthers v (D.gives device.old) (D.gives device.new) }
     ensures moment { OnOk result (D.moment_of device.new ≡ D.moment_of device.old + 2 * device_calls v) }
+    ensures changes { OnOk result (Begins (device_writes v) 1 (D.changes_of device.old) (D.changes_of device.new)) }
     ensures sectors { D.sector_count device.new ≡ D.sector_count device.old }
     ensures cause { FailsByCause (D.fault_count device.old) (D.fault_count device.new) (D.moment_of device.new) result }
 {

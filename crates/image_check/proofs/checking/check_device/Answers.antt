@@ -5,8 +5,8 @@ use Rattle.image_check.proofs.checking.check_device.Goals as goal
 
 pub returns-clause-fault : goal.returns-clause-fault
 returns-clause-fault g c = λ fault.
-    device_failed g.D.Device.gives g.D.Device.sector_count g.D.Device.fault_count g.D.Device.moment_of c.args.device.now _ _ _ _ _ _ (c.check_view.ensures.kept.stays ∙ c.new-view.ensures.kept) (omega (arith, c.new-view.ensures.faults)) (c.check_view.ensures.fault fault) (search rules)
+    device_failed g.D.Device.gives g.D.Device.sector_count g.D.Device.changes_of g.D.Device.fault_count g.D.Device.moment_of c.args.device.now _ _ _ _ _ _ (c.check_view.ensures.kept.stays ∙ c.new-view.ensures.kept) (omega (arith, c.new-view.ensures.faults)) (c.check_view.ensures.fault fault) (search rules)
 
 pub returns-clause-counted : goal.returns-clause-counted
 returns-clause-counted g c = λ early.
-    device_counts scan_cause c.check_view.result g.D.Device.gives g.D.Device.sector_count g.D.Device.fault_count g.D.Device.moment_of c.args.device.now _ _ _ _ _ _ (c.check_view.ensures.kept.stays ∙ c.new-view.ensures.kept) c.new-view.ensures.faults c.check_view.new.view.later c.check_view.ensures.counted (search rules) early
+    device_counts scan_cause c.check_view.result g.D.Device.gives g.D.Device.sector_count g.D.Device.changes_of g.D.Device.fault_count g.D.Device.moment_of c.args.device.now _ _ _ _ _ _ (c.check_view.ensures.kept.stays ∙ c.new-view.ensures.kept) c.new-view.ensures.faults c.check_view.new.view.later c.check_view.ensures.counted (search rules) early

@@ -7,7 +7,7 @@ use Rattle.ntfs_host.proofs.finding.scan_table.Goals as goal
 pub loop-base-init : goal.loop-base-init
 loop-base-init g c = record {
   found = always _ _ (λ disk. none_noted _ _ c.new.ensures.items refl refl);
-  kept = record { same = refl; sectors = refl; later = omega arith };
+  kept = record { same = refl; sectors = refl; unchanged = refl; later = omega arith };
   counted = refl;
   within = omega arith;
 }
@@ -18,6 +18,7 @@ loop-base-preserved g c = record {
   kept = record {
     same = c.in_ok-scan_chunk.ensures.kept.same ∙ c.loop-base.invariant.kept.same;
     sectors = c.in_ok-scan_chunk.ensures.kept.sectors ∙ c.loop-base.invariant.kept.sectors;
+    unchanged = c.in_ok-scan_chunk.ensures.kept.unchanged ∙ c.loop-base.invariant.kept.unchanged;
     later = omega (arith, c.loop-base.invariant.kept.later, c.in_ok-scan_chunk.ensures.kept.later);
   };
   counted = c.in_ok-scan_chunk.ensures.counted ∙ c.loop-base.invariant.counted;

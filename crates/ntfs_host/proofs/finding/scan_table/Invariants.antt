@@ -2,7 +2,7 @@ use Rattle.std.proofs.Common.{◌≡◌, ◌≤◌, ◌-◌}
 use Rattle.std.specs.Prelude.{IfSome}
 use Rattle.disk_model.specs.Sectors.{sector_of}
 use Rattle.disk_model.specs.Content.{content_of}
-use Rattle.ntfs_host.specs.Reading.{KeepsDevice}
+use Rattle.device_view.specs.Devices.{KeepsDevice}
 use Rattle.ntfs_host.specs.Scan.{piece_at}
 use Rattle.ntfs_host.specs.Walks.{FoundBelow}
 use Rattle.ntfs_host.proofs.finding.scan_table.Given as goal
@@ -10,7 +10,7 @@ use Rattle.ntfs_host.proofs.finding.scan_table.Given as goal
 abbrev pub invariant-loop-base : goal.invariant-loop-base
 invariant-loop-base g l = record {
   found : IfSome (g.D.Device.gives l.initial.device) (λ disk. FoundBelow (piece_at (content_of (sector_of disk)) l.first) l.base l.findings);
-  kept : KeepsDevice g.D.Device.gives g.D.Device.sector_count g.D.Device.fault_count l.initial.device l.device;
+  kept : KeepsDevice g.D.Device.gives g.D.Device.sector_count g.D.Device.changes_of g.D.Device.fault_count l.initial.device l.device;
   counted : g.D.Device.fault_count l.device ≡ g.D.Device.fault_count l.initial.device;
   within : l.base ≤ l.count;
 }

@@ -7,7 +7,7 @@ pub loop-base-init : goal.loop-base-init
 loop-base-init g c = record {
   loaded = always _ _ (λ disk. none_loaded_at _ _ c.new-records.ensures.items);
   size = ap length c.new-records.ensures.items;
-  kept = record { same = refl; sectors = refl; later = omega arith };
+  kept = record { same = refl; sectors = refl; unchanged = refl; later = omega arith };
   counted = refl;
   within = omega arith;
 }

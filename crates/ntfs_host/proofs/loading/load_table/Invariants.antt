@@ -3,7 +3,7 @@ use Rattle.std.specs.Prelude.{IfSome}
 use Rattle.disk_model.specs.Sectors.{sector_of}
 use Rattle.disk_model.specs.Content.{content_of}
 use Rattle.ntfs_host.specs.Mounts.{records_of}
-use Rattle.ntfs_host.specs.Reading.{KeepsDevice}
+use Rattle.device_view.specs.Devices.{KeepsDevice}
 use Rattle.ntfs_host.specs.Scan.{piece_at}
 use Rattle.ntfs_host.proofs.loading.load_table.Given as goal
 
@@ -11,7 +11,7 @@ abbrev pub invariant-loop-base : goal.invariant-loop-base
 invariant-loop-base g l = record {
   loaded : IfSome (g.D.Device.gives l.initial.device) (λ disk. l.records.items ≡ records_of (piece_at (content_of (sector_of disk)) l.first) l.base);
   size : length l.records.items ≡ l.base;
-  kept : KeepsDevice g.D.Device.gives g.D.Device.sector_count g.D.Device.fault_count l.initial.device l.device;
+  kept : KeepsDevice g.D.Device.gives g.D.Device.sector_count g.D.Device.changes_of g.D.Device.fault_count l.initial.device l.device;
   counted : g.D.Device.fault_count l.device ≡ g.D.Device.fault_count l.initial.device;
   within : l.base ≤ l.count;
 }

@@ -4,6 +4,7 @@ use Rattle.volume_format.specs.Images.{Puts, cluster_bits}
 use Rattle.volume_format.specs.Fillings.{filling_byte, filling_bytes}
 use Rattle.std.proofs.lemmas.Result.{on_err_weaker}
 use Rattle.volume_format.specs.Stopping.{PutsTorn}
+use Rattle.volume_format.proofs.Calls.{began_as}
 use Rattle.volume_format.proofs.writing.put_cluster_bits.Goals as goal
 
 pub returns-clause-image : goal.returns-clause-image
@@ -22,3 +23,6 @@ returns-clause-torn g c =
     on_err_weaker c.put_filled.result
     (λ torn. subst (λ (k : ℕ). PutsTorn (record { cluster = k; bytes = cluster_bits c.args.v }) (g.D.Device.gives c.args.device.now) (g.D.Device.gives c.put_filled.new.device)) c.cluster_bits_first.ensures torn)
     c.put_filled.ensures.torn
+
+pub returns-clause-changes : goal.returns-clause-changes
+returns-clause-changes g c = on_ok_weaker c.put_filled.result (λ e. began_as _ _ _ _ (omega arith) e) c.put_filled.ensures.changes

@@ -3,6 +3,8 @@ use Rattle.std.proofs.lemmas.Result.{on_ok_weaker}
 use Rattle.volume_format.proofs.Pieces.{piece_more}
 use Rattle.std.proofs.lemmas.Result.{on_err_weaker}
 use Rattle.volume_format.proofs.Stopping.{any_err, piece_torn, front_torn}
+use Rattle.volume_format.proofs.Calls.{began_more}
+use Rattle.std.proofs.Common.{refl}
 use Rattle.volume_format.proofs.writing.put_filled.Goals as goal
 
 pub returns-clause-image : goal.returns-clause-image
@@ -25,3 +27,7 @@ returns-clause-torn g c =
     (λ torn. piece_torn c.args.filling c.args.cluster (65536 * (c.args.bytes / 65536)) (length c.split_at_mut.result.0.now) c.args.bytes _ _ _
     (omega arith) (omega (arith, c.split_at_mut.ensures.front_len, c.requires.whole)) (omega (arith, c.split_at_mut.ensures.front_len)) c.in_ok-put_pieces.ensures.image torn)
     c.put_piece.ensures.torn
+
+pub returns-clause-changes : goal.returns-clause-changes
+returns-clause-changes g c =
+    on_ok_weaker c.put_piece.result (λ e. began_more (c.args.bytes / 65536) 0 1 0 _ 0 _ _ _ (omega arith) refl c.in_ok-put_pieces.ensures.changes e) c.put_piece.ensures.changes

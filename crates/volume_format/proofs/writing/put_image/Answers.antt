@@ -1,6 +1,8 @@
 use Rattle.std.proofs.Common.{arith}
 use Rattle.std.proofs.lemmas.Result.{on_ok_weaker}
 use Rattle.volume_format.proofs.Stopping.{any_err, torn_as, put_as, in_records, in_long, in_block, in_boot, in_sync, stopped_keeps}
+use Rattle.volume_format.proofs.Calls.{began_more}
+use Rattle.std.proofs.Common.{refl}
 use Rattle.volume_format.proofs.writing.put_image.Goals as goal
 
 pub returns-clause-moment : goal.returns-clause-moment
@@ -36,3 +38,8 @@ returns-clause-stopped g c = any_err c.finish.result (in_sync c.args.v c.args.pa
 
 pub returns-clause-others : goal.returns-clause-others
 returns-clause-others g c = stopped_keeps c.args.v c.args.parts.now _ _ c.requires.sizes (in_sync c.args.v c.args.parts.now _ _ _ _ _ _ _ c.block_first.ensures c.in_ok-put_records.ensures.image c.in_ok-put_long.ensures.image (put_as c.block_first.result _ c.args.parts.now.block.items _ _ c.deref.ensures.value c.in_ok-put.ensures.image) (put_as 0 _ c.args.parts.now.boot.items _ _ c.deref-2.ensures.value c.in_ok-put-2.ensures.image) c.finish.ensures.gives)
+
+pub returns-clause-changes : goal.returns-clause-changes
+returns-clause-changes g c =
+    let begun = began_more _ 0 _ 0 _ 0 _ _ _ refl refl (began_more _ 0 _ 0 _ 0 _ _ _ refl refl (began_more _ 0 _ 0 _ 0 _ _ _ refl refl c.in_ok-put_records.ensures.changes c.in_ok-put_long.ensures.changes) c.in_ok-put.ensures.changes) c.in_ok-put-2.ensures.changes in
+    on_ok_weaker c.finish.result (λ e. began_more _ 0 0 1 _ 1 _ _ _ (omega arith) refl begun e) c.finish.ensures.changes

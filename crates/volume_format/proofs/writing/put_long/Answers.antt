@@ -5,6 +5,8 @@ use Rattle.std.proofs.Common.{[], ◌∷◌}
 use Rattle.volume_format.specs.Layouts.{upper_case_first, log_first, cluster_bits_first}
 use Rattle.volume_format.specs.Images.{Region, upper_case_bytes, log_bytes, cluster_bits}
 use Rattle.volume_format.proofs.Stopping.{any_err, stops_in, stops_next}
+use Rattle.volume_format.proofs.Calls.{began_more}
+use Rattle.std.proofs.Common.{refl}
 use Rattle.volume_format.proofs.writing.put_long.Goals as goal
 
 pub returns-clause-moment : goal.returns-clause-moment
@@ -35,3 +37,7 @@ returns-clause-stopped g c =
     on_err_weaker c.put_cluster_bits.result
     (λ torn. stops_next a (b ∷ d ∷ []) _ _ _ c.in_ok-put_upper_case.ensures.image (stops_next b (d ∷ []) _ _ _ c.in_ok-put_log.ensures.image (stops_in d [] _ _ torn)))
     c.put_cluster_bits.ensures.torn
+
+pub returns-clause-changes : goal.returns-clause-changes
+returns-clause-changes g c =
+    on_ok_weaker c.put_cluster_bits.result (λ e. began_more _ 0 _ 0 _ 0 _ _ _ refl refl (began_more _ 0 _ 0 _ 0 _ _ _ refl refl c.in_ok-put_upper_case.ensures.changes c.in_ok-put_log.ensures.changes) e) c.put_cluster_bits.ensures.changes

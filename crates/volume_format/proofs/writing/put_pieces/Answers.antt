@@ -1,10 +1,11 @@
 use Rattle.std.proofs.Common.{◌+◌, ◌*◌, length, refl, ◌∙◌, arith}
+use Rattle.volume_format.proofs.Calls.{began_none, began_more}
 use Rattle.volume_format.proofs.Pieces.{piece_more, no_piece}
 use Rattle.volume_format.proofs.Stopping.{any_err, piece_torn}
 use Rattle.volume_format.proofs.writing.put_pieces.Goals as goal
 
 pub loop-piece-init : goal.loop-piece-init
-loop-piece-init g c = record { image = no_piece c.args.filling c.args.cluster (g.D.Device.gives c.args.device.now); sectors = refl; moment = omega arith; counted = refl }
+loop-piece-init g c = record { image = no_piece c.args.filling c.args.cluster (g.D.Device.gives c.args.device.now); sectors = refl; moment = omega arith; changes = began_none (g.D.Device.changes_of c.args.device.now); counted = refl }
 
 pub loop-piece-preserved : goal.loop-piece-preserved
 loop-piece-preserved g c = record {
@@ -13,6 +14,7 @@ loop-piece-preserved g c = record {
       (omega arith) (omega (arith, c.loop-piece.auto.room, c.requires.room)) c.loop-piece.invariant.image c.in_ok-put_piece.ensures.image;
   sectors = c.put_piece.ensures.sectors ∙ c.loop-piece.invariant.sectors;
   moment = omega (arith, c.loop-piece.invariant.moment, c.in_ok-put_piece.ensures.moment);
+  changes = began_more c.loop-piece.piece 0 1 0 (c.loop-piece.piece + 1) 0 _ _ _ (omega arith) refl c.loop-piece.invariant.changes c.in_ok-put_piece.ensures.changes;
   counted = c.in_ok-put_piece.ensures.cause.unfailed ∙ c.loop-piece.invariant.counted;
 }
 

@@ -5,6 +5,8 @@ use Rattle.std.proofs.Common.{[], ◌∷◌}
 use Rattle.volume_format.specs.Layouts.{table_first, mirror_first, record_bits_first}
 use Rattle.volume_format.specs.Images.{Region}
 use Rattle.volume_format.proofs.Stopping.{any_err, torn_as, put_as, stops_in, stops_next}
+use Rattle.volume_format.proofs.Calls.{began_more}
+use Rattle.std.proofs.Common.{refl}
 use Rattle.volume_format.proofs.writing.put_records.Goals as goal
 
 pub returns-clause-moment : goal.returns-clause-moment
@@ -35,3 +37,7 @@ returns-clause-stopped g c =
     on_err_weaker c.put-3.result
     (λ torn. stops_next a (b ∷ d ∷ []) _ _ _ (put_as table_first _ p.table.items _ _ c.deref.ensures.value c.in_ok-put.ensures.image) (stops_next b (d ∷ []) _ _ _ (put_as mirror_first _ p.mirror.items _ _ c.deref-2.ensures.value c.in_ok-put-2.ensures.image) (stops_in d [] _ _ (torn_as record_bits_first _ p.record_bits.items _ _ c.deref-3.ensures.value torn))))
     c.put-3.ensures.torn
+
+pub returns-clause-changes : goal.returns-clause-changes
+returns-clause-changes g c =
+    on_ok_weaker c.put-3.result (λ e. began_more 2 0 1 0 3 0 _ _ _ refl refl (began_more 1 0 1 0 2 0 _ _ _ refl refl c.in_ok-put.ensures.changes c.in_ok-put-2.ensures.changes) e) c.put-3.ensures.changes

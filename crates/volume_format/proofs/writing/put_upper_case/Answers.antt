@@ -6,6 +6,7 @@ use Rattle.volume_format.specs.Images.{Puts, upper_case_bytes}
 use Rattle.volume_format.proofs.Pieces.{upper_filled}
 use Rattle.std.proofs.lemmas.Result.{on_err_weaker}
 use Rattle.volume_format.specs.Stopping.{PutsTorn}
+use Rattle.volume_format.proofs.Calls.{began_as}
 use Rattle.volume_format.proofs.writing.put_upper_case.Goals as goal
 
 pub returns-clause-image : goal.returns-clause-image
@@ -24,3 +25,6 @@ returns-clause-torn g c =
     on_err_weaker c.put_filled.result
     (λ torn. subst (λ (bytes : List ℕ). PutsTorn (record { cluster = upper_case_first; bytes = bytes }) (g.D.Device.gives c.args.device.now) (g.D.Device.gives c.put_filled.new.device)) (sym (upper_filled 65536 131072 (omega arith) (omega arith))) torn)
     c.put_filled.ensures.torn
+
+pub returns-clause-changes : goal.returns-clause-changes
+returns-clause-changes g c = on_ok_weaker c.put_filled.result (λ e. began_as _ _ _ _ (omega arith) e) c.put_filled.ensures.changes
