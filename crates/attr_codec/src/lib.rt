@@ -11,8 +11,6 @@ mod header;
 mod laws;
 mod pushing;
 mod reading;
-#[cfg(test)]
-mod tests;
 mod writing;
 
 pub use borrowed::{AttrFault, AttrRef, Form};

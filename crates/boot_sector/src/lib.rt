@@ -9,6 +9,3 @@ mod laws;
 
 pub use boot::{Boot, BootFault};
 pub use laws::{boot_read_again, boot_read_is_table, boot_table_is_read, spells_one_boot};
-
-#[cfg(test)]
-mod tests;

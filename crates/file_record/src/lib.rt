@@ -6,8 +6,6 @@
 
 mod fault;
 mod record;
-#[cfg(test)]
-mod tests;
 mod walk;
 
 pub use fault::RecFault;

@@ -6,6 +6,3 @@ mod writer;
 
 pub use reader::read;
 pub use writer::write;
-
-#[cfg(test)]
-mod tests;

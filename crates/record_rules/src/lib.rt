@@ -17,8 +17,6 @@ mod naming;
 mod references;
 mod rising;
 mod rules;
-#[cfg(test)]
-mod tests;
 mod ways;
 
 pub use climbing::{Climber, all_links};

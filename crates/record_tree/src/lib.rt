@@ -13,10 +13,6 @@ mod lookup;
 mod nodes;
 mod places;
 mod rules;
-#[cfg(test)]
-mod tests;
-#[cfg(test)]
-mod tree_tests;
 
 pub use indexes::any_has_children;
 pub use lookup::RecordTree;

@@ -22,6 +22,3 @@ pub use laws::written_is_read;
 pub use record_model::{Attr, OwnForm, RecHead};
 pub use spelled::attr_has_spelling;
 pub use written::WrittenRecord;
-
-#[cfg(test)]
-mod tests;

@@ -11,8 +11,6 @@
 mod bytes;
 mod fixed;
 mod named;
-#[cfg(test)]
-mod tests;
 
 pub use fixed::FixedValue;
 pub use named::{NamedValue, is_file_name};

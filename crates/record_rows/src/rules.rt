@@ -1,14 +1,17 @@
-use super::*;
+//! The rules over the names of records that are held in memory, each in a call of its own.
+use crate::parts::{INFO, OneName, name_value};
 use file_record::FileRec;
 use host_base::{Bytes, FileRef};
 use record_model::{Attr, Head, OwnForm, StdInfo};
+use record_rules::{
+    Climber, all_links, counts_in, file_at, first_misnamed, first_misplaced, first_unrooted,
+    has_type, info_of, is_compressed, is_directory_record, is_encrypted, is_index,
+    is_same_reference, is_sparse, links_in, links_of, push_some, record_links, value_link,
+};
 use std::alloc::{AllocError, Global};
 use std::test::Fail;
 use tree_model::Link;
 use utf16_name::Units;
-
-// A name of one unit: the number and sequence of its directory, its namespace, its unit.
-struct OneName(u8, u8, u8, u8);
 
 #[derive(Clone, Copy, PartialEq, Eq)]
 enum Form {
@@ -108,12 +111,6 @@ static ROWS: [Row; 7] = [
     ),
 ];
 
-// Standard information: created at 1, modified at 2, changed at 3, read at 4; the flag 20.
-static INFO: [u8; 48] = [
-    1, 0, 0, 0, 0, 0, 0, 0, 2, 0, 0, 0, 0, 0, 0, 0, 3, 0, 0, 0, 0, 0, 0, 0, 4, 0, 0, 0, 0, 0, 0, 0,
-    0x20, 0, 0, 0, 0, 0, 0, 0, 0, 0, 0, 0, 0, 0, 0, 0,
-];
-
 // A record without attributes.
 fn bare_record(alloc: Global, file: &OneFile) -> Result<FileRec, Fail> {
     let flags = if file.2 == Form::Directory { 3 } else { 1 };
@@ -144,13 +141,6 @@ fn attribute(alloc: Global, kind: u32, value: &[u8]) -> Result<Attr, AllocError>
             indexed: 0,
         },
     })
-}
-
-fn name_value(alloc: Global, name: &OneName) -> Result<Vec<u8>, AllocError> {
-    let mut value = vec![in alloc; name.0, 0, 0, 0, 0, 0, name.1, 0]?;
-    value.resize(0x40, 0)?;
-    value.extend_from_slice(&[1, name.2, name.3, 0])?;
-    Ok(value)
 }
 
 fn record_of(alloc: Global, file: &OneFile) -> Result<FileRec, Fail> {
@@ -193,7 +183,7 @@ fn rules_are_broken(rt: HostRuntime) -> Result<(), Fail> {
 }
 
 // Whether these are the names of the root, in order.
-#[tactic(auto, using(crate::proofs::Tallies::names_known))]
+#[tactic(auto, using(record_rules::proofs::Tallies::names_known))]
 fn is_root_index(alloc: Global, records: &[Option<FileRec>], held: &[Link]) -> Result<bool, Fail> {
     let links = links_in(alloc, records)?;
     let counts = counts_in(alloc, records, &links)?;

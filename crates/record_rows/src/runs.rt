@@ -1,6 +1,7 @@
+//! The runs of a stream, read from mapping pairs and written.
 ghost use Rattle.std.specs.Prelude.{◌≡◌};
 
-use super::*;
+use mapping_pairs::{read, write};
 use record_model::{PairsFault, Run, Runs};
 use std::process::Abort;
 use std::test::Fail;

@@ -1,12 +1,11 @@
+//! The first rule that records in memory break, and indexes with blocks below their root.
 ghost use Rattle.std.specs.Prelude.{◌≡◌, length};
 
-use super::*;
+use crate::parts::{OneName, name_value};
 use file_record::{FileRec, RecFault};
+use record_tree::{Broken, any_has_children, broken_rule};
 use std::alloc::{AllocError, Global};
 use std::test::Fail;
-
-// A name of one unit: the number and sequence of its directory, its namespace, its unit.
-struct OneName(u8, u8, u8, u8);
 
 // An entry of an index: the number and sequence of its file, and the name.
 struct OneEntry(u8, u8, OneName);
@@ -221,14 +220,6 @@ fn put_attribute(
     put(bytes, name)?;
     put(bytes, value)?;
     pad(bytes, begin.min(1024) + length.min(1024))
-}
-
-fn name_value(alloc: Global, name: &OneName) -> Result<Vec<u8>, AllocError> {
-    let mut value = Vec::new(alloc);
-    put(&mut value, &[name.0, 0, 0, 0, 0, 0, name.1, 0])?;
-    pad(&mut value, 0x40)?;
-    put(&mut value, &[1, name.2, name.3, 0])?;
-    Ok(value)
 }
 
 fn put_entry(alloc: Global, node: &mut Vec<u8>, entry: &OneEntry) -> Result<(), AllocError> {

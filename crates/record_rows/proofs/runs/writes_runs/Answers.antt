@@ -1,7 +1,7 @@
 use Rattle.std.proofs.Common.{◌≡◌, ◌++◌, List, [], ◌∷◌, Some, refl, sym, ap, ◌∙◌, subst, arith}
 use Rattle.record_model.specs.declared.runs.Run.{Run}
 use Rattle.record_model.specs.Pairs.{HasSpelling, first_vcn}
-use Rattle.mapping_pairs.proofs.tests.writes_runs.Goals as goal
+use Rattle.record_rows.proofs.runs.writes_runs.Goals as goal
 
 pub write-requires : goal.write-requires
 write-requires g c =

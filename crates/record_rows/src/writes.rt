@@ -1,13 +1,14 @@
-use super::*;
+//! File records that are written, and attributes that come and go in them.
+use crate::parts::{Edit, put};
 use fixup_record::{has_shape, protect, to_body};
 use host_base::{Bytes, FileRef};
-use record_model::{Head, Sizes};
+use record_model::{Attr, Head, OwnForm, RecHead, Sizes};
+use record_writer::{
+    FileRec, RoomFault, WrittenRecord, attr_has_spelling, write_attr, written_is_read,
+};
 use std::alloc::{AllocError, Global};
 use std::test::Fail;
 use utf16_name::Units;
-
-// Bytes that stand from this place on.
-struct Edit(usize, &'static [u8]);
 
 // A directory's record: number 5, sequence 5, and the one name `.` in itself, as its body.
 static ROOT: [Edit; 11] = [
@@ -46,16 +47,6 @@ static SPARSE: [Edit; 7] = [
         &[0x11, 10, 0x10, 0, 0, 0, 0, 0, 0, 0, 0, 0, 0, 0, 0, 0],
     ),
 ];
-
-fn put(bytes: &mut [u8], edits: &[Edit]) {
-    for Edit(at, new) in edits {
-        for (i, byte) in new.iter().enumerate() {
-            if let Some(place) = bytes.get_mut(at.saturating_add(i)) {
-                *place = *byte;
-            }
-        }
-    }
-}
 
 fn root_head() -> RecHead {
     RecHead {

@@ -1,4 +1,5 @@
-use super::*;
+//! Attributes that are read where they stand, refused, and written.
+use attr_codec::{AttrFault, Form, Head, OwnForm, Sizes, read, write_mapped, write_resident};
 use host_base::Bytes;
 use std::test::Fail;
 

@@ -1,6 +1,10 @@
-use super::*;
+//! Values of known types that are read, refused, and written.
 use host_base::FileRef;
 use std::test::Fail;
+use std_values::{
+    FileNameValue, FixedValue, JournalMax, NamedValue, StdInfo, ValueFault, VolumeInfo,
+    is_file_name,
+};
 use utf16_name::Name;
 
 // The name `.` of a root directory, in itself.

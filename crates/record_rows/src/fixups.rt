@@ -1,4 +1,6 @@
-use super::*;
+//! The update sequence of file records and index blocks, undone and made.
+use disk_model::{FixupFault, u16_at};
+use fixup_record::{has_shape, next_check, protect, protected_is_undone, to_body, unprotect};
 
 /// A file record with the check word 7 and the true words 1234 and 5678.
 fn file_record() -> [u8; 1024] {

@@ -1,4 +1,5 @@
-use super::*;
+//! Boot sectors that are read, refused and written.
+use boot_sector::{Boot, BootFault};
 use disk_model::{put_bytes, put_u16, put_u64};
 
 /// A volume of 64 clusters of a sector each.

@@ -1,12 +1,11 @@
+//! File records that are read, and the least rule that one breaks.
 ghost use Rattle.std.specs.Prelude.{◌≡◌, length};
 
-use super::*;
+use crate::parts::{Edit, put};
+use file_record::{FileRec, Head, OwnForm, RecFault, RecHead, Sizes};
 use host_base::{Bytes, FileRef};
 use std::alloc::{AllocError, Global};
 use std::test::Fail;
-
-// Bytes that stand from this place on.
-struct Edit(usize, &'static [u8]);
 
 // What is changed in the root's record, and the rule that is broken then.
 struct Row(&'static [Edit], u32);
@@ -104,16 +103,6 @@ static RULES: [Row; 28] = [
         4,
     ),
 ];
-
-fn put(body: &mut [u8], edits: &[Edit]) {
-    for edit in edits {
-        for (i, byte) in edit.1.iter().enumerate() {
-            if i < body.len() && edit.0 < body.len() - i {
-                body[edit.0 + i] = *byte;
-            }
-        }
-    }
-}
 
 fn changed(alloc: Global, edits: &[Edit]) -> Result<Vec<u8>, AllocError> {
     let mut body = vec![in alloc; 0u8; 1024]?;

@@ -1,6 +1,8 @@
-use super::*;
+//! The tree of records that are held in memory: its nodes and its names.
+use crate::parts::INFO;
 use file_record::FileRec;
 use host_base::Bytes;
+use record_tree::RecordTree;
 use std::alloc::{AllocError, Global};
 use std::test::Fail;
 use tree_model::{Kind, Lookup, Name, NameList, Node, Why};
@@ -57,12 +59,6 @@ static FOUND: [Found; 7] = [
     Found(24, "Readme", Some(30)),
     Found(24, "none", None),
     Found(25, "b.txt", None),
-];
-
-// Standard information: created at 1, modified at 2, changed at 3, read at 4.
-static INFO: [u8; 48] = [
-    1, 0, 0, 0, 0, 0, 0, 0, 2, 0, 0, 0, 0, 0, 0, 0, 3, 0, 0, 0, 0, 0, 0, 0, 4, 0, 0, 0, 0, 0, 0, 0,
-    0x20, 0, 0, 0, 0, 0, 0, 0, 0, 0, 0, 0, 0, 0, 0, 0,
 ];
 
 // Appends a resident attribute.
