@@ -13,6 +13,3 @@ pub use cursor::next;
 pub use first::{FRONT_BYTES, FirstEntry, first_entry};
 pub use record_model::ListEntry;
 pub use step::Step;
-
-#[cfg(test)]
-mod tests;

@@ -18,6 +18,3 @@ pub use host_base::Memory;
 pub use marking::first_unmarked;
 pub use record_model::{Run, Runs};
 pub use sharing::first_shared;
-
-#[cfg(test)]
-mod tests;

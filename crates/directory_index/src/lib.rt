@@ -12,8 +12,6 @@ mod filling;
 mod holding;
 mod placing;
 mod roots;
-#[cfg(test)]
-mod tests;
 
 pub use breaking::first_broken;
 pub use fault::IndexFault;

@@ -12,6 +12,3 @@
 mod checking;
 
 pub use checking::{check_image, check_version, tree_on, volume_on};
-
-#[cfg(test)]
-mod tests;

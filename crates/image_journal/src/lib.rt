@@ -12,6 +12,3 @@ mod reading;
 mod records;
 
 pub use reading::{ReadJournal, read_journal};
-
-#[cfg(test)]
-mod tests;

@@ -16,6 +16,3 @@ mod scan;
 pub use opening::{Opening, open_volume};
 pub use refusal::{Refusal, ScanError};
 pub use scan::scan_image;
-
-#[cfg(test)]
-mod tests;

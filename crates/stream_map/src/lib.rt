@@ -18,6 +18,3 @@ pub use host_base::Memory;
 pub use places::{block_at, has_cut_block};
 pub use state_model::{Extents, Stream};
 pub use stream::{real_size, stream_of};
-
-#[cfg(test)]
-mod tests;

@@ -22,6 +22,3 @@ pub use fault::SizesFault;
 pub use file_record::FileRec;
 pub use streams::keeps_streams;
 pub use volume::first_broken;
-
-#[cfg(test)]
-mod tests;

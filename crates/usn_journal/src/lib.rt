@@ -9,8 +9,6 @@
 mod fault;
 mod pages;
 mod pulling;
-#[cfg(test)]
-mod tests;
 
 pub use fault::PullFault;
 pub use pulling::{Pulled, read_from};

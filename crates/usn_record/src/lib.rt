@@ -10,8 +10,6 @@ mod entry;
 mod front;
 mod judging;
 mod page;
-#[cfg(test)]
-mod tests;
 mod writing;
 
 pub use entry::read;

@@ -20,6 +20,3 @@ mod zeros;
 
 pub use fault::{FormatFault, Formatted};
 pub use formatting::format;
-
-#[cfg(test)]
-mod tests;

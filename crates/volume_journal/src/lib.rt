@@ -11,8 +11,6 @@ mod finding;
 mod pages;
 mod place;
 mod shape;
-#[cfg(test)]
-mod tests;
 mod whole;
 
 pub use fault::JournalFault;

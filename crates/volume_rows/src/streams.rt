@@ -1,12 +1,16 @@
+//! Streams of a record: where their blocks lie, and their bytes.
 ghost use Rattle.std.specs.Prelude.{IfOk, IfSome};
 ghost use Rattle.stream_map.specs.Runs.{HasSmallRuns};
 
-use super::*;
 use block_view::{Held, MemoryView};
 use host_base::Bytes;
 use record_model::{Attr, Head, OwnForm, Run, Sizes};
 use std::alloc::{AllocError, Global};
 use std::test::Fail;
+use stream_map::{
+    Block, BlockKind, Body, Memory, Stream, ViewFault, block_at, fill, front, has_cut_block,
+    real_size, stream_of,
+};
 use utf16_name::Units;
 
 const DATA: u32 = 0x80;

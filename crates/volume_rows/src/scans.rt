@@ -1,23 +1,9 @@
-use super::*;
-use disk_model::{put_bytes, put_u16, put_u64};
+//! Scans of images that are refused, and of a device that fails.
+use crate::boots::boot_sector;
+use image_scan::{Refusal, ScanError, scan_image};
 use sector_device::MemoryDevice;
 use std::alloc::{AllocError, Global};
 use std::test::Fail;
-
-/// The boot sector of a volume of 64 clusters of a sector each.
-fn boot_sector() -> [u8; 512] {
-    let mut bytes = [0; 512];
-    put_bytes(&mut bytes, 0x03, b"NTFS    ");
-    put_u16(&mut bytes, 0x0B, 512);
-    put_bytes(&mut bytes, 0x0D, &[1]);
-    put_u64(&mut bytes, 0x28, 64);
-    put_u64(&mut bytes, 0x30, 8);
-    put_u64(&mut bytes, 0x38, 56);
-    put_bytes(&mut bytes, 0x40, &[2]);
-    put_bytes(&mut bytes, 0x44, &[8]);
-    put_bytes(&mut bytes, 0x1FE, &[0x55, 0xAA]);
-    bytes
-}
 
 /// A device of so many sectors, the first of which is the boot sector.
 fn device(

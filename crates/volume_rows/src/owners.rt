@@ -1,4 +1,5 @@
-use super::*;
+//! Runs that share a cluster, and runs that the bitmap leaves out.
+use cluster_owners::{BitSet, FileRec, Run, Runs, first_shared, first_unmarked, volume_runs};
 use file_record::RecFault;
 use host_base::Bytes;
 use record_model::{Attr, Head, OwnForm, Sizes};

@@ -1,9 +1,10 @@
+//! Entries of attribute lists.
 ghost use Rattle.std.specs.Prelude.{◌≡◌, IfOk};
 ghost use Rattle.state_model.specs.Streams.{real_size};
 ghost use Rattle.stream_map.specs.Runs.{HasSmallRuns};
 
-use super::*;
-use block_view::{Block, BlockKind, Body, Held, MemoryView, ViewFault};
+use attribute_list::{FRONT_BYTES, ListEntry, Step, first_entry, next};
+use block_view::{Block, BlockKind, Body, Held, MemoryView};
 use disk_model::put_bytes;
 use host_base::{Bytes, FileRef};
 use record_model::{Run, Runs};

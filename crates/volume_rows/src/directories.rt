@@ -1,8 +1,9 @@
+//! Indexes of directories: where they lie, and what they hold.
 ghost use Rattle.std.specs.Prelude.{◌≡◌, ◌<◌, ◌≤◌, length, IfOk};
 ghost use Rattle.disk_model.specs.declared.block.BlockKind.TheVariants.{Index as index_kind};
 
-use super::*;
 use block_view::{Block, BlockKind, Held, MemoryView};
+use directory_index::{first_broken, index_links, index_place};
 use file_record::FileRec;
 use host_base::Bytes;
 use record_model::{Attr, Head, OwnForm, Sizes};

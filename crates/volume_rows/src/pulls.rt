@@ -1,14 +1,15 @@
+//! Records of a change journal from a position on.
 ghost use Rattle.std.specs.Prelude.{◌≤◌, ◌<◌, ◌^◌, IfOk, IfSome};
 ghost use Rattle.stream_map.specs.Runs.{AreSmall};
 ghost use Rattle.volume_state.specs.Journals.{journal_first};
 
-use super::*;
 use block_view::{Block, View, ViewFault};
 use disk_model::Body;
 use record_model::{Run, Runs};
 use state_model::Extents;
 use std::alloc::{AllocError, Global};
 use std::test::Fail;
+use usn_journal::{PullFault, read_from};
 
 // File 26/1 in 25/1 with the name `f` was created and closed; its record stands at 0.
 static RECORD: [u8; 0x40] = [
@@ -48,7 +49,7 @@ impl View for Sectors {
 }
 
 // A journal of so many sectors in one run.
-#[tactic(auto, using(crate::proofs::Left::one_small), unfolding(volume_state::specs::Journals::journal_first))]
+#[tactic(auto, using(usn_journal::proofs::Left::one_small), unfolding(volume_state::specs::Journals::journal_first))]
 fn journal_in(
     alloc: Global,
     lcn: Option<u64>,

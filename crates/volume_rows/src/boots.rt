@@ -1,12 +1,10 @@
-use super::*;
+//! A boot sector, and a device that begins with it.
 use disk_model::{put_bytes, put_u16, put_u64};
-use image_scan::{Refusal, ScanError};
 use sector_device::MemoryDevice;
 use std::alloc::{AllocError, Global};
-use std::test::Fail;
 
 /// The boot sector of a volume of 64 clusters of a sector each.
-fn boot_sector() -> [u8; 512] {
+pub fn boot_sector() -> [u8; 512] {
     let mut bytes = [0; 512];
     put_bytes(&mut bytes, 0x03, b"NTFS    ");
     put_u16(&mut bytes, 0x0B, 512);
@@ -21,31 +19,9 @@ fn boot_sector() -> [u8; 512] {
 }
 
 /// A device of so many sectors, at most 64, the first of which is the boot sector.
-fn device(alloc: Global, sectors: usize, failing: &[u64]) -> Result<MemoryDevice, AllocError> {
+pub fn device(alloc: Global, sectors: usize, failing: &[u64]) -> Result<MemoryDevice, AllocError> {
     let mut bytes = vec![in alloc; 0u8; 0]?;
     bytes.extend_from_slice(&boot_sector())?;
     bytes.resize(512 * sectors.min(64), 0)?;
     Ok(MemoryDevice::new(bytes, failing.to_vec(alloc)?))
-}
-
-#[test]
-fn answers_what_comes_before_the_journal(rt: HostRuntime) -> Result<(), Fail> {
-    let alloc = rt.alloc();
-    for (sectors, failing, error) in [
-        (
-            0,
-            0,
-            ScanError::Refused(Refusal::Short {
-                sectors: 1,
-                device: 0,
-            }),
-        ),
-        (64, 0, ScanError::Refused(Refusal::NoRestart)),
-        (64, 1, ScanError::Device),
-    ] {
-        let mut device = device(alloc, sectors, &[failing])?;
-        let found = read_journal(alloc, &mut device);
-        assert_eq!(rt; found.err(), Some(error));
-    }
-    Ok(())
 }

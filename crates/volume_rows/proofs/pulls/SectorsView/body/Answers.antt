@@ -6,7 +6,7 @@ use Rattle.disk_model.specs.declared.block.BlockKind.{BlockKind}
 use Rattle.disk_model.specs.declared.block.BlockKind.TheVariants.{Plain, FileRec, Index}
 use Rattle.disk_model.proofs.Frames.{length-written}
 use Rattle.record_model.proofs.UnitBytes.{length-zeros}
-use Rattle.usn_journal.proofs.tests.SectorsView.body.Goals as goal
+use Rattle.volume_rows.proofs.pulls.SectorsView.body.Goals as goal
 
 some_sector : (kind : BlockKind) → 1 ≤ sectors kind
 some_sector Plain = omega arith

@@ -1,7 +1,7 @@
+//! The change journal of a loaded volume, without its records.
 ghost use Rattle.std.specs.Prelude.{IfOk};
 ghost use Rattle.volume_map.specs.Maps.{IsMap};
 
-use super::*;
 use block_view::{Block, BlockKind, Held, MemoryView};
 use disk_model::Body;
 use file_record::FileRec;
@@ -14,6 +14,7 @@ use std::test::Fail;
 use tree_model::Journal;
 use upcase_order::Upcase;
 use utf16_name::Units;
+use volume_journal::{JournalFault, volume_journal};
 use volume_map::VolumeMap;
 
 // The types of file names and of data.

@@ -1,9 +1,10 @@
-use super::*;
+//! What the streams of files keep.
 use block_view::{Block, BlockKind, Held, MemoryView};
 use host_base::Bytes;
 use record_model::{Attr, Head, OwnForm, Sizes};
 use std::alloc::{AllocError, Global};
 use std::test::Fail;
+use stream_sizes::{Body, FileRec, SizesFault, first_broken, keeps_streams};
 use utf16_name::Units;
 
 const DATA: u32 = 0x80;

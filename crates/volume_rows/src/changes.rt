@@ -1,9 +1,10 @@
+//! Records of the change journal, and pages of them.
 ghost use Rattle.std.specs.Prelude.{◌<◌, ◌^◌, IfOk};
 
-use super::*;
 use host_base::FileRef;
 use std::alloc::{AllocError, Global};
 use std::test::Fail;
+use usn_record::{Usn, UsnFault, check_page, read, read_page, write};
 use utf16_name::{Name, NameFault};
 
 // File 26/1 in 25/1 with the name `f` was created and closed.

@@ -1,9 +1,10 @@
+//! New volumes: their image, and devices that are too short or that fail.
 ghost use Rattle.std.specs.Prelude.{◌≤◌};
 
-use super::*;
 use sector_device::{Device, MemoryDevice};
 use std::alloc::{AllocError, Global};
 use std::test::Fail;
+use volume_format::{FormatFault, Formatted, format};
 
 // A device of so many sectors of zeros, with the numbers of the calls that are to fail.
 fn blank(alloc: Global, sectors: usize, failing: &[u64]) -> Result<MemoryDevice, AllocError>

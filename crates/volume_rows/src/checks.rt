@@ -1,0 +1,35 @@
+//! Checks of images that are refused before the rules, and of a device that fails.
+use crate::boots::device;
+use image_check::check_image;
+use image_scan::{Refusal, ScanError};
+use std::test::Fail;
+
+#[test]
+fn answers_what_comes_before_the_rules(rt: HostRuntime) -> Result<(), Fail> {
+    let alloc = rt.alloc();
+    for (sectors, failing, error) in [
+        (
+            0,
+            0,
+            ScanError::Refused(Refusal::Short {
+                sectors: 1,
+                device: 0,
+            }),
+        ),
+        (
+            63,
+            0,
+            ScanError::Refused(Refusal::Short {
+                sectors: 64,
+                device: 63,
+            }),
+        ),
+        (64, 0, ScanError::Refused(Refusal::NoRestart)),
+        (64, 1, ScanError::Device),
+    ] {
+        let mut device = device(alloc, sectors, &[failing])?;
+        let found = check_image(alloc, &mut device);
+        assert_eq!(rt; found.err(), Some(error));
+    }
+    Ok(())
+}
