@@ -24,6 +24,3 @@ pub use places::{
 };
 pub use record::{is_blank, said_lsn};
 pub use restart::{Restart, chosen, is_emptied, is_second_chosen};
-
-#[cfg(test)]
-mod tests;

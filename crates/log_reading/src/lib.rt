@@ -16,8 +16,3 @@ pub use laps::greatest_lsn;
 pub use live::{LiveLog, live_log};
 pub use log_page::LogPlace;
 pub use pages::read_page;
-
-#[cfg(test)]
-mod laps_tests;
-#[cfg(test)]
-mod tests;

@@ -8,8 +8,6 @@
 
 mod checking;
 mod reading;
-#[cfg(test)]
-mod tests;
 mod writing;
 
 pub use log_model::{Act, Entry, EntryFault};

@@ -28,8 +28,3 @@ pub use places::{Places, places_of};
 pub use recovering::recover_entries;
 pub use view::RecoveredView;
 pub use whole::{Recovered, recover, recover_view};
-
-#[cfg(test)]
-mod tests;
-#[cfg(test)]
-mod whole_tests;

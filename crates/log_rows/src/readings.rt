@@ -1,14 +1,15 @@
+//! What is read of a log on a view: what its restart pages say, its pages, and its live log.
 ghost use Rattle.std.specs.Prelude.{◌≡◌, ◌+◌, ◌<◌, ◌≤◌, ◌^◌, IfOk, length};
 ghost use Rattle.log_model.specs.Entries.{FitsEntry};
 ghost use Rattle.log_reading.specs.LogPages.{IsLogPlace};
 
-use super::*;
 use block_view::{Block, BlockKind, Body, Held, MemoryView};
 use disk_model::{put_bytes, put_u16, put_u64};
 use fixup_record::{has_shape, protect};
 use host_base::Bytes;
 use log_model::{Act, Entry};
 use log_page::{Extent, Restart};
+use log_reading::{Front, LogPlace, RecoveryFault, front_of, live_log, read_page};
 use log_record::write;
 use std::alloc::{AllocError, Global};
 use std::test::Fail;

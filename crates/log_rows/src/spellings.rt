@@ -1,8 +1,9 @@
+//! Entries of the log as bytes: what is written, what is read, and what is refused.
 ghost use Rattle.std.specs.Prelude.{◌≡◌, ◌≤◌, length};
 ghost use Rattle.log_model.specs.Entries.{most_bytes, FitsEntry};
 
-use super::*;
 use host_base::Bytes;
+use log_record::{Act, Entry, EntryFault, read, write};
 use std::test::Fail;
 
 // The first entry of lap 1 in a log of 513 pages, and the one after it: a commit, and an update of

@@ -1,9 +1,11 @@
+//! Recovery by a log of six pages: emptied, without a restart page, without laps, and on a device that
+//! fails.
 ghost use Rattle.std.specs.Prelude.{◌≡◌, ◌*◌, ◌≤◌, IfOk, length};
 ghost use Rattle.log_reading.specs.LogPages.{IsLogPlace};
 
-use super::*;
 use disk_model::{put_bytes, put_u64};
 use log_page::{Extent, Extents, LogPlace};
+use log_recovery::{RecoveryFault, recover};
 use sector_device::MemoryDevice;
 use std::alloc::{AllocError, Global};
 use std::test::Fail;

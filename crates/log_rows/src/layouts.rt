@@ -1,17 +1,20 @@
-ghost use Rattle.std.specs.Prelude.{◌≡◌, ◌≤◌, IsTrue, length};
+//! Places in the log, its check words, its restart pages and its record pages.
+ghost use Rattle.std.specs.Prelude.{◌≡◌, ◌≤◌, length};
 ghost use Rattle.log_model.specs.Entries.{most_bytes, FitsEntry};
 
-use super::*;
+use crate::volume::{FIRST, own};
 use disk_model::{put_bytes, put_u16, put_u32, put_u64};
 use fixup_record::{has_shape, protect};
 use host_base::Bytes;
 use log_model::Act;
+use log_page::{
+    Entry, PageFault, Restart, append_page, chosen, digits, has_digits, is_blank, is_second_chosen,
+    lap_of, lsn_at, lsn_says_place, offset_of, pick_check, read_page, restart_read_again, said_lsn,
+    sequence_bits, written_pages,
+};
 use log_record::write;
 use std::alloc::Global;
 use std::test::Fail;
-
-// The first entry of lap 1 in a log of 513 pages.
-const FIRST: u64 = 526_344;
 
 #[test]
 fn places_in_a_log_of_513_pages(rt: HostRuntime) {
@@ -36,28 +39,10 @@ fn the_least_word_that_ends_no_sector(rt: HostRuntime) {
     assert_eq!(rt; pick_check(&[0; 4096]), 1);
 }
 
-fn restart() -> Restart
-    ensures major { result.major ≡ 1 }
-    ensures minor { result.minor ≡ 1 }
-    ensures own { IsTrue result.own }
-{
-    Restart {
-        major: 1,
-        minor: 1,
-        current: FIRST,
-        oldest: FIRST,
-        opens: 3,
-        bytes: 2_101_248,
-        used: true,
-        clean: false,
-        own: true,
-    }
-}
-
 #[test]
 fn a_written_restart_page_is_read(rt: HostRuntime) {
     restart_read_again();
-    let restart = restart();
+    let restart = own();
     let mut page = [0xff; 4096];
     restart.write(&mut page);
     assert_eq!(rt;
@@ -75,7 +60,7 @@ fn a_written_restart_page_is_read(rt: HostRuntime) {
 
 #[test]
 fn the_newer_restart_page_is_chosen(rt: HostRuntime) {
-    let old = restart();
+    let old = own();
     let mut new = old;
     new.opens = 4;
     assert_eq!(rt; chosen(Ok(old), Ok(new)), Some(new));

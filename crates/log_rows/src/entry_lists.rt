@@ -1,10 +1,11 @@
+//! What recovery by a list of entries makes of a disk.
 ghost use Rattle.std.specs.Prelude.{IfOk};
 ghost use Rattle.log_model.specs.Logs.{IsLevel};
 
-use super::*;
 use block_view::{Block, BlockKind, Body, Held, MemoryView, View};
 use host_base::Bytes;
 use log_model::{Act, Entry};
+use log_recovery::{RecoveredView, RecoveryFault, Shadow, places_of, recover_entries};
 use std::alloc::{AllocError, Global};
 use std::test::Fail;
 

@@ -1,11 +1,12 @@
+//! The greatest LSN of a log.
 ghost use Rattle.std.specs.Prelude.{◌<◌, ◌^◌, All, IfOk};
 ghost use Rattle.log_reading.specs.LogPages.{IsSmall, IsLogPlace};
 
-use crate::*;
 use block_view::{Block, BlockKind, Body, Held, MemoryView};
 use disk_model::{put_bytes, put_u64};
 use host_base::Bytes;
 use log_page::{Extent, Extents, Restart};
+use log_reading::{LogPlace, RecoveryFault, greatest_lsn};
 use std::alloc::{AllocError, Global};
 use std::test::Fail;
 
