@@ -22,8 +22,3 @@ pub use index_tree::{DirPlace, TreeFault};
 pub use inserting::plan_insert;
 pub use plan::DirPlan;
 pub use removing::plan_remove;
-
-#[cfg(test)]
-mod many;
-#[cfg(test)]
-mod tests;

@@ -12,8 +12,6 @@ mod header;
 mod laws;
 mod node;
 mod room;
-#[cfg(test)]
-mod tests;
 mod walk;
 mod writing;
 

@@ -20,8 +20,6 @@ mod plan;
 mod removal;
 mod search;
 mod side;
-#[cfg(test)]
-mod tests;
 mod trail;
 mod write;
 

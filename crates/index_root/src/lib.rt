@@ -6,8 +6,6 @@
 
 mod laws;
 mod spelling;
-#[cfg(test)]
-mod tests;
 mod writing;
 
 pub use laws::{root_read_again, spelled_in_each_block};

@@ -19,6 +19,3 @@ pub use met::entry_link;
 pub use nodes::{LEVELS_BELOW, node_if_any, read_root};
 pub use place::DirPlace;
 pub use walking::walk;
-
-#[cfg(test)]
-mod tests;

@@ -1,14 +1,17 @@
+//! Indexes of many names, in blocks of memory that are changed in place.
 ghost use Rattle.std.specs.Prelude.{◌≡◌, ◌*◌, length, IfErr, OnOk};
 ghost use Rattle.block_view.specs.declared.fault.ViewFault.TheVariants.{Fault as fault};
 ghost use Rattle.disk_model.specs.Sectors.{sectors};
+ghost use Rattle.index_root.specs.Roots.{HaveSpelling};
 
-use super::*;
-use crate::changing::node_bytes;
-use crate::finishing::root_value;
-use crate::tests::put;
+use crate::few_names::put;
 use disk_model::Body;
 use host_base::{Bytes, FileRef};
-use index_root::have_spelling;
+use index_change::{
+    Block, BlockKind, DirPlace, DirPlan, TreeFault, View, ViewFault, plan_insert, plan_remove,
+};
+use index_node::Node;
+use index_root::{have_spelling, write_root};
 use index_tree::walk;
 use record_model::{Entry, EntryList};
 use std::alloc::{AllocError, Global};
@@ -16,8 +19,6 @@ use std::process::Abort;
 use std::test::Fail;
 use std_values::is_file_name;
 use upcase_order::Upcase;
-
-// Indexes of many names, in blocks of memory that are changed in place.
 
 #[derive(Drop)]
 struct Disk {
@@ -89,6 +90,24 @@ fn last(alloc: Global, down: Option<u64>) -> Entry {
         key: Bytes::new(alloc),
         down,
     }
+}
+
+// The bytes of a node in a block.
+#[tactic(auto, using(index_root::proofs::Spelled::each_block))]
+fn node_bytes(alloc: Global, vcn: u64, entries: EntryList) -> Result<Bytes, AllocError>
+    requires { HaveSpelling entries }
+{
+    let mut bytes = vec![in alloc; 0u8; 4096]?;
+    Node::new(vcn, entries).write(&mut bytes);
+    Ok(Bytes::from(bytes))
+}
+
+// The value of a root with these entries, over blocks of 8 clusters.
+fn root_value(alloc: Global, root: EntryList) -> Result<Bytes, AllocError> {
+    if !have_spelling(&root) {
+        return Err(AllocError);
+    }
+    write_root(alloc, 8, root)
 }
 
 fn node(alloc: Global, vcn: u64, entries: EntryList) -> Result<Bytes, Fail> {
@@ -336,7 +355,7 @@ fn deep(alloc: Global) -> Result<Index, Fail> {
     }
     let mut root = EntryList::new(alloc);
     root.push(last(alloc, Some(0)))?;
-    index.dir.root = root_value(alloc, &index.dir, root)?;
+    index.dir.root = root_value(alloc, root)?;
     index.dir.used = 600;
     index.free.retain(|vcn| 98 < *vcn);
     Ok(index)

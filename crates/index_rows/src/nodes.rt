@@ -1,8 +1,9 @@
+//! The nodes of an index: how they are read, edited and written.
 ghost use Rattle.std.specs.Prelude.{◌≡◌, true, length, IfOk};
 ghost use Rattle.record_model.specs.Values.{is_file_name};
 
-use super::*;
 use host_base::{Bytes, FileRef};
+use index_node::{Entry, Node, NodeFault, read_root};
 use record_model::FileNameValue;
 use std::alloc::{AllocError, Global};
 use std::test::Fail;
@@ -222,7 +223,7 @@ fn answers_the_least_rule(rt: HostRuntime) -> Result<(), Fail> {
 }
 
 // An entry of file 26/1 with this key, where it is a file-name value.
-#[tactic(auto, using(crate::proofs::Keys::lawful))]
+#[tactic(auto, using(index_node::proofs::Keys::lawful))]
 fn named(alloc: Global, key: &[u8], down: Option<u64>) -> Result<Entry, Fail>
     ensures { IfOk result (λ entry. is_file_name entry.key ≡ true) }
 {

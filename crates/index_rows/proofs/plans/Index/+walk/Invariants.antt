@@ -1,4 +1,4 @@
-use Rattle.index_plan.proofs.tests.Index.+walk.Given as goal
+use Rattle.index_rows.proofs.plans.Index.+walk.Given as goal
 
 abbrev pub decreases-walk : goal.decreases-walk
 decreases-walk l = l.levels

@@ -1,13 +1,27 @@
+//! Plans of insertions and removals, over nodes in memory.
 ghost use Rattle.std.specs.Prelude.{◌≡◌, ◌<◌, ◌≤◌, OnOk, IfOk, length, true};
 ghost use Rattle.index_plan.specs.Room.{Sized};
 
-use super::*;
-use crate::node::last_node;
 use host_base::{Bytes, FileRef};
 use index_model::Key;
+use index_plan::{
+    Draft, Nodes, Numbers, PlanFault, ROOT, ReadFault, Rooted, Side, Target, Test, Write, is_sized,
+    plan_insert, plan_remove,
+};
 use record_model::{Entry, EntryList};
 use std::alloc::{AllocError, Global};
 use std::test::Fail;
+
+// A node of a last entry with this child.
+fn last_node(alloc: Global, down: Option<u64>) -> Result<EntryList, AllocError> {
+    let mut node = EntryList::new(alloc);
+    node.push(Entry {
+        child: FileRef { number: 0, seq: 0 },
+        key: Bytes::new(alloc),
+        down,
+    })?;
+    Ok(node)
+}
 
 // Nodes in memory; the place of one is its VCN.
 #[derive(Drop)]
