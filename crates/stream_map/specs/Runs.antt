@@ -18,3 +18,8 @@ AreSmall runs = All IsSmall runs
 abbrev pub HasSmallRuns : Stream → Type 0
 HasSmallRuns (Held value) = ⊤
 HasSmallRuns (Placed e) = AreSmall e.runs
+
+-- the bytes of the stream stand in its record
+abbrev pub IsHeld : Stream → Type 0
+IsHeld (Held value) = ⊤
+IsHeld (Placed extents) = ⊥

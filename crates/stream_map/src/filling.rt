@@ -1,4 +1,4 @@
-ghost use Rattle.std.specs.Prelude.{◌≡◌, ◌+◌, ◌-◌, ◌/◌, ◌%◌, ◌^◌, ◌<◌, ◌≤◌, ◌++◌, length, take, drop, map, min, OnOk, IfErr, IfSome};
+ghost use Rattle.std.specs.Prelude.{◌≡◌, ◌+◌, ◌-◌, ◌/◌, ◌%◌, ◌^◌, ◌<◌, ◌≤◌, ◌++◌, length, take, drop, map, min, OnOk, IsOk, IfErr, IfSome};
 ghost use Rattle.std.specs.List.{range_with_len};
 ghost use Rattle.host_base.specs.Causes.{HasCause};
 ghost use Rattle.disk_model.specs.Bytes.{zeros};
@@ -6,7 +6,7 @@ ghost use Rattle.disk_model.specs.declared.block.BlockKind.TheVariants.{Plain};
 ghost use Rattle.block_view.specs.declared.fault.ViewFault.TheVariants.{Fault};
 ghost use Rattle.state_model.specs.Streams.{byte_at, extent_bytes, stream_bytes};
 ghost use Rattle.stream_map.specs.Reads.{placed_bytes};
-ghost use Rattle.stream_map.specs.Runs.{AreSmall, HasSmallRuns};
+ghost use Rattle.stream_map.specs.Runs.{AreSmall, HasSmallRuns, IsHeld};
 
 use super::places::block_at;
 use block_view::{Block, BlockKind, Body, View, ViewFault};
@@ -207,7 +207,8 @@ fn fill_front<V: View>(
 /// Makes `out` the bytes of a stream from the place `at` on, and zeros behind its real size. A
 /// volume has `per` sectors a cluster. `body` is room for a sector; this takes no memory.
 ///
-/// Linear in `out` for a value in the record; for a stream in clusters as long as [`fill`] takes.
+/// Linear in `out` for a value in the record, of which the view isn't asked; for a stream in clusters
+/// as long as [`fill`] takes.
 ///
 /// - [`ViewFault::Fault`]: the view failed, and counts it; any bytes may stand in `out` then. There
 ///   is no other error.
@@ -229,6 +230,7 @@ pub fn front<V: View>(
     ensures same { V.content v.new ≡ V.content v.old }
     ensures kept { V.kept v.new ≡ V.kept v.old }
     ensures cause { HasCause (V.faults v.old) (V.faults v.new) result }
+    ensures unasked { IsHeld stream.now → IsOk result × (v.new ≡ v.old) }
 {
     match stream {
         Stream::Held(value) => {
