@@ -1,5 +1,5 @@
 //! What recovery makes of one block.
-ghost use Rattle.std.specs.Prelude.{◌≡◌, ◌*◌, ◌≤◌, false, length, All, IfOk, IfSome, IfErr, IsErrOf};
+ghost use Rattle.std.specs.Prelude.{◌≡◌, ◌*◌, ◌≤◌, false, true, length, All, IfOk, IfSome, IfErr, IsErrOf};
 ghost use Rattle.std.specs.Ordering.{nat_cmp};
 ghost use Rattle.std.specs.BTreeSet.{contains};
 ghost use Rattle.host_base.specs.Causes.{Rose, Counts};
@@ -60,7 +60,8 @@ fn judge_seen(
     Ok(Judged::Kept)
 }
 
-/// What is found of a block by these entries. `body` is room for its body.
+/// What is found of a block by these entries. `body` is room for its body. The view isn't asked for a
+/// block that is shadowed.
 ///
 /// - [`RecoveryFault::Fault`]: the view failed. The other error is want of memory.
 pub fn judge<V: View>(
@@ -78,6 +79,7 @@ pub fn judge<V: View>(
     ensures kept { KeepsView V.content V.kept V.faults view.old view.new }
     ensures fault { IsErrOf result RecoveryFault.Fault → Rose (V.faults view.old) (V.faults view.new) }
     ensures counted { Counts recovery_cause (V.faults view.old) (V.faults view.new) result }
+    ensures unasked { shadowed_by (contains nat_cmp ended.now) (lent entries.now) block ≡ true → view.new ≡ view.old }
 {
     if is_shadowed(ended, entries, block) {
         return Ok(Judged::Shadowed);

@@ -1,6 +1,8 @@
-ghost use Rattle.std.specs.Prelude.{◌≡◌, ◌*◌, All, IfSome, length};
+ghost use Rattle.std.specs.Prelude.{◌≡◌, ◌*◌, All, IfErr, IfSome, IsOk, OnOk, length};
+ghost use Rattle.host_base.specs.Causes.{HasCause};
 ghost use Rattle.disk_model.specs.Sectors.{sectors};
 ghost use Rattle.std.specs.Option.{option_map, option_copied};
+ghost use Rattle.block_view.specs.declared.fault.ViewFault.TheVariants.{Fault};
 ghost use Rattle.block_view.specs.Borrowed.{BorrowedView};
 ghost use Rattle.log_recovery.specs.Borrowing.{borrowed_view};
 ghost use Rattle.log_recovery.specs.Recovering.{held_body, content_with, IsSized};
@@ -65,8 +67,17 @@ impl<'a, V: View> View for RecoveredView<'a, V> {
 
     ghost kept = { λ o. record { reference = o.view.ghost_name; content = V.content o.view.now; kept = V.kept o.view.now } };
 
-    /// One search among the bodies, or the view's body.
-    fn body(&mut self, block: Block, out: &mut Body) -> Result<(), ViewFault> {
+    /// One search among the bodies, or the view's body: of a block that has a body here the view isn't
+    /// asked, so that it can't fail.
+    fn body(&mut self, block: Block, out: &mut Body) -> Result<(), ViewFault>
+        ensures body { OnOk result (IfSome (⟦<RecoveredView<'a, V> as View>⟧.content self.old) (λ c. out.new ≡ c block)) }
+        ensures size { OnOk result (length out.new.bytes ≡ 512 * sectors block.kind) }
+        ensures fault { IfErr result (λ e. e ≡ Fault) }
+        ensures same { ⟦<RecoveredView<'a, V> as View>⟧.content self.new ≡ ⟦<RecoveredView<'a, V> as View>⟧.content self.old }
+        ensures kept { ⟦<RecoveredView<'a, V> as View>⟧.kept self.new ≡ ⟦<RecoveredView<'a, V> as View>⟧.kept self.old }
+        ensures cause { HasCause (⟦<RecoveredView<'a, V> as View>⟧.faults self.old) (⟦<RecoveredView<'a, V> as View>⟧.faults self.new) result }
+        ensures held { IfSome (held_body self.old.bodies.now block) (λ _. IsOk result × (self.new.view.now ≡ self.old.view.now)) }
+    {
         match sized_body_in(self.bodies, self.places, block) {
             Some(body) => {
                 out.set(body.bytes(), body.torn());
