@@ -1,4 +1,4 @@
-ghost use Rattle.std.specs.Prelude.{◌≡◌, ◌+◌, ◌*◌, ◌^◌, ◌<◌, ◌≤◌, not, find, length, All, IfOk, IfErr, IfSome, IsOk, Ok, Err, IsErrOf};
+ghost use Rattle.std.specs.Prelude.{◌≡◌, ◌+◌, ◌*◌, ◌^◌, ◌<◌, ◌≤◌, ◌⊎◌, not, find, length, All, IfOk, IfErr, IfSome, IsOk, Ok, Err, IsErrOf};
 ghost use Rattle.host_base.specs.Answers.{GivesOrFails};
 ghost use Rattle.host_base.specs.Causes.{Rose, Counts};
 ghost use Rattle.tree_model.specs.declared.journal.Usn.{Usn as UsnOf};
@@ -169,6 +169,7 @@ pub fn read_from<V: View>(
     ensures trimmed { from < journal_first per extents.now
         → result ≡ Err (PullFault.Trimmed (journal_first per extents.now)) }
     ensures ahead { extents.now.real < from → result ≡ Err (PullFault.Ahead extents.now.real) }
+    ensures unasked { from < journal_first per extents.now ⊎ extents.now.real < from → view.new ≡ view.old }
     ensures inside { journal_first per extents.now ≤ from → from ≤ extents.now.real → IfErr result IsInside }
     ensures kept { KeepsView V.content V.kept V.faults view.old view.new }
     ensures fault { IsErrOf result PullFault.View → Rose (V.faults view.old) (V.faults view.new) }

@@ -1,5 +1,5 @@
 //! The rules before the ninth, each tried where those before it are kept.
-ghost use Rattle.std.specs.Prelude.{◌≡◌, ◌+◌, ◌*◌, ◌<◌, IfOk, IfSome, IsErrOf};
+ghost use Rattle.std.specs.Prelude.{◌≡◌, ◌+◌, ◌*◌, ◌<◌, IfOk, IfSome, IsSome, IsErrOf};
 ghost use Rattle.host_base.specs.Causes.{Rose, Counts};
 ghost use Rattle.disk_model.specs.Content.{Content as the_content};
 ghost use Rattle.volume_model.specs.Owners.{volume_runs};
@@ -8,7 +8,7 @@ ghost use Rattle.block_view.specs.Views.{KeepsView};
 ghost use Rattle.volume_check.specs.Errors.{check_cause, NeverBroken};
 ghost use Rattle.volume_check.specs.Parts.{AreMarks, AreNames};
 ghost use Rattle.volume_model.specs.Sizes.{is_at, placed_record, keeps_place};
-ghost use Rattle.volume_state.specs.Rules.{broken_4};
+ghost use Rattle.volume_state.specs.Rules.{broken_1, broken_2, broken_4};
 ghost use Rattle.volume_check.specs.Steps.{from_1, from_2, from_3, from_4, from_5, from_6, from_7, from_8};
 
 use crate::fault::CheckFault;
@@ -208,6 +208,7 @@ fn from_2<V: View>(
     ensures kept { KeepsView V.content V.kept V.faults view.old view.new }
     ensures fault { IsErrOf result CheckFault.View → Rose (V.faults view.old) (V.faults view.new) }
     ensures counted { Counts check_cause (V.faults view.old) (V.faults view.new) result }
+    ensures unasked { IsSome (broken_2 (volume_in map.now)) → view.new ≡ view.old }
 {
     match first_misplaced(&map.files, &names.links) {
         Some(number) => Ok(Some(Broken { rule: 2, number })),
@@ -220,7 +221,7 @@ fn from_2<V: View>(
 /// are its marks, and `body` is room for a body.
 ///
 /// It goes over the records, the indexes and the streams once each, and sorts the runs; a rule is
-/// tried only where those before it are kept.
+/// tried only where those before it are kept. Where rule 1 is broken the view isn't asked.
 #[tactic(auto, unfolding(crate::specs::Steps::from_1, volume_state::specs::Rules::broken_1))]
 pub fn from_1<V: View>(
     alloc: Global,
@@ -239,6 +240,7 @@ pub fn from_1<V: View>(
     ensures kept { KeepsView V.content V.kept V.faults view.old view.new }
     ensures fault { IsErrOf result CheckFault.View → Rose (V.faults view.old) (V.faults view.new) }
     ensures counted { Counts check_cause (V.faults view.old) (V.faults view.new) result }
+    ensures unasked { IsSome (broken_1 (volume_in map.now)) → view.new ≡ view.old }
 {
     match first_misnamed(&map.files, &names.links) {
         Some(number) => Ok(Some(Broken { rule: 1, number })),
