@@ -1,5 +1,5 @@
 //! The links of the volume on a device.
-ghost use Rattle.std.specs.Prelude.{◌≡◌, ◌*◌, ◌^◌, ◌<◌, ◌≤◌, IfSome, IsErrOf};
+ghost use Rattle.std.specs.Prelude.{◌≡◌, ◌*◌, ◌^◌, ◌<◌, ◌≤◌, Err, IfSome, IsErrOf};
 ghost use Rattle.host_base.specs.Answers.{GivesOrFails};
 ghost use Rattle.host_base.specs.Causes.{HasFailed, Rose, Counts, last_moment};
 ghost use Rattle.disk_model.specs.Sectors.{sector_of};
@@ -98,6 +98,8 @@ pub fn scan_image<D: Device>(alloc: Global, device: &mut D) -> Result<Vec<Link>,
     ensures kept { KeepsDevice D.gives D.sector_count D.changes_of D.fault_count device.old device.new }
     ensures fault { IsErrOf result ScanError.Device → HasFailed (D.fault_count device.old) (D.fault_count device.new) (D.moment_of device.new) }
     ensures counted { D.moment_of device.old < last_moment → CountsOnDevice scan_cause (D.fault_count device.old) (D.fault_count device.new) (D.moment_of device.new) result }
+    ensures none { D.sector_count device.old ≡ 0 → result ≡ Err (ScanError.Refused (Refusal.Short 1 0)) }
+    ensures unasked { D.sector_count device.old ≡ 0 → device.new ≡ device.old }
 {
     let sectors = device.sectors();
     if sectors == 0 {
