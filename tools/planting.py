@@ -128,6 +128,9 @@ def try_batch(crate, batch, texts):
             planted = [bug for bug in planted if bug not in wrong]
             if not wrong:
                 became.update({bug: verdict(bug, functions[bug], said) for bug in planted})
+                if len(planted) == 1 and became[planted[0]] is None:
+                    # a constant's functions stand elsewhere: the whole crate judges it
+                    became[planted[0]] = "refused" if "logic=not-proved" in said else "let through"
                 break
     finally:
         for path, text in was.items():
