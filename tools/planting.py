@@ -130,7 +130,8 @@ def try_batch(crate, batch, texts):
                 became.update({bug: verdict(bug, functions[bug], said) for bug in planted})
                 if len(planted) == 1 and became[planted[0]] is None:
                     # a constant's functions stand elsewhere: the whole crate judges it
-                    became[planted[0]] = "refused" if "logic=not-proved" in said else "let through"
+                    words = {"logic=not-proved": "refused", "logic=proved": "let through"}
+                    became[planted[0]] = next((word for line, word in words.items() if line in said), None)
                 break
     finally:
         for path, text in was.items():
