@@ -1,5 +1,5 @@
 use crate::runs::answers;
-use host_rows::{tiny_image, whole_volume};
+use row_images::{tiny_image, whole_volume};
 use sector_device::MemoryDevice;
 use std::alloc::Global;
 use std::process::Abort;

@@ -1,7 +1,7 @@
-use crate::image::tiny_image;
 use crate::runs::{TINY_TEXT, run, scan, words_of};
 use host_base::{MemorySink, MemorySource, NoGate, StdSink, StdSource};
 use ntfs_host::{Quiet, ntfs_host, quiet_command};
+use row_images::tiny_image;
 use sector_device::{FileDevice, MemoryDevice};
 use std::process::Abort;
 use std::sync::Wait;

@@ -1,5 +1,5 @@
-use crate::image::tiny_image;
 use crate::runs::{TINY_TEXT, run};
+use row_images::tiny_image;
 use std::test::Fail;
 
 // The write that fails, and what the ones before it wrote.

@@ -1,6 +1,6 @@
-use crate::image::{indexed_image, tiny_image};
 use crate::runs::{Faults, run_with_gate};
 use host_base::Gate;
+use row_images::{indexed_image, tiny_image};
 use std::process::Abort;
 use std::sync::Wait;
 use std::sync::atomic::{AtomicU64, Ordering};

@@ -1,5 +1,5 @@
-use crate::image::{FileName, RecordHead, file_name, put, put_record, tiny_image};
 use crate::runs::{TINY_TEXT, scan};
+use row_images::{FileName, RecordHead, file_name, put, put_record, tiny_image};
 use std::alloc::{AllocError, Global};
 use std::test::Fail;
 

@@ -1,5 +1,5 @@
-use crate::image::{put, tiny_image};
 use crate::runs::{TINY_TEXT, changed, scan};
+use row_images::{put, tiny_image};
 use std::test::Fail;
 
 // Changes of the tiny image, and the line that answers them.

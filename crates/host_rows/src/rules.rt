@@ -1,8 +1,8 @@
-use crate::image::{
+use crate::runs::{TINY_TEXT, changed, is_answered, run, scan};
+use row_images::{
     FileName, RecordHead, file_name, list_entry, mapped, put, put_record, put_record_at, resident,
     tiny_image,
 };
-use crate::runs::{TINY_TEXT, changed, is_answered, run, scan};
 use std::alloc::{AllocError, Global};
 use std::test::Fail;
 

@@ -1,7 +1,7 @@
 //! A run of the top call, in memory.
-use crate::image::{put, tiny_image};
 use host_base::{Gate, MemorySink, MemorySource, NoGate};
 use ntfs_host::ntfs_host;
+use row_images::{put, tiny_image};
 use sector_device::MemoryDevice;
 use std::alloc::{AllocError, Global};
 use std::process::Abort;

@@ -1,5 +1,5 @@
-use crate::image::{indexed_image, tiny_image};
 use crate::runs::{Faults, is_answered, run_script};
+use row_images::{indexed_image, tiny_image};
 use std::test::Fail;
 
 const SCRIPT: &[u8] = b"1 list /\n1 stat /\n1 stat /$mft/x\n1 stat /q\n";

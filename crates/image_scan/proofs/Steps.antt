@@ -15,7 +15,7 @@ use Rattle.boot_sector.specs.BootSectors.{boot_of, clusters}
 use Rattle.volume_map.specs.declared.fault.MapFault.{MapFault}
 use Rattle.volume_map.specs.declared.fault.MapFault.TheVariants as faults
 use Rattle.volume_map.specs.Errors.{map_cause}
-use Rattle.volume_map.specs.Names.{long_links as long_names, loaded_links}
+use Rattle.volume_links.specs.Names.{long_links as long_names, loaded_links}
 use Rattle.image_scan.specs.declared.opening.Opening.{Opening}
 use Rattle.image_scan.specs.declared.refusal.Refusal.{Refusal}
 use Rattle.image_scan.specs.declared.refusal.ScanError.{ScanError}

@@ -19,7 +19,7 @@ use sector_device::Device;
 use state_model::Geometry;
 use std::alloc::Global;
 use tree_model::Link;
-use volume_map::load_links;
+use volume_links::load_links;
 
 // The links of the volume's files.
 fn links_in<V: View>(

@@ -1,15 +1,7 @@
-pub mod Volumes
-pub mod Pieces
-pub mod Links
-pub mod Tables
-pub mod Scan
-pub mod Walks
-pub mod Reading
 pub mod Text
 pub mod Answers
 pub mod Words
 pub mod Statuses
-pub mod Mounts
 pub mod SerialRuns
 pub mod Scripts
 pub mod Runs

@@ -11,7 +11,7 @@ use Rattle.run_model.specs.Texts.{IsRunText}
 use Rattle.upcase_order.specs.Tables.{standard_table}
 use Rattle.script_text.specs.declared.fault.ScriptFault.{ScriptFault}
 use Rattle.image_scan.specs.declared.refusal.Refusal.{Refusal}
-use Rattle.ntfs_host.specs.Mounts.{mounted_of}
+use Rattle.small_image.specs.Mounts.{mounted_of}
 use Rattle.ntfs_host.specs.Scripts.{script_line}
 use Rattle.ntfs_host.specs.SerialRuns.{IsRunOf}
 use Rattle.ntfs_host.specs.Text.{refusal_line}

@@ -144,7 +144,9 @@ fn make_volume<D: Device>(
     ensures refused { IfErr result (λ e. IsRefusal e → D.gives device.new ≡ D.gives device.old) }
     ensures unwritten { IfErr result (λ e. IsRefusal e → D.changes_of device.new ≡ D.changes_of device.old) }
     ensures left_refused { IsErr (format_answer (D.sector_count device.old)) → D.gives device.new ≡ D.gives device.old }
+    ensures begins_refused { IsErr (format_answer (D.sector_count device.old)) → D.changes_of device.new ≡ D.changes_of device.old }
     ensures wanting { IsErrOf result ScanError.Memory → D.gives device.new ≡ D.gives device.old }
+    ensures begins_wanting { IsErrOf result ScanError.Memory → D.changes_of device.new ≡ D.changes_of device.old }
     ensures sectors { D.sector_count device.new ≡ D.sector_count device.old }
     ensures later { D.fault_count device.old ≤ D.fault_count device.new }
     ensures fault { IsErrOf result ScanError.Device → HasFailed (D.fault_count device.old) (D.fault_count device.new) (D.moment_of device.new) }
@@ -172,7 +174,9 @@ fn format_answer<D: Device>(
     ensures refused { IfErr result (λ e. IsRefusal e → D.gives device.new ≡ D.gives device.old) }
     ensures unwritten { IfErr result (λ e. IsRefusal e → D.changes_of device.new ≡ D.changes_of device.old) }
     ensures left_refused { IsErr (format_line (D.sector_count device.old)) → D.gives device.new ≡ D.gives device.old }
+    ensures begins_refused { IsErr (format_line (D.sector_count device.old)) → D.changes_of device.new ≡ D.changes_of device.old }
     ensures wanting { IsErrOf result ScanError.Memory → (D.gives device.new ≡ D.gives device.old) ⊎ (D.gives device.new ≡ option_map (λ disk. formatted disk seed time) (D.gives device.old)) }
+    ensures begins_wanting { IsErrOf result ScanError.Memory → (D.changes_of device.new ≡ D.changes_of device.old) ⊎ Begins (device_writes (layout_of (D.sector_count device.old))) 1 (D.changes_of device.old) (D.changes_of device.new) }
     ensures sectors { D.sector_count device.new ≡ D.sector_count device.old }
     ensures later { D.fault_count device.old ≤ D.fault_count device.new }
     ensures fault { IsErrOf result ScanError.Device → HasFailed (D.fault_count device.old) (D.fault_count device.new) (D.moment_of device.new) }
@@ -200,7 +204,9 @@ pub fn answer<D: Device>(
     ensures refused { IfErr result (λ e. IsRefusal e → D.gives device.new ≡ D.gives device.old) }
     ensures unwritten { IfErr result (λ e. IsRefusal e → D.changes_of device.new ≡ D.changes_of device.old) }
     ensures left_refused { IfSome (D.gives device.old) (λ disk. IsErr (answer_of command.now disk) → D.gives device.new ≡ D.gives device.old) }
+    ensures begins_refused { IfSome (D.gives device.old) (λ disk. IsErr (answer_of command.now disk) → D.changes_of device.new ≡ D.changes_of device.old) }
     ensures wanting { IsErrOf result ScanError.Memory → (D.gives device.new ≡ D.gives device.old) ⊎ Leaves command.now (D.gives device.old) (D.gives device.new) }
+    ensures begins_wanting { IsErrOf result ScanError.Memory → (D.changes_of device.new ≡ D.changes_of device.old) ⊎ BeginsBy command.now (D.sector_count device.old) (D.changes_of device.old) (D.changes_of device.new) }
     ensures reads { IsReader command.now → D.gives device.new ≡ D.gives device.old }
     ensures only_read { IsReader command.now → D.changes_of device.new ≡ D.changes_of device.old }
     ensures sectors { D.sector_count device.new ≡ D.sector_count device.old }

@@ -5,7 +5,7 @@ ghost use Rattle.host_base.specs.Causes.{Rose, HasFailed, AppendsPart, last_mome
 ghost use Rattle.script_text.specs.Scripts.{script_of};
 ghost use Rattle.upcase_order.specs.Tables.{standard_table};
 ghost use Rattle.ntfs_host.specs.Answers.{answer_of, IsReader, Leaves, LeavesFront, LeavesRest, BeginsBy};
-ghost use Rattle.ntfs_host.specs.Mounts.{mounted_of};
+ghost use Rattle.small_image.specs.Mounts.{mounted_of};
 ghost use Rattle.ntfs_host.specs.Runs.{PrintsScript, PrintsScriptPart, IsRunStatus};
 ghost use Rattle.ntfs_host.specs.Scripts.{script_line, IsAccepted, IsReadWhole, LosesAtMost};
 ghost use Rattle.ntfs_host.specs.Text.{printed};
@@ -84,6 +84,9 @@ fn answer_into<K: Sink, D: Device>(
     ensures only_read { IsReader command.now → D.changes_of device.new ≡ D.changes_of device.old }
     ensures unwritten { result ≡ 3 → D.changes_of device.new ≡ D.changes_of device.old }
     ensures begins { result ≡ 0 → BeginsBy command.now (D.sector_count device.old) (D.changes_of device.old) (D.changes_of device.new) }
+    ensures begins_part { result ≡ 7 → BeginsBy command.now (D.sector_count device.old) (D.changes_of device.old) (D.changes_of device.new) ⊎ (D.changes_of device.new ≡ D.changes_of device.old) }
+    ensures begins_wanting { result ≡ 6 → (D.changes_of device.new ≡ D.changes_of device.old) ⊎ BeginsBy command.now (D.sector_count device.old) (D.changes_of device.old) (D.changes_of device.new) }
+    ensures begins_refused { IfSome (D.gives device.old) (λ disk. IsErr (answer_of command.now disk) → D.changes_of device.new ≡ D.changes_of device.old) }
     ensures sectors { D.sector_count device.new ≡ D.sector_count device.old }
     ensures later { D.fault_count device.old ≤ D.fault_count device.new }
 {
@@ -158,8 +161,9 @@ pub fn quiet_command<K: Sink, D: Device>(
     ensures device_counted { D.moment_of device < last_moment → result.status ≢ 8 → D.fault_count result.device ≡ D.fault_count device }
     ensures silent { result.status ≡ 8 → K.taken sink.new ≡ K.taken sink.old }
 
-    // The device is only read, but by a format: no write and no sync is begun, and none before a refusal. A format that
-    // is done made its writes and one sync.
+    // The device is only read, but by a format: no write and no sync is begun, and none where the image is refused,
+    // whatever comes of its line. A format that is done made its writes and one sync; one whose line isn't written, or that
+    // wants memory, made these or began none.
     // What reads of the device give stays, but for a format; a refusal leaves it too, whatever comes of its
     // line. A format whose line isn't written has made its volume, or was refused; one that wants memory has made
     // its volume, or leaves all; one whose device failed leaves a front of its regions. Free clusters, what lies behind
@@ -168,6 +172,9 @@ pub fn quiet_command<K: Sink, D: Device>(
     ensures only_read { IsReader command.now → D.changes_of result.device ≡ D.changes_of device }
     ensures unwritten { result.status ≡ 3 → D.changes_of result.device ≡ D.changes_of device }
     ensures begins { result.status ≡ 0 → BeginsBy command.now (D.sector_count device) (D.changes_of device) (D.changes_of result.device) }
+    ensures begins_part { result.status ≡ 7 → BeginsBy command.now (D.sector_count device) (D.changes_of device) (D.changes_of result.device) ⊎ (D.changes_of result.device ≡ D.changes_of device) }
+    ensures begins_wanting { result.status ≡ 6 → (D.changes_of result.device ≡ D.changes_of device) ⊎ BeginsBy command.now (D.sector_count device) (D.changes_of device) (D.changes_of result.device) }
+    ensures begins_refused { IfSome (D.gives device) (λ disk. IsErr (answer_of command.now disk) → D.changes_of result.device ≡ D.changes_of device) }
     ensures kept { result.status ≡ 3 → D.gives result.device ≡ D.gives device }
     ensures leaves { result.status ≡ 0 → Leaves command.now (D.gives device) (D.gives result.device) }
     ensures left_stopped { result.status ≡ 8 → LeavesFront command.now (D.sector_count device) (D.gives device) (D.gives result.device) }
@@ -308,8 +315,9 @@ pub fn ntfs_host<R: Threads + Wait + Sync, S: Source, K: Sink, D: Device + Send,
     ensures unread { ¬ IsRun words.now → source.new ≡ source.old }
     ensures most_read { LosesAtMost 16777217 (S.left source.old) (S.left source.new) }
 
-    // The device is only read, but by a format: no write and no sync is begun, and none before a refusal. A format that
-    // is done made its writes and one sync.
+    // The device is only read, but by a format: no write and no sync is begun, and none where the image is refused,
+    // whatever comes of its line. A format that is done made its writes and one sync; one whose line isn't written, or that
+    // wants memory, made these or began none.
     // What reads of the device give stays, but for a format; a refusal leaves it too, whatever comes of its
     // line. A format whose line isn't written has made its volume, or was refused; one that wants memory has made
     // its volume, or leaves all; one whose device failed leaves a front of its regions. Free clusters, what lies behind
@@ -318,6 +326,9 @@ pub fn ntfs_host<R: Threads + Wait + Sync, S: Source, K: Sink, D: Device + Send,
     ensures only_read { Reads (quiet_in words.now) → D.changes_of result.device ≡ D.changes_of device }
     ensures unwritten { result.status ≡ 3 → D.changes_of result.device ≡ D.changes_of device }
     ensures begins { IfSome (quiet_in words.now) (λ command. result.status ≡ 0 → BeginsBy command (D.sector_count device) (D.changes_of device) (D.changes_of result.device)) }
+    ensures begins_part { IfSome (quiet_in words.now) (λ command. result.status ≡ 7 → BeginsBy command (D.sector_count device) (D.changes_of device) (D.changes_of result.device) ⊎ (D.changes_of result.device ≡ D.changes_of device)) }
+    ensures begins_wanting { result.status ≡ 6 → (D.changes_of result.device ≡ D.changes_of device) ⊎ IfSome (quiet_in words.now) (λ command. BeginsBy command (D.sector_count device) (D.changes_of device) (D.changes_of result.device)) }
+    ensures begins_refused { IfSome (quiet_in words.now) (λ command. IfSome (D.gives device) (λ disk. IsErr (answer_of command disk) → D.changes_of result.device ≡ D.changes_of device)) }
     ensures kept { result.status ≡ 3 → D.gives result.device ≡ D.gives device }
     ensures leaves { IfSome (quiet_in words.now) (λ command. result.status ≡ 0 → Leaves command (D.gives device) (D.gives result.device)) }
     ensures left_stopped { IfSome (quiet_in words.now) (λ command. result.status ≡ 8 → LeavesFront command (D.sector_count device) (D.gives device) (D.gives result.device)) }

@@ -14,24 +14,16 @@
 #![tactic(auto)]
 
 mod answers;
-mod boot;
 mod command;
-mod finding;
 mod host;
-mod loading;
-mod mounting;
-mod names;
 mod output;
-mod piece;
 mod printing;
 mod reading;
 mod running;
 mod script_run;
 mod scripts;
 mod status;
-mod table;
 mod text;
-mod walk;
 mod words;
 mod write_error;
 

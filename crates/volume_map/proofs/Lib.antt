@@ -4,7 +4,3 @@ pub mod Owners
 pub mod Joins
 pub mod ReadLists
 pub mod Loaded
-pub mod Growing
-pub mod Plainly
-pub mod Scanned
-pub mod Seeing

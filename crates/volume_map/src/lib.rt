@@ -2,8 +2,9 @@
 //! that its attribute list names in other records.
 //!
 //! The contract: `load` answers the files that a view's content stands for, or the first refusal that
-//! applies, and `load_links` the long names of these files alone. The layouts are those of the
-//! Linux-NTFS documentation, "$MFT", "FILE Record", "$ATTRIBUTE_LIST" and "$FILE_NAME".
+//! applies. The layouts are those of the Linux-NTFS documentation, "$MFT", "FILE Record" and
+//! "$ATTRIBUTE_LIST". The calls beside it, on one record or one table, are those that a pass over the
+//! same table makes which keeps less.
 #![tactic(auto)]
 
 mod extras;
@@ -16,16 +17,18 @@ mod list_read;
 mod lists;
 mod loading;
 mod map;
-mod names;
 mod piece;
-mod plain;
 mod record;
-mod scanning;
 mod table;
 mod walk;
 
 pub use fault::MapFault;
-pub use loading::{load, load_links};
+pub use files::{is_base_record, reference};
+pub use judging::{INDEX_ALLOCATION, cuts_index, or_rule};
+pub use lists::ATTRIBUTE_LIST;
+pub use loading::{files_in, load};
 pub use map::{VolumeMap, load_volume};
+pub use piece::is_used;
+pub use record::{pairs_fit, whole_record};
 pub use state_model::{Geometry, MapRefusal};
-pub use table::boot_record;
+pub use table::{boot_record, has_type, table_of};

@@ -8,8 +8,6 @@ ghost use Rattle.state_model.specs.Loads.{table_in, most_records, record_count, 
 ghost use Rattle.stream_map.specs.Runs.{AreSmall};
 ghost use Rattle.volume_map.specs.Errors.{map_cause};
 ghost use Rattle.volume_map.specs.Lists.{read_of, judged_files};
-ghost use Rattle.volume_map.specs.Names.{links_in, loaded_links};
-ghost use Rattle.volume_map.specs.Scans.{verdict_of};
 ghost use Rattle.block_view.specs.Views.{KeepsView};
 
 use crate::extras::extras_of;
@@ -19,8 +17,6 @@ use crate::joining::join_files;
 use crate::judging::check_rules;
 use crate::list_read::ListRead;
 use crate::lists::read_lists;
-use crate::names::long_links;
-use crate::scanning::{Scan, scan_table};
 use crate::table::table_of;
 use crate::walk::{Walk, walk_table};
 use block_view::View;
@@ -29,7 +25,6 @@ use file_record::FileRec;
 use state_model::{Extents, Geometry};
 use std::alloc::Global;
 use stream_map::has_cut_block;
-use tree_model::Link;
 
 // Makes the records the files, by the rules of 1 to 8 that the records break and the lists of files;
 // refuses the first record that breaks a rule.
@@ -78,7 +73,12 @@ fn judged_files(
     Ok(records)
 }
 
-/// The files of a table with these clusters.
+/// The files of a table with these clusters, by number, as [`load`] answers them; `body` is room for a
+/// body, and `per` the sectors of a cluster.
+///
+/// The errors are a failure of the view, want of memory, and the first refusal that applies: the first
+/// record that is torn; the first record that breaks a rule, and the least one that it breaks. It costs
+/// what `load` does.
 pub fn files_in<V: View>(
     alloc: Global,
     view: &mut V,
@@ -129,85 +129,4 @@ pub fn load<V: View>(
     let mut body = Body::empty(alloc)?;
     let extents = table_of(alloc, view, geometry, &mut body)?;
     files_in(alloc, view, geometry.per_cluster, &extents, &mut body)
-}
-
-// The long names of the files of a table, of which some may have attribute lists.
-fn links_of_files<V: View>(
-    alloc: Global,
-    view: &mut V,
-    per: u64,
-    extents: &Extents,
-    body: &mut Body,
-) -> Result<Vec<Link>, MapFault>
-    requires some { 0 < per }
-    requires few { per ≤ 8 }
-    requires small { AreSmall extents.now.runs }
-    requires records { record_count extents.now ≤ most_records }
-    ensures answer { IfSome (V.content view.old) (λ c. GivesOrFails (λ links. links.items) map_cause result (links_in c per extents.now)) }
-    ensures kept { KeepsView V.content V.kept V.faults view.old view.new }
-    ensures fault { IsErrOf result MapFault.View → Rose (V.faults view.old) (V.faults view.new) }
-    ensures counted { Counts map_cause (V.faults view.old) (V.faults view.new) result }
-{
-    let files = files_in(alloc, view, per, extents, body)?;
-    Ok(long_links(alloc, &files)?)
-}
-
-// What a scan of the whole table says.
-fn scanned(scan: Scan) -> Result<Vec<Link>, MapFault>
-    ensures { Gives (λ links. links.items) map_cause result (verdict_of scan) }
-{
-    match scan.refusal {
-        None => Ok(scan.links),
-        Some(refusal) => Err(MapFault::Refused(refusal)),
-    }
-}
-
-// The long names of the files of a table with these clusters.
-fn links_in<V: View>(
-    alloc: Global,
-    view: &mut V,
-    per: u64,
-    extents: &Extents,
-    body: &mut Body,
-) -> Result<Vec<Link>, MapFault>
-    requires some { 0 < per }
-    requires few { per ≤ 8 }
-    requires small { AreSmall extents.now.runs }
-    requires records { record_count extents.now ≤ most_records }
-    ensures answer { IfSome (V.content view.old) (λ c. GivesOrFails (λ links. links.items) map_cause result (links_in c per extents.now)) }
-    ensures kept { KeepsView V.content V.kept V.faults view.old view.new }
-    ensures fault { IsErrOf result MapFault.View → Rose (V.faults view.old) (V.faults view.new) }
-    ensures counted { Counts map_cause (V.faults view.old) (V.faults view.new) result }
-{
-    let runs = extents.runs.as_slice();
-    let cut = has_cut_block(per, BlockKind::FileRec, extents.real / 1024, runs);
-    match scan_table(alloc, view, per, extents, cut, body)? {
-        Some(scan) => scanned(scan),
-        None => links_of_files(alloc, view, per, extents, body),
-    }
-}
-
-/// The long names of the files that [`load`] answers, by the files' numbers, and of each file as they
-/// stand in its records; or its errors.
-///
-/// It reads each record once, and keeps only the names, as long as no file has an attribute list: time
-/// is then linear in the records of the table, and for each of them in the runs of the table, and memory
-/// is linear in the names. At the first file with an attribute list it begins again as `load` does, and
-/// costs what that does.
-pub fn load_links<V: View>(
-    alloc: Global,
-    view: &mut V,
-    geometry: Geometry,
-) -> Result<Vec<Link>, MapFault>
-    requires some { 0 < geometry.per_cluster }
-    requires few { geometry.per_cluster ≤ 8 }
-    requires place { geometry.mft * geometry.per_cluster < 2 ^ 62 }
-    ensures answer { IfSome (V.content view.old) (λ c. GivesOrFails (λ links. links.items) map_cause result (loaded_links c geometry)) }
-    ensures kept { KeepsView V.content V.kept V.faults view.old view.new }
-    ensures fault { IsErrOf result MapFault.View → Rose (V.faults view.old) (V.faults view.new) }
-    ensures counted { Counts map_cause (V.faults view.old) (V.faults view.new) result }
-{
-    let mut body = Body::empty(alloc)?;
-    let extents = table_of(alloc, view, geometry, &mut body)?;
-    links_in(alloc, view, geometry.per_cluster, &extents, &mut body)
 }

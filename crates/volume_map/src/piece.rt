@@ -32,6 +32,7 @@ fn is_signed(bytes: &[u8]) -> bool
     bytes.starts_with(b"FILE")
 }
 
+/// Whether the body of a file record begins `FILE` and is flagged as in use.
 #[tactic(auto, unfolding(record_model::specs::Records::has_in_use_flag))]
 pub fn is_used(body: &[u8]) -> bool
     requires { length body.now ≡ 1024 }

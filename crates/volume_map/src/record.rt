@@ -23,7 +23,7 @@ fn do_span(sizes: Sizes, runs: &[Run]) -> bool
 }
 
 /// Whether mapping pairs are read, and have the clusters from the first VCN to the last one; linear in
-/// the pairs.
+/// the pairs. The error is want of memory.
 pub fn pairs_fit(alloc: Global, sizes: Sizes, pairs: &[u8]) -> Result<bool, Memory>
     ensures { IfOk result (λ fits. fits ≡ span sizes (runs_of sizes.first pairs.now)) }
 {

@@ -158,7 +158,12 @@ fn extents_in(alloc: Global, file: Option<FileRec>) -> Result<Extents, MapFault>
 }
 
 /// The clusters of the file table, by record 0 where the boot sector says that the table begins, or
-/// what refuses it; `body` is room for a body.
+/// what refuses it; `body` is room for a body. It reads that record alone, and takes time linear in it.
+///
+/// The errors are a failure of the view, want of memory, and the first of [`load`]'s refusals that record
+/// 0 alone tells.
+///
+/// [`load`]: crate::load
 pub fn table_of<V: View>(
     alloc: Global,
     view: &mut V,

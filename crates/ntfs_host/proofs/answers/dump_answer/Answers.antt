@@ -5,7 +5,7 @@ use Rattle.tree_model.specs.declared.tree.Tree.{Tree}
 use Rattle.image_check.specs.Checks.{check_of}
 use Rattle.image_dump.specs.Texts.{dump_text}
 use Rattle.ntfs_host.proofs.Answering.{text_is}
-use Rattle.ntfs_host.proofs.Steps.{fails_first}
+use Rattle.small_image.proofs.Steps.{fails_first}
 use Rattle.ntfs_host.proofs.answers.dump_answer.Goals as goal
 
 pub returns-in_err-tree-clause-answer : goal.returns-in_err-tree-clause-answer

@@ -5,7 +5,7 @@ use Rattle.image_dump.specs.Texts.{journal_text}
 use Rattle.image_journal.specs.declared.reading.ReadJournal.{ReadJournal}
 use Rattle.image_journal.specs.Records.{journal_of}
 use Rattle.ntfs_host.proofs.Answering.{text_is}
-use Rattle.ntfs_host.proofs.Steps.{fails_first}
+use Rattle.small_image.proofs.Steps.{fails_first}
 use Rattle.ntfs_host.proofs.answers.journal_answer.Goals as goal
 
 pub returns-in_err-journal-clause-answer : goal.returns-in_err-journal-clause-answer

@@ -5,7 +5,7 @@ use Rattle.tree_model.specs.declared.link.Link.{Link}
 use Rattle.image_scan.specs.Scans.{scan_of}
 use Rattle.image_dump.specs.Texts.{scan_text}
 use Rattle.ntfs_host.proofs.Answering.{text_is}
-use Rattle.ntfs_host.proofs.Steps.{fails_first}
+use Rattle.small_image.proofs.Steps.{fails_first}
 use Rattle.ntfs_host.proofs.answers.scan_answer.Goals as goal
 
 pub returns-in_err-links-clause-answer : goal.returns-in_err-links-clause-answer

@@ -1,0 +1,5 @@
+pub mod Chunks
+pub mod Noting
+pub mod Standing
+pub mod Steps
+pub mod LoadSteps

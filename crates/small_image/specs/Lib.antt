@@ -1,0 +1,8 @@
+pub mod Volumes
+pub mod Pieces
+pub mod Links
+pub mod Tables
+pub mod Scan
+pub mod Walks
+pub mod Reading
+pub mod Mounts

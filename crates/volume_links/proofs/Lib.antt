@@ -1,0 +1,4 @@
+pub mod Growing
+pub mod Plainly
+pub mod Scanned
+pub mod Seeing

@@ -1,0 +1,107 @@
+//! The long names of files.
+ghost use Rattle.std.specs.Prelude.{◌≡◌, ◌++◌, [], IfOk, OnOk};
+ghost use Rattle.std.specs.List.{cons_option, filter};
+ghost use Rattle.record_model.specs.StdValues.{file_name_of};
+ghost use Rattle.tree_model.specs.Trees.{is_long};
+ghost use Rattle.state_model.specs.Files.{only_base, named, form_link, attr_link, record_links, links_of};
+ghost use Rattle.volume_links.specs.Names.{long_links};
+
+use file_record::FileRec;
+use host_base::{FileRef, Memory};
+use record_model::{Attr, FileNameValue, OwnForm, ValueFault};
+use std::alloc::Global;
+use std_values::NamedValue;
+use tree_model::Link;
+use volume_map::{is_base_record, reference};
+
+/// The type of file names.
+pub const FILE_NAME: u32 = 0x30;
+
+const SHORT_NAMES: u8 = 2;
+
+/// The link of a file-name value of this file; none where the bytes are no such value.
+pub fn value_link(alloc: Global, child: FileRef, value: &[u8]) -> Result<Option<Link>, Memory>
+    ensures { IfOk result (λ link. link ≡ named child (file_name_of value.now)) }
+{
+    let name = match FileNameValue::read(alloc, value) {
+        Ok(name) => name,
+        Err(ValueFault::Memory) => return Err(Memory),
+        Err(ValueFault::Length { .. }) => return Ok(None),
+        Err(ValueFault::Shape) => return Ok(None),
+    };
+    Ok(Some(Link {
+        parent: name.parent,
+        name: name.name,
+        space: name.space,
+        child,
+    }))
+}
+
+// The link of an attribute, if it is a file name.
+#[tactic(auto, unfolding(state_model::specs::Files::attr_link))]
+fn attr_link(alloc: Global, child: FileRef, attr: &Attr) -> Result<Option<Link>, Memory>
+    ensures { IfOk result (λ link. link ≡ attr_link child attr.now) }
+{
+    match &attr.form {
+        OwnForm::Resident { value, .. } if attr.head.kind == FILE_NAME => {
+            value_link(alloc, child, value.as_slice())
+        }
+        _ => Ok(None),
+    }
+}
+
+/// Appends the link, if there is one and it is long.
+pub fn push_long(links: &mut Vec<Link>, link: Option<Link>) -> Result<(), Memory>
+    ensures { OnOk result (links.new.items ≡ links.old.items ++ filter is_long (cons_option link [])) }
+{
+    match link {
+        Some(link) if link.space != SHORT_NAMES => links.push(link).map_err(|_| Memory),
+        _ => Ok(()),
+    }
+}
+
+/// Appends the long names of a record with this number, as they stand in it. The error is want of
+/// memory.
+#[tactic(auto, unfolding(state_model::specs::Files::record_links))]
+pub fn push_record(
+    alloc: Global,
+    number: u64,
+    file: &FileRec,
+    links: &mut Vec<Link>,
+) -> Result<(), Memory>
+    ensures { OnOk result (links.new.items ≡ links.old.items ++ filter is_long (record_links number file.now)) }
+{
+    let child = reference(number, file);
+    for attr in file.attrs().as_slice() {
+        push_long(links, attr_link(alloc, child, attr)?)?;
+    }
+    Ok(())
+}
+
+// Appends those of the file with this number, if there is one.
+fn push_file(
+    alloc: Global,
+    number: u64,
+    file: &Option<FileRec>,
+    links: &mut Vec<Link>,
+) -> Result<(), Memory>
+    ensures { OnOk result (links.new.items ≡ links.old.items ++ filter is_long (links_of number (only_base file.now))) }
+{
+    match file {
+        Some(file) if is_base_record(file) => push_record(alloc, number, file, links),
+        _ => Ok(()),
+    }
+}
+
+/// The long names of files, by the files' numbers, and of each file as they stand in its records.
+/// Linear in the records. The error is want of memory.
+#[tactic(auto, unfolding(crate::specs::Names::long_links))]
+pub fn long_links(alloc: Global, files: &[Option<FileRec>]) -> Result<Vec<Link>, Memory>
+    ensures { IfOk result (λ links. links.items ≡ long_links files.now) }
+{
+    let mut links = Vec::new(alloc);
+    for (number, file) in files.iter().enumerate() {
+        push_file(alloc, number as u64, file, &mut links)?;
+    }
+    Ok(links)
+}

@@ -1,9 +1,0 @@
-use Rattle.volume_map.specs.Plain.{Grows}
-use Rattle.volume_map.proofs.Plainly.{Plainly}
-use Rattle.volume_map.proofs.plain.take_all.Given as goal
-
-abbrev pub invariant-loop : goal.invariant-loop
-invariant-loop l = record {
-  plainly : Plainly l.child l.bytes l.rest l.counter l.least l.initial.links.items l.links.items;
-  grows : Grows l.initial.links.items l.links.items;
-}

@@ -1,7 +1,0 @@
-use Rattle.state_model.specs.Loads.{table_piece}
-use Rattle.volume_map.proofs.Scanned.{scans_on}
-use Rattle.volume_map.proofs.scanning.step.Goals as goal
-
-pub returns-clause-answer : goal.returns-clause-answer
-returns-clause-answer g c =
-    scans_on _ c.args.per c.args.cut (λ content. table_piece content c.args.per c.args.extents.now) c.args.number c.in_ok-seen.seen c.judge.result c.args.scan.now (record { links = c.take_record.new.links; refusal = c.judge.new.refusal }) c.in_ok-seen.ensures.seen c.judge.ensures

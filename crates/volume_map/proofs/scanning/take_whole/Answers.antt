@@ -1,5 +1,0 @@
-use Rattle.volume_map.proofs.Seeing.{unread}
-use Rattle.volume_map.proofs.scanning.take_whole.Goals as goal
-
-pub returns-in-Err : goal.returns-in-Err
-returns-in-Err c = unread c.args.per c.args.number c.in-Err.fault c.args.body.now c.args.links.now.items c.unread.result c.unread.ensures c.in-Err.ensures.value
