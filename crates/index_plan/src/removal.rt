@@ -21,7 +21,7 @@ use std::alloc::Global;
 /// entry that has the key, and it answers the VCNs of the blocks that are no longer in use.
 /// `room` is how many bytes the root's entries may take, and `height` the number of levels of the
 /// whole index, as in an insertion. Reads the nodes on one way down, and those between entries of
-/// the same name.
+/// the same name, and takes time and memory linear in their bytes.
 ///
 /// - `Node`: the first node that was read and breaks a rule.
 /// - `Absent`: the index has no such key.

@@ -117,7 +117,8 @@ fn append_sector<V: View>(
     Ok(())
 }
 
-/// Reads the page of the log with this number, in place of what `page` held.
+/// Reads the page of the log with this number, in place of what `page` held: at most eight blocks of
+/// the view, and 4,096 bytes.
 ///
 /// - [`RecoveryFault::Fault`]: the view failed. The other error is want of memory.
 pub fn read_page<V: View>(

@@ -122,7 +122,8 @@ pub fn sort_links(upper: &[u16], links: &mut Vec<Link>) -> Result<(), AllocError
     links.sort_by(|a, b| compare(upper, a, b))
 }
 
-/// The names of these links, in their order. The error is want of memory.
+/// The names of these links, in their order. The error is want of memory. It takes time and memory
+/// linear in the names.
 pub fn names_of(alloc: Global, links: &[Link]) -> Result<NameList, AllocError>
     ensures value { IfOk result (λ names. names ≡ map (λ (l : the_link). l.name) links.now) }
 {

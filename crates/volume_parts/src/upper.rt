@@ -88,7 +88,7 @@ fn stream_table<V: View>(
 }
 
 /// The volume's table of upper-case units: the data of `$UpCase`, or that of the format where this
-/// hasn't 131,072 bytes. `body` is room for a body.
+/// hasn't 131,072 bytes. `body` is room for a body. It reads no more than these bytes.
 #[tactic(auto, unfolding(volume_model::specs::Volumes::upper_of))]
 pub fn upper_table<V: View>(
     alloc: Global,
