@@ -70,6 +70,7 @@ def library():
             ("ntfs_attr_pwrite", ctypes.c_int64, [pointer, ctypes.c_int64, ctypes.c_int64, text]),
             ("ntfs_attr_close", None, [pointer]),
             ("ntfs_attr_pclose", ctypes.c_int, [pointer]),
+            ("ntfs_attr_remove", ctypes.c_int, [pointer, number, pointer, number]),
             ("ntfs_attr_add", ctypes.c_int, [pointer, number, text, ctypes.c_uint8, text, ctypes.c_int64]),
             ("ntfs_create_symlink", pointer, [pointer, number, text, ctypes.c_uint8, text, ctypes.c_int]),
             ("ntfs_set_ntfs_attrib", ctypes.c_int, [pointer, text, ctypes.c_size_t, ctypes.c_int]),
@@ -141,6 +142,20 @@ class Volume:
     def stream(self, path, name, data):
         node, units = self.folder(path), name.encode("utf-16-le")
         done = self.calls.ntfs_attr_add(node, 0x80, units, len(units) // 2, data, len(data)) == 0
+        return self.calls.ntfs_inode_close(node) == 0 and done
+
+    def write_stream(self, path, name, data, at):
+        """Writes the data of a named stream from there on; what lies before it, past the stream's end, becomes sparse."""
+        node, units = self.folder(path), name.encode("utf-16-le")
+        stream = self.calls.ntfs_attr_open(node, 0x80, units, len(units) // 2)
+        done = self.calls.ntfs_attr_pwrite(stream, at, len(data), data) == len(data)
+        self.calls.ntfs_attr_close(stream)
+        return self.calls.ntfs_inode_close(node) == 0 and done
+
+    def without_data(self, path):
+        """Takes the unnamed data from a file."""
+        node = self.folder(path)
+        done = self.calls.ntfs_attr_remove(node, 0x80, None, 0) == 0
         return self.calls.ntfs_inode_close(node) == 0 and done
 
     def short(self, path, name, short):
