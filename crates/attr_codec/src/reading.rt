@@ -66,9 +66,10 @@ fn form(a: &[u8]) -> Form<'_>
 }
 
 /// Reads the attribute that stands at the front of these bytes, whatever stands behind it
-/// (Linux-NTFS documentation, "Attribute Header"). `Rule` has the least rule that is broken: 3 where
-/// the attribute's length is below its header, no multiple of 8 or above the bytes, 6 where its
-/// name, value or mapping pairs lie outside it. It takes no memory, and the same time for all bytes.
+/// (Linux-NTFS documentation, "Attribute Header"). `Rule` has the least rule that is broken: 3
+/// where the attribute's length is below its header, no multiple of 8 or above the bytes, 6 where
+/// its name, value or mapping pairs lie outside it. It takes no memory, and the same time for all
+/// bytes.
 #[tactic(auto, using(crate::proofs::Headers::headers, crate::proofs::Whole::answers))]
 pub fn read(bytes: &[u8]) -> Result<AttrRef<'_>, AttrFault>
     ensures value { Gives attr_seen attr_cause result (attr_at bytes.now) }

@@ -83,9 +83,9 @@ pub fn write_resident(
 
 /// Appends the spelling of an attribute whose value stands in clusters (Linux-NTFS documentation,
 /// "Attribute Header"), its mapping pairs where a value would stand. The pairs, zeros behind their
-/// end among them, have a multiple of 8 bytes and fewer than 2^31; `held` is there exactly where the
-/// flags say compressed or sparse and the first VCN is 0. The error is want of memory, and leaves
-/// what is appended to. It takes time and memory linear in the name and the pairs.
+/// end among them, have a multiple of 8 bytes and fewer than 2^31; `held` is there exactly where
+/// the flags say compressed or sparse and the first VCN is 0. The error is want of memory, and
+/// leaves what is appended to. It takes time and memory linear in the name and the pairs.
 pub fn write_mapped(
     head: &Head,
     name: &[u16],

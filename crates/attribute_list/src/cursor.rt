@@ -15,8 +15,8 @@ use stream_map::real_size;
 /// after it; or the list's end or a fault, and `at` stays. A volume has `per` sectors a cluster;
 /// `body` is room for a sector.
 ///
-/// It reads three blocks at most, with one pass over the runs each, and takes memory for the name of
-/// the entry alone.
+/// It reads three blocks at most, with one pass over the runs each, and takes memory for the name
+/// of the entry alone.
 ///
 /// - [`ViewFault::Fault`]: the view failed, and counts it; `at` stays.
 /// - [`ViewFault::Memory`]: there is no memory left; `at` stays.

@@ -64,9 +64,9 @@ fn entry_of(alloc: Global, front: &[u8]) -> Result<ListEntry, AllocError>
 }
 
 /// The entry at the front of the bytes of an attribute list of which `left` are left (Linux-NTFS
-/// documentation, "$ATTRIBUTE_LIST"). `front` has the first [`FRONT_BYTES`] of them, and zeros behind
-/// the last one. There is none where it has no room for its first 26 bytes and its name, or runs
-/// past the list. Linear in the units of its name; the error is want of memory.
+/// documentation, "$ATTRIBUTE_LIST"). `front` has the first [`FRONT_BYTES`] of them, and zeros
+/// behind the last one. There is none where it has no room for its first 26 bytes and its name, or
+/// runs past the list. Linear in the units of its name; the error is want of memory.
 #[tactic(auto, using(crate::proofs::Fronts::length_in))]
 pub fn first_entry(alloc: Global, front: &[u8], left: u64) -> Result<Option<FirstEntry>, AllocError>
     requires { length front.now ≡ FRONT_BYTES }

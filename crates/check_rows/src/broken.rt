@@ -59,7 +59,8 @@ fn changed_bytes_break_a_rule(rt: HostRuntime) -> Result<(), Fail> {
         ((TABLE + 0x70, 0xff), (TABLE + 0x71, 0x7f), NONE, 4, 0),
         ((TABLE + 0x90, 3), NONE, NONE, 4, 0),
         ((BITMAP + 0x48, 15), NONE, NONE, 4, 6),
-        // 5 and 6: one cluster for two streams, whose bit is set or clear; a cluster whose bit is clear.
+        // 5 and 6: one cluster for two streams, whose bit is set or clear; a cluster whose bit is
+        // clear.
         ((JOURNAL + 0x15a, 96), NONE, NONE, 5, 96),
         ((FILE + 0x13a, 98), (JOURNAL + 0x15a, 98), NONE, 5, 98),
         ((FILE + 0x13a, 99), (JOURNAL + 0x15a, 98), NONE, 6, 98),
@@ -160,8 +161,8 @@ const CHILD: [u8; 24] = [
     0, 0, 0, 0, 0, 0, 0, 0, 24, 0, 0, 0, 3, 0, 0, 0, 0, 0, 0, 0, 0, 0, 0, 0,
 ];
 
-// The root with this index root and a block of its index in the clusters from 112 on, whose one entry is the last, with itself as
-// its child; its sectors end with this word, where 1 is not torn.
+// The root with this index root and a block of its index in the clusters from 112 on, whose one
+// entry is the last, with itself as its child; its sectors end with this word, where 1 is not torn.
 fn with_block(alloc: Global, index: &[u8], word: u16) -> Result<Vec<u8>, AllocError> {
     let mut image = whole_volume(alloc)?;
     let name = file_name(alloc, 0, name_in(5, 3, b"."))?;
@@ -300,7 +301,8 @@ fn a_table_elsewhere_breaks_rule_4(rt: HostRuntime) -> Result<(), Fail> {
     answers(&rt, "scan", &image, 0, text.as_slice())
 }
 
-// A VCN is left out; a piece stands twice; clusters past the volume; a sparse bitmap; a torn mirror.
+// A VCN is left out; a piece stands twice; clusters past the volume; a sparse bitmap; a torn
+// mirror.
 #[test]
 fn streams_break_rule_4(rt: HostRuntime) -> Result<(), Fail> {
     let alloc = rt.alloc();

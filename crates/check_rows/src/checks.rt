@@ -56,8 +56,8 @@ fn quiet_commands_print_the_texts(rt: HostRuntime) -> Result<(), Fail> {
     Ok(())
 }
 
-// Where record 3 has its minor version, and where record 0 has the bits of the records 24 to 27. A torn record comes before the
-// version, and this before a broken rule.
+// Where record 3 has its minor version, and where record 0 has the bits of the records 24 to 27. A
+// torn record comes before the version, and this before a broken rule.
 #[test]
 fn the_version_is_refused(rt: HostRuntime) -> Result<(), Fail> {
     let tiny = tiny_image(rt.alloc())?;
@@ -72,7 +72,8 @@ fn the_version_is_refused(rt: HostRuntime) -> Result<(), Fail> {
     answers(&rt, "check", &image, 3, b"refused 5 BadFixup 5\n")
 }
 
-// The write that fails, and what the ones before it wrote; and each read, up to one that is never reached.
+// The write that fails, and what the ones before it wrote; and each read, up to one that is never
+// reached.
 #[test]
 fn faults_of_a_check_are_answered(rt: HostRuntime) -> Result<(), Fail> {
     let image = whole_volume(rt.alloc())?;

@@ -56,9 +56,9 @@ fn push_file(alloc: Global, out: &mut Vec<Run>, file: &Option<FileRec>) -> Resul
 }
 
 /// The runs of all attributes of a volume's files, file by file and in the order of each file's
-/// attributes (Linux-NTFS documentation, "Data runs"). An attribute whose mapping pairs are at fault
-/// has no runs. The error is want of memory. It takes time and memory linear in the bytes of the
-/// attributes.
+/// attributes (Linux-NTFS documentation, "Data runs"). An attribute whose mapping pairs are at
+/// fault has no runs. The error is want of memory. It takes time and memory linear in the bytes of
+/// the attributes.
 #[tactic(auto, unfolding(volume_model::specs::Owners::volume_runs))]
 pub fn volume_runs(alloc: Global, files: &[Option<FileRec>]) -> Result<Runs, Memory>
     ensures value { IfOk result (λ runs. runs ≡ volume_runs files.now) }

@@ -1,5 +1,6 @@
 //! Who owns the clusters of a volume: the runs of its files, the least cluster that lies in two of
-//! them or twice in one stream, and the least that a run has though the bitmap says that it is free.
+//! them or twice in one stream, and the least that a run has though the bitmap says that it is
+//! free.
 //!
 //! The contract: each answer is exactly the least number below the count of clusters at which the
 //! rule is broken, or None where it is kept; runs may be any, also such as end past the volume. The

@@ -53,9 +53,9 @@ fn least_unmarked(bits: &BitSet, places: &[Place]) -> Option<u64>
 }
 
 /// The least cluster that a run has and whose bit is clear, among as many clusters as there are
-/// bits, or None where there is none (Linux-NTFS documentation, "File - $Bitmap": a bit is set where
-/// its cluster is in use). The runs may be any: they may stand in any order, overlap, be sparse, and
-/// end past the volume. The error is want of memory.
+/// bits, or None where there is none (Linux-NTFS documentation, "File - $Bitmap": a bit is set
+/// where its cluster is in use). The runs may be any: they may stand in any order, overlap, be
+/// sparse, and end past the volume. The error is want of memory.
 ///
 /// It takes memory linear in the runs, and time n log n in the runs and linear in the words of the
 /// bitmap, however long the runs are.

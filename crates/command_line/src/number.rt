@@ -36,8 +36,8 @@ fn decimal(digits: &[u8]) -> Option<u64>
 }
 
 #[tactic(auto, unfolding(crate::specs::Numbers::number_of))]
-/// The number of a word: `0`, or decimal digits without a leading 0, below 2^62. It takes time linear
-/// in the word.
+/// The number of a word: `0`, or decimal digits without a leading 0, below 2^62. It takes time
+/// linear in the word.
 pub(crate) fn number(word: &str) -> Option<u64>
     ensures { result ≡ number_of word.now }
 {

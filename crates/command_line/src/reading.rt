@@ -70,13 +70,13 @@ fn command_in(matches: &ArgMatches<'_>, words: &[String]) -> Option<Command>
 
 #[tactic(auto, unfolding(crate::specs::Commands::line_in))]
 /// The command that the words of a command line name. The first word is the program's name, which
-/// isn't looked at; behind it stand the image, the command and the options `--time N`, `--seed N` and
-/// `--journal N`, also as `--time=N`, whose defaults are 0, 1 and 262144. The image is the first of
-/// these words, since it is opened before the line is read.
+/// isn't looked at; behind it stand the image, the command and the options `--time N`, `--seed N`
+/// and `--journal N`, also as `--time=N`, whose defaults are 0, 1 and 262144. The image is the
+/// first of these words, since it is opened before the line is read.
 ///
 /// `NoLine` comes where the words aren't such a line, an option stands twice, a number isn't `0` or
-/// decimal digits without a leading 0 below 2^62, or the journal isn't 8,192 to 1,073,741,824 bytes.
-/// `Memory` comes for want of memory alone. It takes time and memory linear in the words.
+/// decimal digits without a leading 0 below 2^62, or the journal isn't 8,192 to 1,073,741,824
+/// bytes. `Memory` comes for want of memory alone. It takes time and memory linear in the words.
 pub fn read_line(alloc: Global, words: &[String]) -> Result<Command, LineFault>
     ensures answer { Gives (λ command. command) line_cause result (line_of words.now) }
 {

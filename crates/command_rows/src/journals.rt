@@ -37,8 +37,8 @@ fn changed(alloc: Global, changes: &[(usize, u8)]) -> Result<Vec<u8>, Fail> {
     Ok(image)
 }
 
-// The journal; its file with an empty attribute list in place of its standard information, which stands at 38;
-// and $J, whose flags stand at 114, without the flag sparse.
+// The journal; its file with an empty attribute list in place of its standard information, which
+// stands at 38; and $J, whose flags stand at 114, without the flag sparse.
 #[test]
 fn journals_are_read(rt: HostRuntime) -> Result<(), Fail> {
     let alloc = rt.alloc();

@@ -16,7 +16,8 @@ const FIRST: u64 = 526_344;
 
 const LOG: u64 = 416;
 
-// The words of a restart page by which it is of version 2.0, and by which its client is named `NTFS`.
+// The words of a restart page by which it is of version 2.0, and by which its client is named
+// `NTFS`.
 const LATER: [(usize, u16); 2] = [(0x1a, 0), (0x1c, 2)];
 
 const OTHER: [(usize, u16); 5] = [(0x8c, 8), (0x98, 0), (0x9a, 0), (0x9c, 0), (0x9e, 0)];
@@ -103,8 +104,8 @@ fn an_emptied_log_is_taken(rt: HostRuntime) -> Result<(), Fail> {
     Ok(())
 }
 
-// An ended transaction of the log gives record 10, in the sector 52, the name `$UpKase`, which the root's
-// index hasn't.
+// An ended transaction of the log gives record 10, in the sector 52, the name `$UpKase`, which the
+// root's index hasn't.
 #[test]
 fn what_is_recovered_is_printed(rt: HostRuntime) -> Result<(), Fail> {
     let alloc = rt.alloc();

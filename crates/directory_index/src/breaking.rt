@@ -157,19 +157,19 @@ fn first_failing<V: View>(
     Ok(None)
 }
 
-/// The least number of a directory whose index isn't the list of the names that stand in it: read in
-/// order, it doesn't hold exactly these names, or two of them have equal units, or a node of it is at
-/// fault (Linux-NTFS documentation, "$INDEX_ROOT" and "Index Record"). `files` has the file of each
-/// number, if there is one, with all its attributes, `links` the names of each and `counts` how many
-/// names stand in each; `up` is the table of upper-case units, and a volume has `per` sectors a
-/// cluster.
+/// The least number of a directory whose index isn't the list of the names that stand in it: read
+/// in order, it doesn't hold exactly these names, or two of them have equal units, or a node of it
+/// is at fault (Linux-NTFS documentation, "$INDEX_ROOT" and "Index Record"). `files` has the file
+/// of each number, if there is one, with all its attributes, `links` the names of each and `counts`
+/// how many names stand in each; `up` is the table of upper-case units, and a volume has `per`
+/// sectors a cluster.
 ///
 /// - [`IndexFault::View`]: the view failed, and counts it.
 /// - [`IndexFault::Memory`]: there is no memory left.
 ///
-/// It reads each block of the indexes once, one directory after the other, and holds the names of one
-/// directory at a time. It takes time linear in the files, in the blocks that index allocations have
-/// and the names that they hold, and for each name in those of its file.
+/// It reads each block of the indexes once, one directory after the other, and holds the names of
+/// one directory at a time. It takes time linear in the files, in the blocks that index allocations
+/// have and the names that they hold, and for each name in those of its file.
 pub fn first_broken<V: View>(
     alloc: Global,
     view: &mut V,

@@ -131,8 +131,8 @@ fn put_run(per: u64, run: &Run, end: usize, blocks: &mut [Block])
     }
 }
 
-// Puts the blocks that runs hold below `end`, the last run first, so that each lies in the first run
-// that holds it.
+// Puts the blocks that runs hold below `end`, the last run first, so that each lies in the first
+// run that holds it.
 fn put_runs(per: u64, runs: &[Run], end: usize, blocks: &mut [Block])
     requires some { 0 < per }
     requires few { per ≤ 8 }
@@ -157,14 +157,14 @@ fn begun_blocks(initialised: u64) -> u64
     initialised / BLOCK_BYTES + u64::from(initialised % BLOCK_BYTES != 0)
 }
 
-/// The blocks of an index allocation (Linux-NTFS documentation, "$INDEX_ALLOCATION"), in a volume of
-/// `per` sectors a cluster: as many as its real size has and its runs begin. Each lies in the first
-/// run that holds all its clusters. One that lies in no run, or in a sparse one, and one past the
-/// initialised size is a block past the end of every disk. The error is want of memory.
+/// The blocks of an index allocation (Linux-NTFS documentation, "$INDEX_ALLOCATION"), in a volume
+/// of `per` sectors a cluster: as many as its real size has and its runs begin. Each lies in the
+/// first run that holds all its clusters. One that lies in no run, or in a sparse one, and one past
+/// the initialised size is a block past the end of every disk. The error is want of memory.
 ///
-/// It takes memory linear in these blocks, also where their clusters are sparse or aren't there, and
-/// time linear in them and in the runs with the blocks of each, which is the same where no cluster
-/// lies in two runs.
+/// It takes memory linear in these blocks, also where their clusters are sparse or aren't there,
+/// and time linear in them and in the runs with the blocks of each, which is the same where no
+/// cluster lies in two runs.
 pub fn blocks_of(alloc: Global, per: u64, extents: &Extents) -> Result<Vec<Block>, Memory>
     requires some { 0 < per }
     requires few { per ≤ 8 }

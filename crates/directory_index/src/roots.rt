@@ -42,8 +42,8 @@ fn form_value(form: &OwnForm) -> Option<&Bytes>
     }
 }
 
-/// The value of a directory's index root (Linux-NTFS documentation, "$INDEX_ROOT"), if it is resident.
-/// It takes time linear in the attributes.
+/// The value of a directory's index root (Linux-NTFS documentation, "$INDEX_ROOT"), if it is
+/// resident. It takes time linear in the attributes.
 #[tactic(auto, unfolding(volume_model::specs::Indexes::root_value))]
 pub fn root_value(file: &FileRec) -> Option<&Bytes>
     ensures { option_copied result ≡ root_value file.now }
@@ -54,9 +54,9 @@ pub fn root_value(file: &FileRec) -> Option<&Bytes>
     }
 }
 
-/// The stream of a directory's index blocks (Linux-NTFS documentation, "$INDEX_ALLOCATION"), if there
-/// is one. The error is want of memory. It takes time and memory linear in the attributes and runs
-/// where the pieces of the stream stand in order.
+/// The stream of a directory's index blocks (Linux-NTFS documentation, "$INDEX_ALLOCATION"), if
+/// there is one. The error is want of memory. It takes time and memory linear in the attributes and
+/// runs where the pieces of the stream stand in order.
 #[tactic(auto, unfolding(volume_model::specs::Indexes::index_stream, state_model::specs::Indexes::names_index))]
 pub fn index_stream(alloc: Global, file: &FileRec) -> Result<Option<Stream>, Memory>
     ensures value { IfOk result (λ stream. stream ≡ index_stream file.now) }

@@ -88,8 +88,8 @@ pub struct Shaped {
 
 impl FileRec {
     /// The record of these 1,024 bytes, whose update sequence is undone, whatever its values hold
-    /// (Linux-NTFS documentation, "FILE Record"). `Rule` has the least of the rules 1 to 6 that they
-    /// break, and `Memory` is want of memory. It takes time and memory linear in the bytes.
+    /// (Linux-NTFS documentation, "FILE Record"). `Rule` has the least of the rules 1 to 6 that
+    /// they break, and `Memory` is want of memory. It takes time and memory linear in the bytes.
     #[tactic(auto, using(crate::proofs::Whole::answers))]
     pub fn read_shaped(alloc: Global, body: &[u8]) -> Result<Shaped, RecFault>
         requires { length body.now ≡ 1024 }
@@ -125,8 +125,8 @@ impl FileRec {
         Ok(file)
     }
 
-    /// A record with these header fields and no attribute (Linux-NTFS documentation, "FILE Record");
-    /// this takes no memory.
+    /// A record with these header fields and no attribute (Linux-NTFS documentation, "FILE
+    /// Record"); this takes no memory.
     pub fn empty(alloc: Global, head: RecHead) -> FileRec
         ensures value { result ≡ record { head = head; attrs = [] } }
     {

@@ -39,7 +39,8 @@ struct Found {
     attrs: AttrList,
     // The least type that may follow.
     least: u32,
-    // Whether no type fell, every name and value lies inside its attribute, and each value is lawful.
+    // Whether no type fell, every name and value lies inside its attribute, and each value is
+    // lawful.
     rises: bool,
     inside: bool,
     lawful: bool,
@@ -150,8 +151,8 @@ impl Found {
     }
 }
 
-/// The attributes in these bytes up to the end mark, in one walk. `Rule` has the least of the rules 3
-/// to 6 that they break; a length at fault ends the walk.
+/// The attributes in these bytes up to the end mark, in one walk. `Rule` has the least of the rules
+/// 3 to 6 that they break; a length at fault ends the walk.
 #[tactic(auto, using(crate::proofs::Walking::length_inside))]
 pub fn attributes_at(alloc: Global, bytes: &[u8]) -> Result<Attributes, RecFault>
     ensures { Gives (λ attributes. attributes) rec_cause result (attributes_at bytes.now) }

@@ -1,6 +1,6 @@
 //! Rows of inputs and answers that cross crates: a scan of the tiny image and of images that differ
-//! from it, and runs of scripts on them, through the top call, with faults of the device and the sink.
-//! The crate has tests, and no more.
+//! from it, and runs of scripts on them, through the top call, with faults of the device and the
+//! sink. The crate has tests, and no more.
 #![tactic(auto)]
 
 #[cfg(test)]

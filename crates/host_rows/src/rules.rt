@@ -118,8 +118,8 @@ fn attributes_of_the_root_are_judged(rt: HostRuntime) -> Result<(), Fail> {
     scan(&rt, &image, 3, b"refused 6 BadRecord 5 4\n")
 }
 
-// An attribute list and data in clusters serve for a scan, and not yet for a run, which refuses them after broken rules:
-// here an attribute of length 0 in record 7.
+// An attribute list and data in clusters serve for a scan, and not yet for a run, which refuses
+// them after broken rules: here an attribute of length 0 in record 7.
 #[test]
 fn lists_and_clusters_are_not_handled_by_a_run(rt: HostRuntime) -> Result<(), Fail> {
     let alloc = rt.alloc();
@@ -143,8 +143,9 @@ fn lists_and_clusters_are_not_handled_by_a_run(rt: HostRuntime) -> Result<(), Fa
     is_answered(&rt, &image, b"", 3, b"refused 6 BadRecord 7 3\n")
 }
 
-// Bytes of the image: in the boot sector; the length and cluster of record 2's run, which leaves one page of FF or none; one of
-// the log's two pages; the same of record 0, and its real size. What answers a scan, with its status, and what answers a run.
+// Bytes of the image: in the boot sector; the length and cluster of record 2's run, which leaves
+// one page of FF or none; one of the log's two pages; the same of record 0, and its real size. What
+// answers a scan, with its status, and what answers a run.
 #[test]
 fn logs_and_tables_are_answered(rt: HostRuntime) -> Result<(), Fail> {
     let log = b"refused 11 NoRestart\n".as_slice();
@@ -182,9 +183,10 @@ fn logs_and_tables_are_answered(rt: HostRuntime) -> Result<(), Fail> {
     Ok(())
 }
 
-// Record 0 with other attributes after its name, and what answers them. The table has 16 records in 32 clusters; its sizes
-// stand at 28, 30 and 38 of its data. An attribute list comes before the number of records, and that before mapping pairs
-// whose clusters aren't those up to the last VCN. Record 7 lies in two runs that touch.
+// Record 0 with other attributes after its name, and what answers them. The table has 16 records in
+// 32 clusters; its sizes stand at 28, 30 and 38 of its data. An attribute list comes before the
+// number of records, and that before mapping pairs whose clusters aren't those up to the last VCN.
+// Record 7 lies in two runs that touch.
 #[test]
 fn the_file_table_is_refused(rt: HostRuntime) -> Result<(), Fail> {
     let alloc = rt.alloc();
@@ -236,8 +238,9 @@ fn the_file_table_is_refused(rt: HostRuntime) -> Result<(), Fail> {
     Ok(())
 }
 
-// The file table in two runs of 16 clusters, at 8 and 64, in 96 clusters. Record 9 has a list, which names the name in record
-// 12. Then the entry has another type, id, number or sequence, its reference is cut, and record 12 has another base: rule 10.
+// The file table in two runs of 16 clusters, at 8 and 64, in 96 clusters. Record 9 has a list, which
+// names the name in record 12. Then the entry has another type, id, number or sequence, its reference
+// is cut, and record 12 has another base: rule 10.
 #[test]
 fn names_of_other_records_are_printed(rt: HostRuntime) -> Result<(), Fail> {
     let alloc = rt.alloc();

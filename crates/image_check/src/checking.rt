@@ -38,11 +38,11 @@ fn error_of(fault: CheckFault) -> ScanError
     }
 }
 
-/// The tree of a loaded volume that breaks none of the nine rules, without the bytes of its files and
-/// the records of its journal; it costs what [`check`] does.
+/// The tree of a loaded volume that breaks none of the nine rules, without the bytes of its files
+/// and the records of its journal; it costs what [`check`] does.
 ///
-/// - [`ScanError::Refused`]: [`Refusal::BadVolume`] with the first rule that is broken, and the least
-///   number at which it is.
+/// - [`ScanError::Refused`]: [`Refusal::BadVolume`] with the first rule that is broken, and the
+///   least number at which it is.
 /// - [`ScanError::Device`]: the view failed.
 /// - [`ScanError::Memory`]: want of memory.
 pub fn tree_on<V: View>(alloc: Global, view: &mut V, map: &VolumeMap) -> Result<Tree, ScanError>
@@ -71,8 +71,8 @@ fn judge_version(info: VolumeInfo) -> Result<(), ScanError>
 }
 
 /// Refuses a volume whose volume information (Linux-NTFS documentation, "$VOLUME_INFORMATION") isn't
-/// 3.1, by [`Refusal::Version`] with its version, or with version 0.0 where there is none. Linear in the
-/// attributes of record 3.
+/// 3.1, by [`Refusal::Version`] with its version, or with version 0.0 where there is none. Linear in
+/// the attributes of record 3.
 #[tactic(auto, unfolding(crate::specs::Checks::has_version))]
 pub fn check_version(map: &VolumeMap) -> Result<(), ScanError>
     ensures answer { Gives (λ x. x) scan_cause result (has_version (volume_in map.now)) }
@@ -171,13 +171,13 @@ fn check_device<D: Device>(alloc: Global, device: &mut D, sectors: u64) -> Resul
     check_view(alloc, &mut view, sectors)
 }
 
-/// The tree that the volume on the device stands for, without the bytes of its files and the records
-/// of its journal.
+/// The tree that the volume on the device stands for, without the bytes of its files and the
+/// records of its journal.
 ///
 /// It reads what a scan reads, but keeps all file records; then the bitmaps of the records and of
 /// the clusters, the table of upper-case units, each index, and the journal, each once. Its time is
-/// linear in these and in the file table, and near linear in the runs of all streams, which it sorts;
-/// its memory is linear in the file table and in the bitmaps.
+/// linear in these and in the file table, and near linear in the runs of all streams, which it
+/// sorts; its memory is linear in the file table and in the bitmaps.
 ///
 /// - [`ScanError::Refused`]: the first refusal that applies. First [`Refusal::Short`] of 1 and 0
 ///   where the device has no sectors; then those of the boot sector; then `Short` with the sectors
@@ -185,8 +185,9 @@ fn check_device<D: Device>(alloc: Global, device: &mut D, sectors: u64) -> Resul
 ///   8, and the log; then record 0, and all records, as recovery by the log would leave them; then
 ///   [`Refusal::Version`], where the volume information (Linux-NTFS documentation,
 ///   "$VOLUME_INFORMATION") isn't 3.1, with version 0.0 where there is none; then
-///   [`Refusal::BadVolume`] with the first of the nine rules that is broken, and the least number at
-///   which it is: of a record, of a cluster (rules 5 and 6), or of a byte of the journal (rule 9).
+///   [`Refusal::BadVolume`] with the first of the nine rules that is broken, and the least number
+///   at which it is: of a record, of a cluster (rules 5 and 6), or of a byte of the journal (rule
+///   9).
 /// - [`ScanError::Device`]: the device failed.
 /// - [`ScanError::Memory`]: want of memory.
 pub fn check_image<D: Device>(alloc: Global, device: &mut D) -> Result<Tree, ScanError>

@@ -36,8 +36,8 @@ pub struct ReadJournal {
     pub entries: UsnList,
     /// The byte of `$J` at which the journal begins.
     pub first: u64,
-    /// The real size of `$J`: the next record goes there, or, where it has no room in that page, at the
-    /// front of the next one. Zeros may stand between the last record and this byte.
+    /// The real size of `$J`: the next record goes there, or, where it has no room in that page, at
+    /// the front of the next one. Zeros may stand between the last record and this byte.
     pub next: u64,
 }
 
@@ -189,14 +189,14 @@ fn read_device<D: Device>(
 /// The records of the change journal of the volume on the device (Linux-NTFS documentation,
 /// "$UsnJrnl"; Microsoft's reference, "USN_RECORD_V2"), those of other versions left out.
 ///
-/// It reads what a check reads, and the journal once more. Its time is that of a check, and linear in
-/// the journal; its memory is that of a check, and linear in the records.
+/// It reads what a check reads, and the journal once more. Its time is that of a check, and linear
+/// in the journal; its memory is that of a check, and linear in the records.
 ///
-/// - [`ScanError::Refused`]: the first refusal that applies: one of those that come before the rules in
-///   a check; then [`Refusal::NoJournal`] with 1 where `$Extend` has no `$UsnJrnl`, 2 where its file has
-///   an attribute list, and 3 where one of its streams `$Max` and `$J` is missing or out of shape; then
-///   [`Refusal::BadVolume`] with the first of the nine rules that is broken, and the least number at
-///   which it is.
+/// - [`ScanError::Refused`]: the first refusal that applies: one of those that come before the
+///   rules in a check; then [`Refusal::NoJournal`] with 1 where `$Extend` has no `$UsnJrnl`, 2
+///   where its file has an attribute list, and 3 where one of its streams `$Max` and `$J` is
+///   missing or out of shape; then [`Refusal::BadVolume`] with the first of the nine rules that is
+///   broken, and the least number at which it is.
 /// - [`ScanError::Device`]: the device failed.
 /// - [`ScanError::Memory`]: want of memory, also where the journal has 2^32 - 1 records or more.
 pub fn read_journal<D: Device>(alloc: Global, device: &mut D) -> Result<ReadJournal, ScanError>

@@ -73,8 +73,8 @@ fn named_place(
 }
 
 /// Where the records of a loaded volume's change journal lie: the clusters of `$J` (Linux-NTFS
-/// documentation, "$UsnJrnl"). `body` is room for a body. It reads the table of upper-case units, and is
-/// linear in this and in the files' attributes.
+/// documentation, "$UsnJrnl"). `body` is room for a body. It reads the table of upper-case units,
+/// and is linear in this and in the files' attributes.
 ///
 /// - [`ScanError::Refused`]: [`Refusal::NoJournal`] with why there is no journal.
 /// - [`ScanError::Device`]: the view failed.
@@ -110,12 +110,12 @@ fn fewer(entries: UsnList) -> Result<UsnList, ScanError>
     Ok(entries)
 }
 
-/// All records of a whole journal, in these clusters, which begins at its byte `first`. A volume has
-/// `per` sectors a cluster; `body` is room for a body. Linear in the bytes of the journal, each of whose
-/// sectors takes one pass over the runs.
+/// All records of a whole journal, in these clusters, which begins at its byte `first`. A volume
+/// has `per` sectors a cluster; `body` is room for a body. Linear in the bytes of the journal, each
+/// of whose sectors takes one pass over the runs.
 ///
-/// The errors are a failure of the view, and want of memory, which comes too where there are 2^32 - 1
-/// records or more.
+/// The errors are a failure of the view, and want of memory, which comes too where there are 2^32 -
+/// 1 records or more.
 pub fn all_entries<V: View>(
     alloc: Global,
     view: &mut V,

@@ -52,9 +52,9 @@ fn sized_on(sectors: u64, boot: Boot) -> Result<Boot, ScanError>
     Ok(boot)
 }
 
-/// The fields of the boot sector (Linux-NTFS documentation, "$Boot") of the volume that a view shows,
-/// on a device of so many sectors of 512 bytes. It reads the first sector into `body`, which is room
-/// for a body, and nothing else.
+/// The fields of the boot sector (Linux-NTFS documentation, "$Boot") of the volume that a view
+/// shows, on a device of so many sectors of 512 bytes. It reads the first sector into `body`, which
+/// is room for a body, and nothing else.
 ///
 /// - [`ScanError::Refused`]: the refusal of the boot sector, or [`Refusal::Short`] with the sectors
 ///   of the volume and of the device, where the device has fewer.

@@ -95,12 +95,12 @@ fn recovered_at<V: View>(
     Ok(found.blocks.bodies)
 }
 
-/// The blocks that recovery by the log of a volume of so many clusters makes, on a device of so many
-/// sectors. It reads record 2 where the boot sector says that the file table begins, and the log;
-/// `body` is room for a body.
+/// The blocks that recovery by the log of a volume of so many clusters makes, on a device of so
+/// many sectors. It reads record 2 where the boot sector says that the file table begins, and the
+/// log; `body` is room for a body.
 ///
-/// - [`ScanError::Refused`]: `BadFixup` or `BadRecord` of record 2, by its rules 1 to 8; or `LogVersion`,
-///   `NoRestart` or `ForeignLog`, as `recover_view` says.
+/// - [`ScanError::Refused`]: `BadFixup` or `BadRecord` of record 2, by its rules 1 to 8; or
+///   `LogVersion`, `NoRestart` or `ForeignLog`, as `recover_view` says.
 /// - [`ScanError::Device`]: the view failed.
 /// - [`ScanError::Memory`]: want of memory.
 pub fn recovered_in<V: View>(

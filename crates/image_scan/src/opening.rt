@@ -25,8 +25,8 @@ pub struct Opening {
     pub geometry: Geometry,
     /// The volume's clusters.
     pub total: u64,
-    /// The blocks that recovery by the volume's log makes, with which a `RecoveredView` is the volume's
-    /// recovered content.
+    /// The blocks that recovery by the volume's log makes, with which a `RecoveredView` is the
+    /// volume's recovered content.
     pub bodies: Vec<RecoveredBlock>,
 }
 
@@ -79,13 +79,14 @@ fn open_boot<V: View>(
 }
 
 /// Opens the volume that a view shows on a device of so many sectors of 512 bytes (Linux-NTFS
-/// documentation, "$Boot", "$LogFile"): where its file table lies, how many clusters it has, and the
-/// blocks that recovery by its log makes, with which its content is the recovered one. It reads the
-/// boot sector, record 2 where this says that the file table begins, and the log. Nothing is written.
+/// documentation, "$Boot", "$LogFile"): where its file table lies, how many clusters it has, and
+/// the blocks that recovery by its log makes, with which its content is the recovered one. It reads
+/// the boot sector, record 2 where this says that the file table begins, and the log. Nothing is
+/// written.
 ///
-/// - [`ScanError::Refused`]: the refusal of the boot sector, or `Short` with the sectors of the volume
-///   and of the device, where the device has fewer; then that of record 2, by its rules 1 to 8; then
-///   that of the log.
+/// - [`ScanError::Refused`]: the refusal of the boot sector, or `Short` with the sectors of the
+///   volume and of the device, where the device has fewer; then that of record 2, by its rules 1 to
+///   8; then that of the log.
 /// - [`ScanError::Device`]: the view failed.
 /// - [`ScanError::Memory`]: want of memory.
 ///

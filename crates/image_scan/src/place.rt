@@ -135,8 +135,9 @@ fn stream_place(
     }
 }
 
-/// Where the log with this stream lies, of a volume of so many clusters on a device of so many sectors.
-/// `per` is the sectors of a cluster. The error is want of memory. Linear in the stream's runs.
+/// Where the log with this stream lies, of a volume of so many clusters on a device of so many
+/// sectors. `per` is the sectors of a cluster. The error is want of memory. Linear in the stream's
+/// runs.
 pub fn place_of(
     alloc: Global,
     per: u64,

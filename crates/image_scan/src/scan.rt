@@ -81,11 +81,12 @@ fn scan_device<D: Device>(
 /// The long names of the volume on the device, by the numbers of their files and then as they stand
 /// in the file records.
 ///
-/// It reads the boot sector, record 2 and the log, and then goes over the file table, as recovery by
-/// the log would leave it, in reads of 64 KiB where its records lie one after the other: once, and keeping only
-/// the names, as long as no file has an attribute list. At the first file that has one it begins again
-/// and keeps all records. Time is linear in the file table, and in its runs for each record; memory is
-/// linear in the names, or in the file table where a file has an attribute list.
+/// It reads the boot sector, record 2 and the log, and then goes over the file table, as recovery
+/// by the log would leave it, in reads of 64 KiB where its records lie one after the other: once,
+/// and keeping only the names, as long as no file has an attribute list. At the first file that has
+/// one it begins again and keeps all records. Time is linear in the file table, and in its runs for
+/// each record; memory is linear in the names, or in the file table where a file has an attribute
+/// list.
 ///
 /// - [`ScanError::Refused`]: the first refusal that applies. First [`Refusal::Short`] of 1 and 0
 ///   where the device has no sectors; then those of the boot sector; then `Short` with the sectors

@@ -64,8 +64,8 @@ fn few_below<V: View>(
     few_in(alloc, v, dir, levels - 1, node.entries().as_slice(), blocks)
 }
 
-// The keys of a node with these entries and below it, two at most; and the blocks below it, where there
-// are fewer.
+// The keys of a node with these entries and below it, two at most; and the blocks below it, where
+// there are fewer.
 #[cycle(few)]
 fn few_in<V: View>(
     alloc: Global,
@@ -94,8 +94,8 @@ fn few_in<V: View>(
     Ok(keys)
 }
 
-/// The keys of an index with these entries in its root, two at most; and the VCNs of its blocks, where
-/// there are fewer. It reads the nodes on two ways down at most.
+/// The keys of an index with these entries in its root, two at most; and the VCNs of its blocks,
+/// where there are fewer. It reads the nodes on two ways down at most.
 pub fn few_of<V: View>(
     alloc: Global,
     v: &mut V,

@@ -70,8 +70,8 @@ fn reversed(mut numbers: Vec<u64>) -> Vec<u64>
     numbers
 }
 
-/// What a plan of nodes comes to, with the VCNs of blocks that are gone: the new root, the changes of
-/// blocks, and the VCNs that are taken and freed.
+/// What a plan of nodes comes to, with the VCNs of blocks that are gone: the new root, the changes
+/// of blocks, and the VCNs that are taken and freed.
 ///
 /// - `Fault`: the view failed.
 /// - `Memory`: there is no memory left.

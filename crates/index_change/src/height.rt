@@ -65,8 +65,8 @@ fn tallest<V: View>(
     Ok(most)
 }
 
-/// The levels of an index with these entries in its root, as far as its nodes break no rule. It reads
-/// each node; linear in their bytes.
+/// The levels of an index with these entries in its root, as far as its nodes break no rule. It
+/// reads each node; linear in their bytes.
 pub fn height_of<V: View>(
     alloc: Global,
     v: &mut V,

@@ -132,7 +132,8 @@ impl<'a> Insertion<'a> {
         )?)
     }
 
-    // The plan where the root has no room: the levels are counted, over an index that is walked first.
+    // The plan where the root has no room: the levels are counted, over an index that is walked
+    // first.
     fn with_level<V: View>(&self, v: &mut V, held: &Held) -> Result<DirPlan, TreeFault>
         requires enough { 17 ≤ length self.now.fresh.now }
         requires held { ForSome (V.content v.old) (λ c. Holds (node_of_block c (place_of self.now.dir.now)) held.now) }
@@ -192,26 +193,26 @@ fn names_file(links: &[Link], file: FileRef) -> bool
     links.iter().any(|l| l.child.number == file.number && l.child.seq == file.seq)
 }
 
-/// The plan that puts an entry into a directory's index, whose blocks are those of `dir`: behind the
-/// entries whose names its name doesn't come before, by the table of upper-case units. The key is a
-/// file-name value, and the entry's child isn't looked at. `fresh` has the VCNs of at least seventeen
-/// blocks of `dir` that aren't in use, of which at most seventeen are taken. Nothing is changed: the
-/// new root and the changes are answered, each of the whole body of a block, with the VCNs that are
-/// taken.
+/// The plan that puts an entry into a directory's index, whose blocks are those of `dir`: behind
+/// the entries whose names its name doesn't come before, by the table of upper-case units. The key
+/// is a file-name value, and the entry's child isn't looked at. `fresh` has the VCNs of at least
+/// seventeen blocks of `dir` that aren't in use, of which at most seventeen are taken. Nothing is
+/// changed: the new root and the changes are answered, each of the whole body of a block, with the
+/// VCNs that are taken.
 ///
 /// It reads the nodes on the way to the name and those that hold keys of the same name, each twice,
-/// and takes time and memory linear in their bytes, beside a byte for each block of the place. Where
-/// the root has no room, it reads all nodes, to count the levels.
+/// and takes time and memory linear in their bytes, beside a byte for each block of the place.
+/// Where the root has no room, it reads all nodes, to count the levels.
 ///
-/// - [`TreeFault::Present`]: an entry of the same name, by the table of upper-case units, and file is
-///   there.
-/// - [`TreeFault::Node`]: a node that it met, and the rule that this node breaks; where the search for
-///   the name meets one, the first of these.
+/// - [`TreeFault::Present`]: an entry of the same name, by the table of upper-case units, and file
+///   is there.
+/// - [`TreeFault::Node`]: a node that it met, and the rule that this node breaks; where the search
+///   for the name meets one, the first of these.
 /// - [`TreeFault::Deep`]: the record that holds the root has no room, and the index has sixteen
 ///   levels.
-/// - [`TreeFault::View`]: the view failed and counts it, or there is no memory left. That there is no
-///   memory is said too where the number of the entry's file is 2^48 or more: no node spells such an
-///   entry.
+/// - [`TreeFault::View`]: the view failed and counts it, or there is no memory left. That there is
+///   no memory is said too where the number of the entry's file is 2^48 or more: no node spells
+///   such an entry.
 pub fn plan_insert<V: View>(
     alloc: Global,
     v: &mut V,

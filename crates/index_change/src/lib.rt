@@ -1,8 +1,8 @@
 //! Plans that put an entry into a directory's index over a view, or take one out of it.
 //!
-//! The contract: the changes of a plan, laid over the view's content, hold an index whose walk gives
-//! the links with that one more or less; each block is used, freed or left, once. The layouts are those
-//! of the Linux-NTFS documentation, "$INDEX_ROOT", "Index Record" and "Index Entry".
+//! The contract: the changes of a plan, laid over the view's content, hold an index whose walk
+//! gives the links with that one more or less; each block is used, freed or left, once. The layouts
+//! are those of the Linux-NTFS documentation, "$INDEX_ROOT", "Index Record" and "Index Entry".
 #![tactic(auto)]
 
 mod changing;

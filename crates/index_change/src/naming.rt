@@ -101,7 +101,8 @@ fn is_entry_of(link: &Link, child: FileRef, key: &[u8]) -> bool
         && u8_at(key, 0x41) == link.space
 }
 
-// Where a link stands against a key, by how the names stand and whether the key is that of the link.
+// Where a link stands against a key, by how the names stand and whether the key is that of the
+// link.
 fn stands_by(order: Ordering, here: bool) -> Side
     ensures { result ≡ stands_by order here }
 {

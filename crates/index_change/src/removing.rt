@@ -145,7 +145,8 @@ impl<'a> Removal<'a> {
         Ok(finish(self.alloc, v, self.dir, self.fresh, rooted, gone)?)
     }
 
-    // The plan where the root has no room: the levels are counted, over an index that is walked first.
+    // The plan where the root has no room: the levels are counted, over an index that is walked
+    // first.
     fn with_level<V: View>(&self, v: &mut V, held: &Held) -> Result<DirPlan, TreeFault>
         requires enough { 17 ≤ length self.now.fresh.now }
         requires held { ForSome (V.content v.old) (λ c. Holds (node_of_block c (place_of self.now.dir.now)) held.now) }
@@ -235,20 +236,21 @@ fn has_link(links: &[Link], link: &Link) -> bool
     links.iter().any(|l| is_same_link(link, l))
 }
 
-/// The plan that takes an entry out of a directory's index, whose blocks are those of `dir`: one with
-/// the file, the directory, the namespace and the units of the key, which is a file-name value; the
-/// entry's child isn't looked at. `fresh` has the VCNs of at least seventeen blocks of `dir` that
-/// aren't in use, of which at most seventeen are taken. Nothing is changed: the new root and the
-/// changes are answered, each of the whole body of a block, with the VCNs that are taken and freed. An
-/// index that has no entry then is a root alone, and all its blocks are freed.
+/// The plan that takes an entry out of a directory's index, whose blocks are those of `dir`: one
+/// with the file, the directory, the namespace and the units of the key, which is a file-name
+/// value; the entry's child isn't looked at. `fresh` has the VCNs of at least seventeen blocks of
+/// `dir` that aren't in use, of which at most seventeen are taken. Nothing is changed: the new root
+/// and the changes are answered, each of the whole body of a block, with the VCNs that are taken
+/// and freed. An index that has no entry then is a root alone, and all its blocks are freed.
 ///
 /// It reads the nodes on the way to the name and those that hold keys of the same name, each twice,
-/// and those on two more ways down; it takes time and memory linear in their bytes, beside a byte for
-/// each block of the place. Where the root has no room, it reads all nodes, to count the levels.
+/// and those on two more ways down; it takes time and memory linear in their bytes, beside a byte
+/// for each block of the place. Where the root has no room, it reads all nodes, to count the
+/// levels.
 ///
 /// - [`TreeFault::Absent`]: no entry is that one.
-/// - [`TreeFault::Node`]: a node that it met, and the rule that this node breaks; where the search for
-///   the name meets one, the first of these.
+/// - [`TreeFault::Node`]: a node that it met, and the rule that this node breaks; where the search
+///   for the name meets one, the first of these.
 /// - [`TreeFault::Deep`]: the record that holds the root has no room for a longer key or for a node
 ///   more, and the index has sixteen levels.
 /// - [`TreeFault::View`]: the view failed and counts it, or there is no memory left.

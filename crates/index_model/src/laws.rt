@@ -1,7 +1,8 @@
 //! The laws of indexes.
 ghost use Rattle.index_model.specs.Laws.{OneIndex, WalkIsIndex, FaultBreaks};
 
-/// Law: nodes and a root stand for one index at most, so the list of its keys is a function of them.
+/// Law: nodes and a root stand for one index at most, so the list of its keys is a function of
+/// them.
 pub fn one_index()
     ensures { OneIndex }
 {}

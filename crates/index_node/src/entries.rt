@@ -9,8 +9,8 @@ use record_model::{Entry, EntryFlags, FileNameValue, ValueFault};
 use std::alloc::{AllocError, Global};
 use std_values::NamedValue;
 
-// Reading of one entry (Linux-NTFS documentation, "Index Entry"): first whether the bytes begin with
-// a lawful one, and then the entry of its own bytes.
+// Reading of one entry (Linux-NTFS documentation, "Index Entry"): first whether the bytes begin
+// with a lawful one, and then the entry of its own bytes.
 
 // The first bytes of an entry, before its key.
 const HEAD: usize = 0x10;

@@ -11,8 +11,8 @@ use disk_model::u32_at;
 use record_model::{EntryList, NodeFlags};
 use std::alloc::Global;
 
-// The header of a node (Linux-NTFS documentation, "Index Record"), and that of a root. `node` is the
-// bytes from the node header on.
+// The header of a node (Linux-NTFS documentation, "Index Record"), and that of a root. `node` is
+// the bytes from the node header on.
 
 // Whether the first entry, the used and the allocated bytes lie in the node.
 #[tactic(auto, using(crate::proofs::Whole::too_short), unfolding(record_model::specs::Nodes::has_node_header))]

@@ -80,8 +80,8 @@ impl Node {
         })
     }
 
-    /// A node of these entries, of which the last one has no key, under this VCN, in a block that was
-    /// never written: its LSN is 0. The entries take at most 8,152 bytes.
+    /// A node of these entries, of which the last one has no key, under this VCN, in a block that
+    /// was never written: its LSN is 0. The entries take at most 8,152 bytes.
     pub fn new(vcn: u64, entries: EntryList) -> Node
         requires { node_used entries ≤ 8192 }
         ensures { result ≡ record { vcn = vcn; lsn = 0; entries = entries } }
@@ -129,9 +129,9 @@ impl Node {
         &self.entries
     }
 
-    /// Writes the node as the 4,096 bytes of an index block, with the array of the update sequence as
-    /// zeros; bytes that nothing names are zeros. The node's used bytes are at most 4,072. Linear in
-    /// the bytes.
+    /// Writes the node as the 4,096 bytes of an index block, with the array of the update sequence
+    /// as zeros; bytes that nothing names are zeros. The node's used bytes are at most 4,072.
+    /// Linear in the bytes.
     pub fn write(&self, out: &mut [u8])
         requires fits { FitsNode self.now }
         requires whole { length out.old ≡ 4096 }

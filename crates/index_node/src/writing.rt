@@ -103,8 +103,8 @@ fn put_entry(out: &mut [u8], at: usize, entry: &Entry)
     put_down(out, at + 8 * ((0x10 + key.len() + 7) / 8), entry.down);
 }
 
-/// Puts entries one behind the other from 40 (hexadecimal) on, and answers where they end. Linear in
-/// their bytes.
+/// Puts entries one behind the other from 40 (hexadecimal) on, and answers where they end. Linear
+/// in their bytes.
 pub fn put_entries(out: &mut [u8], entries: &[Entry]) -> usize
     requires numbers { All (λ (e : EntryOf). e.child.number < 2 ^ 48) entries.now }
     requires short { entries_length entries.now < 2 ^ 16 }
@@ -120,8 +120,8 @@ pub fn put_entries(out: &mut [u8], entries: &[Entry]) -> usize
     at
 }
 
-/// Puts the first 40 bytes (hexadecimal) of a block: its signature, LSN and VCN and its node header,
-/// with the array of the update sequence as zeros.
+/// Puts the first 40 bytes (hexadecimal) of a block: its signature, LSN and VCN and its node
+/// header, with the array of the update sequence as zeros.
 pub fn put_block_head(out: &mut [u8], lsn: u64, vcn: u64, used: u32, flag: u8)
     requires { 0x40 ≤ length out.old }
     ensures { out.new ≡ written 0 (node_head lsn vcn used flag) out.old }

@@ -58,8 +58,8 @@ fn push(path: &mut Vec<Frame>, frame: Frame) -> Result<(), PlanFault>
 /// The nodes on the way to the place of a new key, from below the root down, at most fifteen; each
 /// is read once.
 ///
-/// - `Node`: the first node on the way that breaks a rule; 7 where it leads to no block or below the
-///   sixteenth level.
+/// - `Node`: the first node on the way that breaks a rule; 7 where it leads to no block or below
+///   the sixteenth level.
 /// - `Failed`: a node could not be read.
 /// - `Memory`: there is no memory left.
 pub fn way<N: Nodes, T: Test>(

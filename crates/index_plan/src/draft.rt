@@ -61,7 +61,8 @@ impl Draft {
         self.fresh.pop()
     }
 
-    /// Gives a node its new entries: the node is written, or cut in two; then the node above takes an entry.
+    /// Gives a node its new entries: the node is written, or cut in two; then the node above takes
+    /// an entry.
     #[tactic(auto, unfolding(crate::specs::Lists::settle))]
     pub(crate) fn settle(
         &mut self,
@@ -129,7 +130,8 @@ impl Draft {
         Ok(pending)
     }
 
-    /// Pulls the last key out of a chain of nodes, each of which hangs below the last entry of the one before it.
+    /// Pulls the last key out of a chain of nodes, each of which hangs below the last entry of the
+    /// one before it.
     pub(crate) fn pull(
         &mut self,
         alloc: Global,

@@ -14,10 +14,10 @@ use record_model::{Entry, EntryList};
 use std::alloc::Global;
 
 /// The plan of an insertion: of each index that the nodes stand for, it makes the index with one
-/// key more, at the place that the test tells. `room` is how many bytes the root's entries may take,
-/// and `height` the number of levels of the whole index, which is looked at only where it gets one
-/// more: where it isn't known, try 16 first, and count the levels after a `Deep`. Reads each node on
-/// the way once, and takes time and memory linear in their bytes.
+/// key more, at the place that the test tells. `room` is how many bytes the root's entries may
+/// take, and `height` the number of levels of the whole index, which is looked at only where it
+/// gets one more: where it isn't known, try 16 first, and count the levels after a `Deep`. Reads
+/// each node on the way once, and takes time and memory linear in their bytes.
 ///
 /// - `Node`: the first node on the way that breaks a rule.
 /// - `Deep`: one level more is needed, and the height is 16 or more.

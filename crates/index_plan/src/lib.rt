@@ -1,7 +1,7 @@
 //! Insertion and removal in a directory's index, as the nodes that are written.
 //!
-//! The contract: of each index that the nodes stand for, a plan makes the index with one key more or
-//! less, and each VCN is used once, is left over or is freed. Nodes and entries are those of the
+//! The contract: of each index that the nodes stand for, a plan makes the index with one key more
+//! or less, and each VCN is used once, is left over or is freed. Nodes and entries are those of the
 //! Linux-NTFS documentation, "$INDEX_ROOT", "Index Record" and "Index Entry".
 #![tactic(auto)]
 

@@ -16,8 +16,8 @@ use std::alloc::{AllocError, Global};
 // The bytes of a block for entries.
 const ROOM: usize = 4032;
 
-// The bytes of an entry as it is written: its key begins at 10 (hexadecimal), and the VCN of a child
-// stands behind the key's padding to a multiple of 8.
+// The bytes of an entry as it is written: its key begins at 10 (hexadecimal), and the VCN of a
+// child stands behind the key's padding to a multiple of 8.
 #[tactic(auto, unfolding(record_model::specs::Nodes::entry_length))]
 fn entry_length(entry: &Entry) -> usize
     ensures { result ≡ entry_length entry.now }
@@ -158,8 +158,9 @@ fn has_keys(entries: &[Entry]) -> bool
     true
 }
 
-/// Whether the entries may be those of a block: each key has at most 576 bytes, each before the last
-/// has some, and all entries lie in the 4,056 bytes behind the node header. Linear in the entries.
+/// Whether the entries may be those of a block: each key has at most 576 bytes, each before the
+/// last has some, and all entries lie in the 4,056 bytes behind the node header. Linear in the
+/// entries.
 pub fn is_sized(node: &EntryList) -> bool
     ensures { (result ≡ true) ↔ Sized node.now }
 {

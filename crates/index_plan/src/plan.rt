@@ -97,7 +97,8 @@ pub fn plan_at(
     take_root(alloc, root, at, pending, draft, room, height)
 }
 
-/// The plan that takes an entry out of the place that the way leads to; key is what comes in its place.
+/// The plan that takes an entry out of the place that the way leads to; key is what comes in its
+/// place.
 #[tactic(auto, unfolding(crate::specs::Takings::removed, crate::specs::Takings::too_full))]
 fn take_out(
     alloc: Global,

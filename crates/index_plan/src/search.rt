@@ -18,8 +18,8 @@ use crate::write::Write;
 use record_model::EntryList;
 use std::alloc::{AllocError, Global};
 
-// The search for a key that is there. It goes below the first entry that the key doesn't stand behind,
-// and on through the entries of the same name.
+// The search for a key that is there. It goes below the first entry that the key doesn't stand
+// behind, and on through the entries of the same name.
 
 fn push(chain: &mut Vec<Write>, write: Write) -> Result<(), PlanFault>
     ensures pushed { OnOk result (chain.new.items ≡ chain.old.items ++ write ∷ []) }
@@ -144,11 +144,11 @@ fn look_at<N: Nodes, T: Target>(
     }
 }
 
-/// The search for a key in the node `vcn` and below it, on so many levels at most. It reads the nodes
-/// on one way down, and those between entries of the same name.
+/// The search for a key in the node `vcn` and below it, on so many levels at most. It reads the
+/// nodes on one way down, and those between entries of the same name.
 ///
-/// - `Node`: the first node that was read and breaks a rule; 7 where it leads to no block or a level
-///   too low.
+/// - `Node`: the first node that was read and breaks a rule; 7 where it leads to no block or a
+///   level too low.
 /// - `Failed`: a node could not be read.
 /// - `Memory`: there is no memory left.
 #[cycle(search)]

@@ -135,9 +135,9 @@ fn have_room(entries: &[Entry]) -> bool
     true
 }
 
-/// Whether entries have a spelling, exactly: each before the last has a file-name value as key, the last one
-/// names no file and has no key, all have children or none has, and they have room in a block.
-/// Linear in the bytes.
+/// Whether entries have a spelling, exactly: each before the last has a file-name value as key, the
+/// last one names no file and has no key, all have children or none has, and they have room in a
+/// block. Linear in the bytes.
 pub fn have_spelling(entries: &EntryList) -> bool
     ensures { (result ≡ true) ↔ HaveSpelling entries.now }
 {

@@ -92,8 +92,8 @@ fn files_after(alloc: Global, plan: DirPlan) -> Result<Vec<u64>, Fail>
     Ok(files(alloc, &links)?)
 }
 
-// The plan that puts an entry into an index, or takes it out, over a view whose call with this number
-// fails.
+// The plan that puts an entry into an index, or takes it out, over a view whose call with this
+// number fails.
 fn planned_failing(
     alloc: Global,
     row: &Row,
@@ -176,8 +176,9 @@ fn plans_nothing_over_a_fault(rt: HostRuntime) -> Result<(), Fail> {
     Ok(())
 }
 
-// The first node is read three times, to find the name, to hold the node and to change it; the way to
-// the name in the root has two nodes, and one more is read to see that the index has another name.
+// The first node is read three times, to find the name, to hold the node and to change it; the way
+// to the name in the root has two nodes, and one more is read to see that the index has another
+// name.
 #[test]
 fn tells_that_the_view_failed(rt: HostRuntime) -> Result<(), Fail> {
     let alloc = rt.alloc();

@@ -1,4 +1,5 @@
-//! Indexes of a few names in memory: the bytes of their nodes, a view of their blocks, and where they lie.
+//! Indexes of a few names in memory: the bytes of their nodes, a view of their blocks, and where
+//! they lie.
 ghost use Rattle.std.specs.Prelude.{◌≡◌, length, IfOk};
 ghost use Rattle.disk_model.specs.declared.block.BlockKind.TheVariants.{Index as index_block};
 

@@ -1,5 +1,5 @@
-//! Rows of inputs and answers of a directory's index: its nodes, its roots, walks over it and searches
-//! in it, and plans that change it. The crate has tests and what they share, and no more.
+//! Rows of inputs and answers of a directory's index: its nodes, its roots, walks over it and
+//! searches in it, and plans that change it. The crate has tests and what they share, and no more.
 #![tactic(auto)]
 
 #[cfg(test)]

@@ -338,8 +338,8 @@ fn full(alloc: Global, first: u64, down: Option<u64>) -> Result<EntryList, Alloc
     Ok(entries)
 }
 
-// An index of sixteen levels: below the root fifteen full nodes, each below the last entry of the one
-// above it, beside empty ones.
+// An index of sixteen levels: below the root fifteen full nodes, each below the last entry of the
+// one above it, beside empty ones.
 fn deep(alloc: Global) -> Result<Index, Fail> {
     let mut index = bare(alloc, 120)?;
     for level in 0..15u64 {

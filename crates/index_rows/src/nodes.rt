@@ -89,7 +89,8 @@ static ROOT_RULES: [Row; 20] = [
     Row(&[Edit(0x139, &[4])], 4),
     // a key at fault behind a child flag against the node's flag
     Row(&[Edit(0x94, &[1]), Edit(0x139, &[4])], 4),
-    // no last entry: its flag is missing and its key counts, it lies past the used bytes, or there are too few bytes
+    // no last entry: its flag is missing and its key counts, it lies past the used bytes, or there
+    // are too few bytes
     Row(&[Edit(0x14c, &[0])], 4),
     Row(&[Edit(0x14, &[0x30])], 5),
     Row(&[Edit(0x14, &[0x38])], 5),

@@ -144,7 +144,8 @@ impl Index {
         Ok(())
     }
 
-    // The plan that puts a number in, with a key of so many bytes, where the index has so many levels.
+    // The plan that puts a number in, with a key of so many bytes, where the index has so many
+    // levels.
     fn plan_with(
         &mut self,
         alloc: Global,

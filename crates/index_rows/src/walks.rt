@@ -24,7 +24,8 @@ static TREE: Row = Row(
     0,
 );
 
-// `a` and `b` in the root; `B` in the block below `b`, and `b` and `c` in the one below the last entry.
+// `a` and `b` in the root; `B` in the block below `b`, and `b` and `c` in the one below the last
+// entry.
 static SAME: Row = Row(
     Spot(&[Key(24, 0x61, 0), Key(26, 0x62, 2)], 4),
     &[

@@ -6,10 +6,10 @@ use thiserror::Error;
 #[derive(Clone, Copy, Debug, PartialEq, Eq, Error)]
 pub enum TreeFault {
     /// The node with this VCN breaks this rule; the root's VCN is 2^64 - 1. The rules are: 1 the
-    /// block begins `INDX` and its update sequence holds, 2 it has its own VCN, 3 its node header is
-    /// lawful, 4 the length and the key of each entry are, 5 it has a last entry, 6 an entry has a
-    /// child where the node's flag says so, 7 the VCN of each child lies in the allocation, isn't met
-    /// before and hangs on level 16 at most, 8 each key stands in the order of names.
+    /// block begins `INDX` and its update sequence holds, 2 it has its own VCN, 3 its node header
+    /// is lawful, 4 the length and the key of each entry are, 5 it has a last entry, 6 an entry has
+    /// a child where the node's flag says so, 7 the VCN of each child lies in the allocation, isn't
+    /// met before and hangs on level 16 at most, 8 each key stands in the order of names.
     #[error("node {vcn} of the index breaks rule {rule}")]
     Node { vcn: u64, rule: u32 },
     /// An entry of the same name and file is there.

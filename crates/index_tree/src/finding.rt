@@ -209,8 +209,8 @@ fn find_from<V: View>(
 
 /// The links of the keys of a directory's index whose name is the same as this one by the table of
 /// upper-case units, in the order of names, where the view's content holds an index at that place.
-/// It reads the nodes on the way to the name and those that hold such keys, each once; it takes time
-/// and memory linear in their bytes, beside a byte for each block of the place.
+/// It reads the nodes on the way to the name and those that hold such keys, each once; it takes
+/// time and memory linear in their bytes, beside a byte for each block of the place.
 ///
 /// - [`TreeFault::Node`]: a node that it met, and the rule that this node breaks.
 /// - [`TreeFault::View`]: the view failed and counts it, or there is no memory left.

@@ -94,8 +94,8 @@ impl Met {
         self.links
     }
 
-    /// Meets the child of a node. `Node` with rule 7 comes where its VCN lies outside the allocation
-    /// or was met before.
+    /// Meets the child of a node. `Node` with rule 7 comes where its VCN lies outside the
+    /// allocation or was met before.
     pub fn enter(&mut self, dir: &DirPlace, vcn: u64, child: u64) -> Result<(), TreeFault>
         ensures { Gives (λ _. self.new) tree_cause result (entered (place_of dir.now) self.old vcn child) }
     {

@@ -90,8 +90,8 @@ fn node_in(alloc: Global, vcn: u64, body: &Body) -> Result<Node, TreeFault>
     node_of(alloc, vcn, body.bytes())
 }
 
-/// The node with this VCN. `Node` has the first rule that it breaks, and 7 where the VCN lies outside
-/// the allocation.
+/// The node with this VCN. `Node` has the first rule that it breaks, and 7 where the VCN lies
+/// outside the allocation.
 #[tactic(auto, unfolding(index_model::specs::Indexes::node_of_block))]
 pub fn read_node<V: View>(
     alloc: Global,
@@ -127,8 +127,8 @@ fn some_node(read: Result<Node, TreeFault>) -> Result<Option<Node>, ViewFault>
 }
 
 /// The node with this VCN, where it breaks no rule: that of its block's bytes, with the LSN that
-/// stands there. There is none where the VCN lies outside the allocation, or where the node breaks a rule.
-/// It reads the one block, in time and memory linear in its bytes.
+/// stands there. There is none where the VCN lies outside the allocation, or where the node breaks
+/// a rule. It reads the one block, in time and memory linear in its bytes.
 ///
 /// - [`ViewFault::Fault`]: the view failed and counts it.
 /// - [`ViewFault::Memory`]: there is no memory left.

@@ -131,9 +131,9 @@ fn walk_from<V: View>(
 
 /// The links of the keys of a directory's index, in the order of names, where the view's content
 /// holds an index at that place: each node below the root lies in a block of the place, is met once
-/// and on level 16 at most, and each key stands before the next one or has a name of the same units.
-/// It takes time and memory linear in the bytes of the nodes, beside a byte for each block of the
-/// place, and reads each block once.
+/// and on level 16 at most, and each key stands before the next one or has a name of the same
+/// units. It takes time and memory linear in the bytes of the nodes, beside a byte for each block
+/// of the place, and reads each block once.
 ///
 /// - [`TreeFault::Node`]: the first node, in the order of the walk, that breaks a rule.
 /// - [`TreeFault::View`]: the view failed and counts it, or there is no memory left.

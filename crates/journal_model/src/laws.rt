@@ -30,8 +30,8 @@ pub fn ends_are_records()
     ensures { EndsAreRecords }
 {}
 
-/// Law: records that stand one behind the other are read one behind the other, and zeros behind them
-/// add nothing.
+/// Law: records that stand one behind the other are read one behind the other, and zeros behind
+/// them add nothing.
 pub fn records_join()
     ensures { RecordsJoin }
 {}

@@ -1,6 +1,6 @@
-//! Definitions of the change journal: a record as a reader that answers the first fault, a table that
-//! relates bytes and entries field by field, and the one spelling that is written; the records of a
-//! page, and those of a stream from one offset on to another.
+//! Definitions of the change journal: a record as a reader that answers the first fault, a table
+//! that relates bytes and entries field by field, and the one spelling that is written; the records
+//! of a page, and those of a stream from one offset on to another.
 //!
 //! The layout is that of Microsoft's reference, "USN_RECORD_V2", and of the Linux-NTFS
 //! documentation, "$UsnJrnl".

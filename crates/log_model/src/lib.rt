@@ -1,6 +1,6 @@
 //! Definitions of the log: an entry as a reader that answers the first field at fault, a table that
-//! relates bytes and entries field by field, and the one spelling that is written; and what recovery
-//! makes of a disk by a list of entries.
+//! relates bytes and entries field by field, and the one spelling that is written; and what
+//! recovery makes of a disk by a list of entries.
 //!
 //! The layout is that of the Linux-NTFS documentation, "$LogFile".
 #![tactic(auto)]

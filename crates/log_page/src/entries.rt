@@ -42,8 +42,8 @@ fn bytes_from(page: &[u8], at: usize) -> &[u8]
     used.split_at(at.min(used.len())).1
 }
 
-// The entry with the LSN of its place that stands at an offset of the page whose first entry has the
-// LSN `first`.
+// The entry with the LSN of its place that stands at an offset of the page whose first entry has
+// the LSN `first`.
 #[tactic(auto, unfolding(crate::specs::RecordPages::entry_in))]
 fn own_entry(alloc: Global, page: &[u8], first: u64, at: usize) -> Result<Option<Entry>, PageFault>
     requires size { length page.now ≡ 4096 }
@@ -160,13 +160,13 @@ fn append_in(
 }
 
 /// Appends to a log's entries those of the page of the ring (Linux-NTFS documentation, "$LogFile",
-/// "Record page") whose first entry has this LSN, in a log of so many pages, as it stands on the disk:
-/// the entries from the offset `from` in the page on, 40 (hexadecimal) for all.
+/// "Record page") whose first entry has this LSN, in a log of so many pages, as it stands on the
+/// disk: the entries from the offset `from` in the page on, 40 (hexadecimal) for all.
 ///
 /// - [`PageFault::NotWhole`]: the bytes don't begin `RCRD`, their update sequence doesn't hold, the
 ///   first entry has another LSN, or the last one is of another lap. No entry is appended.
-/// - [`PageFault::Foreign`]: an entry isn't one of this host, by the LSN of its place. Those before it
-///   are appended.
+/// - [`PageFault::Foreign`]: an entry isn't one of this host, by the LSN of its place. Those before
+///   it are appended.
 /// - [`PageFault::Memory`]: want of memory. A front of the entries may be appended.
 ///
 /// Each entry that is appended has a spelling. It takes time and memory linear in the page.
@@ -189,8 +189,8 @@ pub fn append_page(
     append_in(alloc, entries, page, &mut [0; PAGE], pages, lsn, from)
 }
 
-/// Appends to a log's entries those of this page of the ring, read in this lap, as [`append_page`] does
-/// with its errors. A page whose first LSN has more than 64 bits isn't whole.
+/// Appends to a log's entries those of this page of the ring, read in this lap, as [`append_page`]
+/// does with its errors. A page whose first LSN has more than 64 bits isn't whole.
 pub fn append_at(
     alloc: Global,
     entries: &mut Vec<Entry>,
@@ -214,8 +214,8 @@ pub fn append_at(
     }
 }
 
-/// The entries of the page of the ring whose first entry has this LSN, in a log of so many pages, as
-/// it stands on the disk; there is at least one.
+/// The entries of the page of the ring whose first entry has this LSN, in a log of so many pages,
+/// as it stands on the disk; there is at least one.
 ///
 /// The errors are those of [`append_page`]; [`PageFault::Foreign`] names the first entry that isn't
 /// one of this host. It takes time and memory linear in the page.

@@ -13,15 +13,15 @@ pub fn lsn_says_place()
     ensures { LsnSaysPlace }
 {}
 
-/// Law: a restart page that is written is read as the same fields, by whatever check word its update
-/// sequence is made.
+/// Law: a restart page that is written is read as the same fields, by whatever check word its
+/// update sequence is made.
 pub fn restart_read_again()
     ensures { RestartReadAgain }
 {}
 
-/// Law: of a page that was written over another one by a picked check word, either no sector is old,
-/// or none is new, or its update sequence doesn't hold; so a record page that holds an old sector isn't
-/// whole at its new LSN. A page is whole at one LSN at most.
+/// Law: of a page that was written over another one by a picked check word, either no sector is
+/// old, or none is new, or its update sequence doesn't hold; so a record page that holds an old
+/// sector isn't whole at its new LSN. A page is whole at one LSN at most.
 pub fn written_pages()
     ensures { WrittenPages }
 {}

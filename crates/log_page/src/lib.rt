@@ -1,5 +1,5 @@
-//! The log's pages: restart pages, which say where reading begins, and the record pages of the ring,
-//! which hold entries; with their places, their log sequence numbers and their check words.
+//! The log's pages: restart pages, which say where reading begins, and the record pages of the
+//! ring, which hold entries; with their places, their log sequence numbers and their check words.
 //!
 //! The layouts are those of the Linux-NTFS documentation, "$LogFile", "Restart page" and "Record
 //! page".

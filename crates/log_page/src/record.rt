@@ -28,8 +28,8 @@ pub fn said_lsn(page: &[u8]) -> Option<u64>
     }
 }
 
-// Whether a page whose update sequence was undone is a record page of the ring whose first entry has
-// this LSN.
+// Whether a page whose update sequence was undone is a record page of the ring whose first entry
+// has this LSN.
 pub fn is_record_page(page: &[u8], pages: u64, lsn: u64) -> bool
     requires size { length page.now ≡ 4096 }
     requires small { pages < 2 ^ 52 }

@@ -215,8 +215,8 @@ fn is_newer(first: Restart, second: Restart) -> bool
         || (first.current == second.current && first.opens < second.opens)
 }
 
-/// Whether of the log's two restart pages the second one is chosen: it alone is whole, or it has the
-/// greater current LSN, or the same one and the greater open count.
+/// Whether of the log's two restart pages the second one is chosen: it alone is whole, or it has
+/// the greater current LSN, or the same one and the greater open count.
 pub fn is_second_chosen(
     first: Result<Restart, PageFault>,
     second: Result<Restart, PageFault>,
@@ -244,8 +244,8 @@ pub fn chosen(
     }
 }
 
-/// Whether the log was emptied, by its first two pages as they stand on the disk: neither is a whole
-/// restart page, and one of them is all FF (hexadecimal).
+/// Whether the log was emptied, by its first two pages as they stand on the disk: neither is a
+/// whole restart page, and one of them is all FF (hexadecimal).
 pub fn is_emptied(first: &[u8], second: &[u8]) -> bool
     requires first { length first.now ≡ 4096 }
     requires second { length second.now ≡ 4096 }
@@ -257,12 +257,13 @@ pub fn is_emptied(first: &[u8], second: &[u8]) -> bool
 }
 
 impl Restart {
-    /// The fields of a restart page (Linux-NTFS documentation, "$LogFile"), of whose 4,096 bytes the
-    /// update sequence isn't undone yet.
+    /// The fields of a restart page (Linux-NTFS documentation, "$LogFile"), of whose 4,096 bytes
+    /// the update sequence isn't undone yet.
     ///
-    /// [`PageFault::NotWhole`]: the bytes don't begin `RSTR`, their update sequence doesn't hold, the
-    /// system page size isn't 4,096, the restart area or the entry of a client ends outside the page,
-    /// or the list of clients in use neither is empty nor begins at a client. It is the only error.
+    /// [`PageFault::NotWhole`]: the bytes don't begin `RSTR`, their update sequence doesn't hold,
+    /// the system page size isn't 4,096, the restart area or the entry of a client ends outside the
+    /// page, or the list of clients in use neither is empty nor begins at a client. It is the only
+    /// error.
     pub fn read(page: &[u8]) -> Result<Restart, PageFault>
         requires { length page.now ≡ 4096 }
         ensures value { result ≡ restart_of page.now }
@@ -277,10 +278,10 @@ impl Restart {
         !self.used || self.clean
     }
 
-    /// Writes the restart page of a log of this host, 4,096 bytes, before its update sequence is made
-    /// (`fixup_record::protect`): version 1.1, the array at 1E (hexadecimal), the restart area at 30
-    /// and in it one client named `NTFSHOST`, whose restart LSN is its oldest LSN; zeros where no field
-    /// is.
+    /// Writes the restart page of a log of this host, 4,096 bytes, before its update sequence is
+    /// made (`fixup_record::protect`): version 1.1, the array at 1E (hexadecimal), the restart area
+    /// at 30 and in it one client named `NTFSHOST`, whose restart LSN is its oldest LSN; zeros
+    /// where no field is.
     pub fn write(&self, page: &mut [u8])
         requires fits { FitsRestart self.now }
         requires whole { length page.old ≡ 4096 }

@@ -14,9 +14,10 @@ pub enum RecoveryFault {
     /// No restart page is whole, and the log wasn't emptied.
     #[error("no restart page")]
     NoRestart,
-    /// The log isn't clean and isn't this host's, with the LSN of the entry that shows it, or of the first
-    /// update of a block that is recovered in part; the current LSN of the restart page where the first
-    /// client is another host's; or the greatest LSN, where too few laps are left above it.
+    /// The log isn't clean and isn't this host's, with the LSN of the entry that shows it, or of
+    /// the first update of a block that is recovered in part; the current LSN of the restart page
+    /// where the first client is another host's; or the greatest LSN, where too few laps are left
+    /// above it.
     #[error("foreign log at {lsn}")]
     ForeignLog { lsn: u64 },
     /// The view failed.

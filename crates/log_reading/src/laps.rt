@@ -135,9 +135,9 @@ fn greater(a: Option<u64>, b: Option<u64>) -> Option<u64>
     }
 }
 
-/// The greatest of the chosen restart page's current LSN and the LSNs that the pages of the ring say,
-/// whole or not; none where there is neither. It reads the first sector of each page that lies on the
-/// device into `body`, which is room for a body.
+/// The greatest of the chosen restart page's current LSN and the LSNs that the pages of the ring
+/// say, whole or not; none where there is neither. It reads the first sector of each page that lies
+/// on the device into `body`, which is room for a body.
 ///
 /// - [`RecoveryFault::Fault`]: the view failed. The other error is want of memory.
 ///

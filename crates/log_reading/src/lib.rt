@@ -1,5 +1,5 @@
-//! The log of a volume on a view of its disk: its pages, what its two restart pages say, the entries
-//! of the live log, and its greatest LSN.
+//! The log of a volume on a view of its disk: its pages, what its two restart pages say, the
+//! entries of the live log, and its greatest LSN.
 //!
 //! The layouts are those of the Linux-NTFS documentation, "$LogFile".
 #![tactic(auto)]

@@ -27,8 +27,8 @@ fn sector_in(runs: &[Extent], n: u64) -> Option<u64>
     None
 }
 
-// Where the log's sector with this number lies on the device, if it begins below the initialised size
-// and lies there.
+// Where the log's sector with this number lies on the device, if it begins below the initialised
+// size and lies there.
 fn log_sector(place: &LogPlace, n: u64) -> Option<u64>
     requires place { IsLogPlace place.now }
     requires small { n < 2 ^ 55 }
@@ -70,7 +70,8 @@ fn clear_rest(body: &mut Body, valid: u64)
     }
 }
 
-// Reads a sector of the device of which so many bytes are initialised, in place of what `body` held.
+// Reads a sector of the device of which so many bytes are initialised, in place of what `body`
+// held.
 pub(crate) fn read_sector<V: View>(
     view: &mut V,
     first: u64,
@@ -117,8 +118,8 @@ fn append_sector<V: View>(
     Ok(())
 }
 
-/// Reads the page of the log with this number, in place of what `page` held: at most eight blocks of
-/// the view, and 4,096 bytes.
+/// Reads the page of the log with this number, in place of what `page` held: at most eight blocks
+/// of the view, and 4,096 bytes.
 ///
 /// - [`RecoveryFault::Fault`]: the view failed. The other error is want of memory.
 pub fn read_page<V: View>(

@@ -19,8 +19,8 @@ pub struct Shadow {
 pub struct RecoveredBlocks {
     /// The blocks that recovery writes out, each once.
     pub bodies: Vec<RecoveredBlock>,
-    /// The shadowed blocks, each once, of those that an entry may update: a file record begins in an
-    /// even sector, an index block in the first of eight. They may have no update of their own.
+    /// The shadowed blocks, each once, of those that an entry may update: a file record begins in
+    /// an even sector, an index block in the first of eight. They may have no update of their own.
     pub shadows: Vec<Shadow>,
 }
 

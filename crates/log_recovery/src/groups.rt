@@ -11,12 +11,12 @@ use log_model::Entry;
 use std::alloc::{AllocError, Global};
 use std::collections::BTreeMap;
 
-/// For each cluster the updates, in order, of all blocks that may share a sector with one that begins
-/// in it.
+/// For each cluster the updates, in order, of all blocks that may share a sector with one that
+/// begins in it.
 pub type Groups<'a> = BTreeMap<u64, Vec<&'a Entry>>;
 
-/// The group of a cluster, in time logarithmic in the number of groups; `none`, without entries, where
-/// it has none.
+/// The group of a cluster, in time logarithmic in the number of groups; `none`, without entries,
+/// where it has none.
 pub fn group_at<'a, 'b>(
     groups: &'b Groups<'a>,
     cluster: u64,
@@ -86,8 +86,8 @@ fn add<'a>(
     Ok(())
 }
 
-/// The groups of these entries. Each entry is in three of them at most, so it takes near-linear time
-/// and linear memory; the error is want of memory.
+/// The groups of these entries. Each entry is in three of them at most, so it takes near-linear
+/// time and linear memory; the error is want of memory.
 pub fn groups_of<'a>(alloc: Global, entries: &'a [Entry]) -> Result<Groups<'a>, AllocError>
     ensures { IfOk result (λ groups. HasGroups groups entries.now) }
 {

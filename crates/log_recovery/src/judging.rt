@@ -60,8 +60,8 @@ fn judge_seen(
     Ok(Judged::Kept)
 }
 
-/// What is found of a block by these entries. `body` is room for its body. The view isn't asked for a
-/// block that is shadowed.
+/// What is found of a block by these entries. `body` is room for its body. The view isn't asked for
+/// a block that is shadowed.
 ///
 /// - [`RecoveryFault::Fault`]: the view failed. The other error is want of memory.
 pub fn judge<V: View>(

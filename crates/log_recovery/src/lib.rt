@@ -1,11 +1,11 @@
 //! Recovery of a disk by the entries of its log.
 //!
-//! Of a block with an update, all updates are undone backwards, and then those of ended transactions
-//! are redone forwards. A block is shadowed where an update of a rival, another kind of block that
-//! shares a sector with it, stands after its own last ended update, or anywhere where it has none:
-//! such a block stays as it is. It may have no update of its own; which blocks are shadowed is told of
-//! all that an entry may update: sectors, file records that begin in an even sector, and index blocks
-//! that begin in the first of eight.
+//! Of a block with an update, all updates are undone backwards, and then those of ended
+//! transactions are redone forwards. A block is shadowed where an update of a rival, another kind
+//! of block that shares a sector with it, stands after its own last ended update, or anywhere where
+//! it has none: such a block stays as it is. It may have no update of its own; which blocks are
+//! shadowed is told of all that an entry may update: sectors, file records that begin in an even
+//! sector, and index blocks that begin in the first of eight.
 #![tactic(auto)]
 
 mod covering;

@@ -35,8 +35,8 @@ fn key_of(block: Block) -> (u64, u8)
     (block.first, kind_number(block.kind))
 }
 
-/// Meets a block, in time logarithmic in their number: whether for the first time. The error is want
-/// of memory.
+/// Meets a block, in time logarithmic in their number: whether for the first time. The error is
+/// want of memory.
 pub fn meet(met: &mut Met, block: Block) -> Result<bool, AllocError>
     ensures first { IfOk result (λ first. first ≡ not (contains key_order met.old (key_of block))) }
     ensures met { OnOk result ((b : BlockOf) → contains key_order met.new (key_of b) ≡ (contains key_order met.old (key_of b) || same_block b block)) }

@@ -1,4 +1,5 @@
-//! Recovery: the bodies block by block, in the order of their first updates, and the shadowed blocks.
+//! Recovery: the bodies block by block, in the order of their first updates, and the shadowed
+//! blocks.
 ghost use Rattle.std.specs.Prelude.{◌≡◌, ◌+◌, ◌<◌, ◌++◌, ◌∷◌, [], All, OnOk, IfOk, IfSome, IfErr, IsErrOf, length, take};
 ghost use Rattle.std.specs.Ordering.{nat_cmp};
 ghost use Rattle.std.specs.BTreeSet.{contains};
@@ -135,16 +136,16 @@ fn recover_placed<V: View>(
 /// eight, or any other sector. `clusters` is the number of the volume's clusters, of eight sectors
 /// each. Nothing is written.
 ///
-/// - [`RecoveryFault::ForeignLog`]: the entry with this LSN is the first that reaches past the volume
-///   or its block's body; or, where there is none, the first update of a file record or an index
-///   block that isn't shadowed, isn't covered whole and isn't on the disk as it is recovered.
-/// - [`RecoveryFault::Fault`]: the view failed. The other error is want of memory, or an update of a
-///   block whose last sector has no number of 64 bits.
+/// - [`RecoveryFault::ForeignLog`]: the entry with this LSN is the first that reaches past the
+///   volume or its block's body; or, where there is none, the first update of a file record or an
+///   index block that isn't shadowed, isn't covered whole and isn't on the disk as it is recovered.
+/// - [`RecoveryFault::Fault`]: the view failed. The other error is want of memory, or an update of
+///   a block whose last sector has no number of 64 bits.
 ///
-/// It takes time near-linear in the number of entries and in their bytes, and linear in the sizes of
-/// the blocks with an update, whatever the log says: an entry is looked at a few times for each of at
-/// most 72 blocks. Memory is linear in the number of entries and in the bodies that it answers. The
-/// view is asked once for each block with an update that isn't shadowed.
+/// It takes time near-linear in the number of entries and in their bytes, and linear in the sizes
+/// of the blocks with an update, whatever the log says: an entry is looked at a few times for each
+/// of at most 72 blocks. Memory is linear in the number of entries and in the bodies that it
+/// answers. The view is asked once for each block with an update that isn't shadowed.
 pub fn recover_entries<V: View>(
     alloc: Global,
     view: &mut V,

@@ -17,8 +17,8 @@ use disk_model::{Block, BlockKind};
 use log_model::Entry;
 use std::alloc::{AllocError, Global};
 
-// Whether an entry may update it: a file record begins in an even sector, an index block in the first
-// of eight.
+// Whether an entry may update it: a file record begins in an even sector, an index block in the
+// first of eight.
 fn is_in_grid(block: Block) -> bool
     ensures { result ≡ is_in_grid block }
 {
@@ -106,9 +106,9 @@ fn note_cluster(
 }
 
 /// The blocks of the grid that are shadowed, each once, by the groups of a log: cluster by cluster.
-/// Of each cluster with a group it judges 13 blocks by that group's entries, so it takes time linear in
-/// the sizes of the groups. The error is want of memory, or a group of a cluster whose sectors have no
-/// numbers of 64 bits.
+/// Of each cluster with a group it judges 13 blocks by that group's entries, so it takes time
+/// linear in the sizes of the groups. The error is want of memory, or a group of a cluster whose
+/// sectors have no numbers of 64 bits.
 pub fn shadows_of(alloc: Global, ended: &Ended, groups: &Groups) -> Result<Vec<Shadow>, AllocError>
     ensures held { IfOk result (λ shadows. (b : BlockOf) → held_lsn shadows.items b ≡ shadow_in (contains nat_cmp ended.now) groups.now b) }
     ensures once { IfOk result (λ shadows. IsDistinct same_block (map shadow_block shadows.items)) }

@@ -67,8 +67,8 @@ impl<'a, V: View> View for RecoveredView<'a, V> {
 
     ghost kept = { λ o. record { reference = o.view.ghost_name; content = V.content o.view.now; kept = V.kept o.view.now } };
 
-    /// One search among the bodies, or the view's body: of a block that has a body here the view isn't
-    /// asked, so that it can't fail.
+    /// One search among the bodies, or the view's body: of a block that has a body here the view
+    /// isn't asked, so that it can't fail.
     fn body(&mut self, block: Block, out: &mut Body) -> Result<(), ViewFault>
         ensures body { OnOk result (IfSome (⟦<RecoveredView<'a, V> as View>⟧.content self.old) (λ c. out.new ≡ c block)) }
         ensures size { OnOk result (length out.new.bytes ≡ 512 * sectors block.kind) }

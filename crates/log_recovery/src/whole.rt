@@ -193,17 +193,17 @@ fn lap_in<V: View>(
     lap_by(place.pages, greatest)
 }
 
-/// What recovery finds by the log that lies at this place of the volume that a view shows. A clean or
-/// an emptied log has no entries. Nothing is written.
+/// What recovery finds by the log that lies at this place of the volume that a view shows. A clean
+/// or an emptied log has no entries. Nothing is written.
 ///
 /// - [`RecoveryFault::LogVersion`]: the chosen restart page is of another major version than 1.
-/// - [`RecoveryFault::NoRestart`]: neither of the first two pages is a whole restart page, and none is
-///   all FF.
-/// - [`RecoveryFault::ForeignLog`]: the log isn't clean, and its first client is another host's: with
-///   the restart page's current LSN. Or an entry isn't one of this host, or reaches past the volume or
-///   its block's body: with the LSN of the first one's place. Or a block is recovered in part, as
-///   [`recover_entries`](crate::recover_entries) says: with the LSN of its first update. Or fewer than
-///   2^16 laps are left above the greatest LSN: with that LSN.
+/// - [`RecoveryFault::NoRestart`]: neither of the first two pages is a whole restart page, and none
+///   is all FF.
+/// - [`RecoveryFault::ForeignLog`]: the log isn't clean, and its first client is another host's:
+///   with the restart page's current LSN. Or an entry isn't one of this host, or reaches past the
+///   volume or its block's body: with the LSN of the first one's place. Or a block is recovered in
+///   part, as [`recover_entries`](crate::recover_entries) says: with the LSN of its first update.
+///   Or fewer than 2^16 laps are left above the greatest LSN: with that LSN.
 /// - [`RecoveryFault::Fault`]: the view failed. The other error is want of memory.
 ///
 /// Time is linear in the log's pages on the device and in its runs for each, and near-linear in the
@@ -234,9 +234,9 @@ pub fn recover_view<V: View>(
 
 /// The same on a device, which is only read.
 ///
-/// The errors are those of [`recover_view`]; [`RecoveryFault::Fault`] is a failure of the device. Its
-/// time is that of `recover_view`, and memory is linear in the entries, with room for one piece of 64
-/// KiB.
+/// The errors are those of [`recover_view`]; [`RecoveryFault::Fault`] is a failure of the device.
+/// Its time is that of `recover_view`, and memory is linear in the entries, with room for one piece
+/// of 64 KiB.
 pub fn recover<D: Device>(
     alloc: Global,
     device: &mut D,

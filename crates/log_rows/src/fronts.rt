@@ -9,8 +9,8 @@ use sector_device::MemoryDevice;
 use std::process::Abort;
 use std::test::Fail;
 
-// Pages that are a restart page of version 2.0, zeros, torn or FF; what refuses the log, or the place
-// of the next restart page.
+// Pages that are a restart page of version 2.0, zeros, torn or FF; what refuses the log, or the
+// place of the next restart page.
 #[test]
 fn the_first_two_pages_decide(rt: HostRuntime) -> Result<(), Fail> {
     let alloc = rt.alloc();

@@ -1,6 +1,6 @@
-//! Rows of inputs and answers of a volume's log: its entries and its pages, what is read of them, what
-//! recovery by it makes, what a scan then shows, and what refuses it. The crate has tests and the
-//! builders of log pages, and no more.
+//! Rows of inputs and answers of a volume's log: its entries and its pages, what is read of them,
+//! what recovery by it makes, what a scan then shows, and what refuses it. The crate has tests and
+//! the builders of log pages, and no more.
 #![tactic(auto)]
 
 mod pages;

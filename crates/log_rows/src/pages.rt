@@ -36,8 +36,8 @@ fn put_words(page: &mut [u8], words: &[(usize, u16)])
     }
 }
 
-/// A restart page (Linux-NTFS documentation, "$LogFile") with these fields, and then with other words
-/// at some offsets. The error is want of memory.
+/// A restart page (Linux-NTFS documentation, "$LogFile") with these fields, and then with other
+/// words at some offsets. The error is want of memory.
 pub fn restart_page(
     alloc: Global,
     restart: &Restart,
@@ -53,8 +53,9 @@ pub fn restart_page(
     Ok(page)
 }
 
-/// The body of a file record that stands as these bytes on a disk, and the body with another byte at
-/// this offset. A record that is torn has no body: then the bytes stay. The error is want of memory.
+/// The body of a file record that stands as these bytes on a disk, and the body with another byte
+/// at this offset. A record that is torn has no body: then the bytes stay. The error is want of
+/// memory.
 pub fn changed_body(
     alloc: Global,
     raw: &[u8],
@@ -74,8 +75,8 @@ pub fn changed_body(
     Ok((old, new))
 }
 
-/// An update of the file record in this sector, which is even: `redo` for `undo` from the byte `at` on.
-/// The error is want of memory.
+/// An update of the file record in this sector, which is even: `redo` for `undo` from the byte `at`
+/// on. The error is want of memory.
 pub fn record_update(
     alloc: Global,
     first: u64,
@@ -134,8 +135,8 @@ impl EntryPage {
         Ok(lsn)
     }
 
-    /// The bytes of the page; a page of zeros where its entries have no room in it. The error is want
-    /// of memory.
+    /// The bytes of the page; a page of zeros where its entries have no room in it. The error is
+    /// want of memory.
     pub fn bytes(&self, alloc: Global) -> Result<Vec<u8>, AllocError>
         ensures { IfOk result (λ page. length page.items ≡ 4096) }
     {

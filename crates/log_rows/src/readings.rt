@@ -248,7 +248,8 @@ fn a_torn_page_ends_the_live_log(rt: HostRuntime) -> Result<(), Fail> {
     let mut place = place(alloc)?;
     let fault = live_log(alloc, &mut view, &place, FIRST).err();
     assert_eq!(rt; fault, Some(RecoveryFault::Fault));
-    // The check word is below 256, so that the last byte of a page is zero whether initialised or not.
+    // The check word is below 256, so that the last byte of a page is zero whether initialised or
+    // not.
     place.initialised = 512 * 48 - 1;
     let live = live_log(alloc, &mut view, &place, FIRST)?;
     assert_eq!(rt; live.entries.len(), 4);

@@ -83,8 +83,8 @@ fn rival_of(found: &Recovered, first: u64, kind: BlockKind) -> Option<u64> {
     None
 }
 
-// The last ended update of the file record stands before one of its first sector, which itself has no
-// ended update. Blocks with no update that share a sector with these are shadowed too.
+// The last ended update of the file record stands before one of its first sector, which itself has
+// no ended update. Blocks with no update that share a sector with these are shadowed too.
 #[test]
 fn rivals_shadow_each_other(rt: HostRuntime) -> Result<(), Fail> {
     let alloc = rt.alloc();

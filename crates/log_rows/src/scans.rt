@@ -98,8 +98,8 @@ fn an_entry_past_the_volume_is_foreign(rt: HostRuntime) -> Result<(), Fail> {
     Ok(())
 }
 
-// Half of record 10 is covered, and is recovered to another body, or to that of the disk; and all of
-// it by two updates.
+// Half of record 10 is covered, and is recovered to another body, or to that of the disk; and all
+// of it by two updates.
 #[test]
 fn a_record_covered_in_part_is_foreign(rt: HostRuntime) -> Result<(), Fail> {
     let alloc = rt.alloc();
@@ -172,8 +172,8 @@ fn other() -> Restart
     restart
 }
 
-// Each call of a scan fails in its turn: the first one of the first scan, the second one of the second
-// scan, and so on. So the first calls that fail are 1, 3, 6 and 10 calls after the making.
+// Each call of a scan fails in its turn: the first one of the first scan, the second one of the
+// second scan, and so on. So the first calls that fail are 1, 3, 6 and 10 calls after the making.
 #[test]
 fn a_device_that_fails_ends_a_scan(rt: HostRuntime) -> Result<(), Fail> {
     let alloc = rt.alloc();

@@ -1,5 +1,5 @@
-//! Recovery by a log of six pages: emptied, without a restart page, without laps, and on a device that
-//! fails.
+//! Recovery by a log of six pages: emptied, without a restart page, without laps, and on a device
+//! that fails.
 ghost use Rattle.std.specs.Prelude.{◌≡◌, ◌*◌, ◌≤◌, IfOk, length};
 ghost use Rattle.log_reading.specs.LogPages.{IsLogPlace};
 
@@ -64,7 +64,8 @@ fn device(
     Ok(MemoryDevice::new(bytes, failing.to_vec(alloc)?))
 }
 
-/// A device whose pages are all FF, but for the head of page 4, a record page whose last LSN is this.
+/// A device whose pages are all FF, but for the head of page 4, a record page whose last LSN is
+/// this.
 fn device_with(alloc: Global, lsn: u64) -> Result<MemoryDevice, AllocError> {
     let mut bytes = filled(alloc, 0xFF, 512)?;
     put_bytes(&mut bytes, PAGE_4, b"RCRD");

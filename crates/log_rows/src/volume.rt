@@ -1,5 +1,5 @@
-//! A new volume of 16,384 sectors, whose log lies in 513 clusters from the sector 416 on, with pages of
-//! its log; and what recovery by it makes.
+//! A new volume of 16,384 sectors, whose log lies in 513 clusters from the sector 416 on, with
+//! pages of its log; and what recovery by it makes.
 ghost use Rattle.std.specs.Prelude.{◌≡◌, IfOk, IsTrue};
 ghost use Rattle.log_model.specs.Entries.{FitsAct};
 ghost use Rattle.log_reading.specs.LogPages.{IsLogPlace};

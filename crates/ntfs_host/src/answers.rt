@@ -186,11 +186,11 @@ fn format_answer<D: Device>(
     Ok(formatted_line(alloc, formatted)?)
 }
 
-/// The text that answers a command on the device, which is only read but by a format; it takes memory
-/// for two copies of the text.
+/// The text that answers a command on the device, which is only read but by a format; it takes
+/// memory for two copies of the text.
 ///
-/// The errors are want of memory, a failure of the device, and the first refusal that applies, which
-/// leaves the device as it was.
+/// The errors are want of memory, a failure of the device, and the first refusal that applies,
+/// which leaves the device as it was.
 pub fn answer<D: Device>(
     alloc: Global,
     command: &Quiet,

@@ -9,7 +9,7 @@ pub enum Quiet {
     Check,
     /// Prints the records of the volume's change journal.
     Journal,
-    /// Makes a new volume with this serial number; all its times are `time`, in units of 100 ns since
-    /// 1601-01-01.
+    /// Makes a new volume with this serial number; all its times are `time`, in units of 100 ns
+    /// since 1601-01-01.
     Format { seed: u64, time: u64 },
 }

@@ -32,8 +32,8 @@ const USAGE_LINE: &str = "usage: ntfshost IMAGE COMMAND [--time N] [--seed N] [-
 ///
 /// The status is 0 where the command was done and its whole text written, 2 where the words are no
 /// line of a command, 3 where the image was refused, 4 where the script was, 5 where a read of the
-/// source failed, 6 for want of memory, 7 where a write of the sink failed and 8 where a call of the
-/// device failed.
+/// source failed, 6 for want of memory, 7 where a write of the sink failed and 8 where a call of
+/// the device failed.
 #[derive(Drop)]
 pub struct Outcome<D> {
     pub status: u8,
@@ -98,44 +98,44 @@ fn answer_into<K: Sink, D: Device>(
     }
 }
 
-/// Does a command that runs no script, on the device; its text, or the line of the first refusal that
-/// applies, goes to the sink. The device is only read, but by `Format`.
+/// Does a command that runs no script, on the device; its text, or the line of the first refusal
+/// that applies, goes to the sink. The device is only read, but by `Format`.
 ///
 /// `Scan` prints a line for each long name of a file record in use, `N S P Q NAME` with the number
 /// and sequence of the file and of its directory, by file number, directory number and raw units,
 /// and then `links K`. It takes each volume whose boot sector is in the profile, wherever its file
-/// table lies, and attribute lists. It reads the boot sector, record 2 and the log, by which it recovers the
-/// volume in memory, and then goes over the file table, in reads of 64 KiB where its records lie one
-/// behind the other: once, or twice where a file has an attribute list. Its time is linear in the log's
-/// pages on the device and near linear in its entries, linear in the file table, and in its runs for
-/// each record, and near linear in the links, which it sorts; its memory grows with the entries of the
-/// log and the links, or with the file table where a file has an attribute list, and has room for the
-/// text twice.
+/// table lies, and attribute lists. It reads the boot sector, record 2 and the log, by which it
+/// recovers the volume in memory, and then goes over the file table, in reads of 64 KiB where its
+/// records lie one behind the other: once, or twice where a file has an attribute list. Its time is
+/// linear in the log's pages on the device and near linear in its entries, linear in the file
+/// table, and in its runs for each record, and near linear in the links, which it sorts; its memory
+/// grows with the entries of the log and the links, or with the file table where a file has an
+/// attribute list, and has room for the text twice.
 ///
-/// `Dump` prints the tree that the volume stands for: by number a line for each node, `node N S KIND
-/// SIZE VALID CLUSTERS CREATED MODIFIED CHANGED READ`, with sizes in bytes and times in units of 100
-/// ns since 1601-01-01; the links in the order of a scan, first the long ones as `link N P long NAME`
-/// and then the short ones as `link N P short NAME`; `journal FIRST NEXT REACH`, or `journal -` where
-/// there is none; and `room R`, the free clusters. `Check` prints of that tree `ok nodes N links L
-/// room R journal FIRST NEXT`, or `journal -` at the end; its links are the long and the short ones.
-/// Both refuse what a scan refuses; then a version other than 3.1; and then a volume that breaks one
-/// of the nine rules under which it stands for a tree, by the first that is broken and the least
-/// number at which it is. They read what a scan reads; then the bitmaps, the table of upper-case
-/// units, each index and the change journal, each once. Their time is linear in what they read and
-/// near linear in the runs of all streams, which they sort; their memory grows with the file table
-/// and the bitmaps, and has room for the text twice.
+/// `Dump` prints the tree that the volume stands for: by number a line for each node, `node N S
+/// KIND SIZE VALID CLUSTERS CREATED MODIFIED CHANGED READ`, with sizes in bytes and times in units
+/// of 100 ns since 1601-01-01; the links in the order of a scan, first the long ones as `link N P
+/// long NAME` and then the short ones as `link N P short NAME`; `journal FIRST NEXT REACH`, or
+/// `journal -` where there is none; and `room R`, the free clusters. `Check` prints of that tree
+/// `ok nodes N links L room R journal FIRST NEXT`, or `journal -` at the end; its links are the
+/// long and the short ones. Both refuse what a scan refuses; then a version other than 3.1; and
+/// then a volume that breaks one of the nine rules under which it stands for a tree, by the first
+/// that is broken and the least number at which it is. They read what a scan reads; then the
+/// bitmaps, the table of upper-case units, each index and the change journal, each once. Their time
+/// is linear in what they read and near linear in the runs of all streams, which they sort; their
+/// memory grows with the file table and the bitmaps, and has room for the text twice.
 ///
-/// `Journal` prints of each record of the change journal `USN N S P Q REASON ATTRS TIME NAME`, with the
-/// file's number and sequence and its directory's, the reason and the attributes in eight hexadecimal
-/// digits; and then `journal FIRST NEXT`. It refuses what a dump refuses, and before the rules a volume
-/// without a journal whose records can be read. It reads what a dump reads, and the journal once more;
-/// its memory grows with the records too.
+/// `Journal` prints of each record of the change journal `USN N S P Q REASON ATTRS TIME NAME`, with
+/// the file's number and sequence and its directory's, the reason and the attributes in eight
+/// hexadecimal digits; and then `journal FIRST NEXT`. It refuses what a dump refuses, and before
+/// the rules a volume without a journal whose records can be read. It reads what a dump reads, and
+/// the journal once more; its memory grows with the records too.
 ///
 /// `Format` makes a new volume with this serial number, all of whose times are this one, and prints
-/// `formatted CLUSTERS ROOM`. It refuses a device of no sectors, of more than 16,777,216 clusters of
-/// eight sectors, and of fewer than 4,537 sectors. It writes the system's files; free clusters and the
-/// last sector of the device stay as they are. Its time is linear in the log and the bitmap of the
-/// clusters, and its memory doesn't grow with the volume.
+/// `formatted CLUSTERS ROOM`. It refuses a device of no sectors, of more than 16,777,216 clusters
+/// of eight sectors, and of fewer than 4,537 sectors. It writes the system's files; free clusters
+/// and the last sector of the device stay as they are. Its time is linear in the log and the bitmap
+/// of the clusters, and its memory doesn't grow with the volume.
 ///
 /// The layouts are those of the Linux-NTFS documentation, "$Boot", "$MFT", "FILE Record",
 /// "$FILE_NAME", "$INDEX_ROOT", "$Bitmap" and "$UsnJrnl". The status is that of [`Outcome`].
@@ -153,21 +153,22 @@ pub fn quiet_command<K: Sink, D: Device>(
     ensures memory { result.status ≡ 6 → IfSome (D.gives device) (λ disk. (K.taken sink.new ≡ K.taken sink.old) ⊎ AppendsPart (K.taken sink.old) (K.taken sink.new) (printed (answer_of command.now disk))) }
     ensures part { result.status ≡ 7 → IfSome (D.gives device) (λ disk. AppendsPart (K.taken sink.old) (K.taken sink.new) (printed (answer_of command.now disk))) }
 
-    // Faults have their cause, none is passed over or answered by another status, and where the device failed
-    // nothing is written.
+    // Faults have their cause, none is passed over or answered by another status, and where the
+    // device failed nothing is written.
     ensures sink_failed { result.status ≡ 7 → Rose (K.faults sink.old) (K.faults sink.new) }
     ensures sink_counted { result.status ≢ 7 → K.faults sink.new ≡ K.faults sink.old }
     ensures device_failed { result.status ≡ 8 → HasFailed (D.fault_count device) (D.fault_count result.device) (D.moment_of result.device) }
     ensures device_counted { D.moment_of device < last_moment → result.status ≢ 8 → D.fault_count result.device ≡ D.fault_count device }
     ensures silent { result.status ≡ 8 → K.taken sink.new ≡ K.taken sink.old }
 
-    // The device is only read, but by a format: no write and no sync is begun, and none where the image is refused,
-    // whatever comes of its line. A format that is done made its writes and one sync; one whose line isn't written, or that
-    // wants memory, made these or began none.
-    // What reads of the device give stays, but for a format; a refusal leaves it too, whatever comes of its
-    // line. A format whose line isn't written has made its volume, or was refused; one that wants memory has made
-    // its volume, or leaves all; one whose device failed leaves a front of its regions. Free clusters, what lies behind
-    // them and the last sector stay always. A device has as many sectors as before, and its faults don't fall.
+    // The device is only read, but by a format: no write and no sync is begun, and none where the
+    // image is refused, whatever comes of its line. A format that is done made its writes and one
+    // sync; one whose line isn't written, or that wants memory, made these or began none. What
+    // reads of the device give stays, but for a format; a refusal leaves it too, whatever comes of
+    // its line. A format whose line isn't written has made its volume, or was refused; one that
+    // wants memory has made its volume, or leaves all; one whose device failed leaves a front of
+    // its regions. Free clusters, what lies behind them and the last sector stay always. A device
+    // has as many sectors as before, and its faults don't fall.
     ensures reads { IsReader command.now → D.gives result.device ≡ D.gives device }
     ensures only_read { IsReader command.now → D.changes_of result.device ≡ D.changes_of device }
     ensures unwritten { result.status ≡ 3 → D.changes_of result.device ≡ D.changes_of device }
@@ -252,9 +253,10 @@ fn write_usage<K: Sink>(sink: &mut K) -> u8
 /// of a refusal, goes to the sink.
 ///
 /// `words` has the program's name, the image and the command, and its options (`command_line`):
-/// `scan`, `dump`, `check`, `journal` or `format`, which [`quiet_command`] does, or `run`, which runs
-/// the script that the source has left, from the time of `--time` on. `enable` and `gen` are no commands
-/// yet. `gate.pass` is called before each command of a script. The status is that of `Outcome`.
+/// `scan`, `dump`, `check`, `journal` or `format`, which [`quiet_command`] does, or `run`, which
+/// runs the script that the source has left, from the time of `--time` on. `enable` and `gen` are
+/// no commands yet. `gate.pass` is called before each command of a script. The status is that of
+/// `Outcome`.
 #[tactic(auto, using(crate::proofs::Worded::quiet_is_not_run, crate::proofs::Losses::loses_none))]
 pub fn ntfs_host<R: Threads + Wait + Sync, S: Source, K: Sink, D: Device + Send, G: Gate + Sync>(
     rt: &R,
@@ -267,7 +269,8 @@ pub fn ntfs_host<R: Threads + Wait + Sync, S: Source, K: Sink, D: Device + Send,
 ) -> Outcome<D>
     ensures status { (result.status ≡ 2) ⊎ IsRunStatus result.status }
 
-    // The usage line comes exactly where the words are no line of a command, or for want of memory nothing.
+    // The usage line comes exactly where the words are no line of a command, or for want of memory
+    // nothing.
     ensures words { result.status ≡ 2 → (quiet_in words.now ≡ None) × (¬ IsRun words.now) }
     ensures command { quiet_in words.now ≡ None → ¬ IsRun words.now → (result.status ≡ 2) ⊎ (result.status ≡ 6) ⊎ (result.status ≡ 7) }
     ensures no_memory { quiet_in words.now ≡ None → ¬ IsRun words.now → result.status ≡ 6 → K.taken sink.new ≡ K.taken sink.old }
@@ -282,11 +285,12 @@ pub fn ntfs_host<R: Threads + Wait + Sync, S: Source, K: Sink, D: Device + Send,
     ensures quiet_part { IfSome (quiet_in words.now) (λ command. result.status ≡ 7 → IfSome (D.gives device) (λ disk. AppendsPart (K.taken sink.old) (K.taken sink.new) (printed (answer_of command disk)))) }
     ensures quiet_complete { IfSome (quiet_in words.now) (λ command. IsSomeAnd (D.gives device) (λ disk. IsOk (answer_of command disk)) → ¬ Rose (K.faults sink.old) (K.faults sink.new) → ¬ HasFailed (D.fault_count device) (D.fault_count result.device) (D.moment_of result.device) → (result.status ≡ 0) ⊎ (result.status ≡ 6)) }
 
-    // A run prints the text of a serial run of the script from the time of the line on, or the first refusal,
-    // or what refuses the script. Its whole source comes first: what the volume, or the text after it, has
-    // for a status says that the source was read to its end and is a script; a line of a refusal, or a sink that
-    // fails, says that it was read to its end or up to a byte too many. Whatever the status, also for want of memory,
-    // the sink isn't called before that, nor the device before the script is accepted.
+    // A run prints the text of a serial run of the script from the time of the line on, or the
+    // first refusal, or what refuses the script. Its whole source comes first: what the volume, or
+    // the text after it, has for a status says that the source was read to its end and is a script;
+    // a line of a refusal, or a sink that fails, says that it was read to its end or up to a byte
+    // too many. Whatever the status, also for want of memory, the sink isn't called before that,
+    // nor the device before the script is accepted.
     ensures run_accepted { IsRun words.now → (result.status ≡ 0) ⊎ (result.status ≡ 3) ⊎ (result.status ≡ 8) → IsAccepted (S.left source.old) (S.left source.new) }
     ensures run_whole { IsRun words.now → (result.status ≡ 4) ⊎ (result.status ≡ 7) → IsReadWhole (S.left source.old) (S.left source.new) }
     ensures run_sink { IsRun words.now → (sink.new ≡ sink.old) ⊎ IsReadWhole (S.left source.old) (S.left source.new) }
@@ -298,8 +302,8 @@ pub fn ntfs_host<R: Threads + Wait + Sync, S: Source, K: Sink, D: Device + Send,
     ensures run_part { IfSome (run_in words.now) (λ time. result.status ≡ 7 → IfSome (S.left source.old) (λ bytes. IfSome (D.gives device) (λ disk. PrintsScriptPart (K.taken sink.old) (K.taken sink.new) disk time (D.fault_count result.device) (script_of bytes)))) }
     ensures run_complete { IsRun words.now → IsSomeAnd (S.left source.old) (λ bytes. IsOk (script_of bytes)) → IsSomeAnd (D.gives device) (λ disk. IsOk (mounted_of standard_table disk)) → ¬ Rose (S.faults source.old) (S.faults source.new) → ¬ Rose (K.faults sink.old) (K.faults sink.new) → ¬ HasFailed (D.fault_count device) (D.fault_count result.device) (D.moment_of result.device) → (result.status ≡ 0) ⊎ (result.status ≡ 6) }
 
-    // Faults have their cause, none is passed over or answered by another status, and where the source or the
-    // device failed nothing is written.
+    // Faults have their cause, none is passed over or answered by another status, and where the
+    // source or the device failed nothing is written.
     ensures source_failed { result.status ≡ 5 → Rose (S.faults source.old) (S.faults source.new) }
     ensures source_counted { result.status ≢ 5 → S.faults source.new ≡ S.faults source.old }
     ensures sink_failed { result.status ≡ 7 → Rose (K.faults sink.old) (K.faults sink.new) }
@@ -308,20 +312,21 @@ pub fn ntfs_host<R: Threads + Wait + Sync, S: Source, K: Sink, D: Device + Send,
     ensures device_counted { D.moment_of device < last_moment → result.status ≢ 8 → D.fault_count result.device ≡ D.fault_count device }
     ensures silent { (result.status ≡ 5) ⊎ (result.status ≡ 8) → K.taken sink.new ≡ K.taken sink.old }
 
-    // Words that are no line, whatever comes of the usage line, and a source without a script come before the device,
-    // and only a run reads the source, at most a byte more than a script has.
+    // Words that are no line, whatever comes of the usage line, and a source without a script come
+    // before the device, and only a run reads the source, at most a byte more than a script has.
     ensures untouched { (result.status ≡ 2) ⊎ (result.status ≡ 4) ⊎ (result.status ≡ 5) → result.device ≡ device }
     ensures uncalled { quiet_in words.now ≡ None → ¬ IsRun words.now → result.device ≡ device }
     ensures unread { ¬ IsRun words.now → source.new ≡ source.old }
     ensures most_read { LosesAtMost 16777217 (S.left source.old) (S.left source.new) }
 
-    // The device is only read, but by a format: no write and no sync is begun, and none where the image is refused,
-    // whatever comes of its line. A format that is done made its writes and one sync; one whose line isn't written, or that
-    // wants memory, made these or began none.
-    // What reads of the device give stays, but for a format; a refusal leaves it too, whatever comes of its
-    // line. A format whose line isn't written has made its volume, or was refused; one that wants memory has made
-    // its volume, or leaves all; one whose device failed leaves a front of its regions. Free clusters, what lies behind
-    // them and the last sector stay always. A device has as many sectors as before, and its faults don't fall.
+    // The device is only read, but by a format: no write and no sync is begun, and none where the
+    // image is refused, whatever comes of its line. A format that is done made its writes and one
+    // sync; one whose line isn't written, or that wants memory, made these or began none. What
+    // reads of the device give stays, but for a format; a refusal leaves it too, whatever comes of
+    // its line. A format whose line isn't written has made its volume, or was refused; one that
+    // wants memory has made its volume, or leaves all; one whose device failed leaves a front of
+    // its regions. Free clusters, what lies behind them and the last sector stay always. A device
+    // has as many sectors as before, and its faults don't fall.
     ensures reads { Reads (quiet_in words.now) → D.gives result.device ≡ D.gives device }
     ensures only_read { Reads (quiet_in words.now) → D.changes_of result.device ≡ D.changes_of device }
     ensures unwritten { result.status ≡ 3 → D.changes_of result.device ≡ D.changes_of device }

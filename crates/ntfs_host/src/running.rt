@@ -56,10 +56,10 @@ fn take_turn<L: Lookup, D: Device>(
 }
 
 /// The turns of a script's commands, one after the other in its order, on a tree that none of them
-/// changes. The turn with the serial k is at the time `time + k`, in units of 100 ns since 1601-01-01;
-/// no reply tells it, since no command sets a time. `gate.pass` is called before each command. A
-/// command that wants memory has that as its reply; the error is want of memory for the turns
-/// themselves. It takes one answer for each command.
+/// changes. The turn with the serial k is at the time `time + k`, in units of 100 ns since
+/// 1601-01-01; no reply tells it, since no command sets a time. `gate.pass` is called before each
+/// command. A command that wants memory has that as its reply; the error is want of memory for the
+/// turns themselves. It takes one answer for each command.
 pub fn serial_run<R: Threads + Wait, L: Lookup, D: Device, G: Gate>(
     rt: &R,
     alloc: Global,

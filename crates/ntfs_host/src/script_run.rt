@@ -131,10 +131,10 @@ fn run_mounted<R: Threads + Wait, K: Sink, D: Device, G: Gate>(
 /// what refuses the script or the volume, goes to the sink. The answer is the status.
 ///
 /// The whole source is read first, then the volume is mounted, then the commands have their turns,
-/// from the time `time` on, in units of 100 ns since 1601-01-01, and then the text is written, a line
-/// at a time. So a refusal or a failure of the device comes only of a script that is accepted, without
-/// one the device isn't called, and the sink isn't before the source was read to its end. The device is
-/// only read.
+/// from the time `time` on, in units of 100 ns since 1601-01-01, and then the text is written, a
+/// line at a time. So a refusal or a failure of the device comes only of a script that is accepted,
+/// without one the device isn't called, and the sink isn't before the source was read to its end.
+/// The device is only read.
 pub fn run_command<R: Threads + Wait, S: Source, K: Sink, D: Device, G: Gate>(
     rt: &R,
     alloc: Global,

@@ -7,8 +7,8 @@ use crate::status::MEMORY;
 use std::alloc::Global;
 use std::io;
 
-/// The words of a command line, by what the system gives for them: none, where one of them is no text,
-/// since then they are no line of a command.
+/// The words of a command line, by what the system gives for them: none, where one of them is no
+/// text, since then they are no line of a command.
 ///
 /// The error is the status where memory was wanting for them.
 pub fn words_or_status(alloc: Global, texts: io::Result<Vec<String>>) -> Result<Vec<String>, u8>

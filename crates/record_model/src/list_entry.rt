@@ -1,8 +1,8 @@
 use host_base::FileRef;
 use utf16_name::Units;
 
-/// An entry of an attribute list: the record in which an attribute stands (Linux-NTFS documentation,
-/// "$ATTRIBUTE_LIST").
+/// An entry of an attribute list: the record in which an attribute stands (Linux-NTFS
+/// documentation, "$ATTRIBUTE_LIST").
 #[derive(Clone, Debug, PartialEq, Eq, Drop)]
 pub struct ListEntry {
     /// The attribute's type, name and id.

@@ -112,7 +112,8 @@ fn faults(rt: HostRuntime) {
         (0x04, 0x30, length),
         // a mapped header is longer
         (0x08, 1, length),
-        // a name that ends with the attribute, and one byte past it; without units it stands nowhere
+        // a name that ends with the attribute, and one byte past it; without units it stands
+        // nowhere
         (0x0a, 0x24, None),
         (0x0a, 0x25, outside),
         (0x09, 0, None),

@@ -1,6 +1,6 @@
-//! Rows of inputs and answers of file records: boot sectors that lead to them, their update sequence,
-//! their attributes and values, how they are read and written, and the rules over their names. The
-//! crate has tests and what they share, and no more.
+//! Rows of inputs and answers of file records: boot sectors that lead to them, their update
+//! sequence, their attributes and values, how they are read and written, and the rules over their
+//! names. The crate has tests and what they share, and no more.
 #![tactic(auto)]
 
 #[cfg(test)]

@@ -26,9 +26,9 @@ fn append(links: &mut LinkList, more: &[Link]) -> Result<(), AllocError>
     Ok(())
 }
 
-/// The names of all files, by the files' numbers (Linux-NTFS documentation, "$FILE_NAME"). `records`
-/// has the record in use of each number, if there is one. The error is want of memory. It takes time
-/// and memory linear in the records.
+/// The names of all files, by the files' numbers (Linux-NTFS documentation, "$FILE_NAME").
+/// `records` has the record in use of each number, if there is one. The error is want of memory. It
+/// takes time and memory linear in the records.
 #[tactic(auto, using(crate::proofs::Ascents::flat_map_more), unfolding(state_model::specs::Trees::all_links))]
 pub fn all_links(alloc: Global, records: &[Option<FileRec>]) -> Result<LinkList, Memory>
     ensures value { IfOk result (λ links. links ≡ all_links (table_in records.now) (length records.now)) }
@@ -85,8 +85,8 @@ pub struct Climber<'a> {
 }
 
 impl<'a> Climber<'a> {
-    /// A climber of these records: the record in use of each number, if there is one. `links` are the
-    /// names of each file. The error is want of memory. It takes time and memory linear in the
+    /// A climber of these records: the record in use of each number, if there is one. `links` are
+    /// the names of each file. The error is want of memory. It takes time and memory linear in the
     /// records.
     pub fn new(
         alloc: Global,
@@ -102,7 +102,8 @@ impl<'a> Climber<'a> {
         })
     }
 
-    /// The number of the directory of the file's first name, if it has a name. It takes constant time.
+    /// The number of the directory of the file's first name, if it has a name. It takes constant
+    /// time.
     #[tactic(auto)]
     pub fn parent(&self, number: u64) -> Option<u64>
         ensures value { result ≡ parent_at (table_in self.now.records.now) number }

@@ -28,8 +28,8 @@ fn contains_link(links: &[Link], link: &Link) -> bool
     links.iter().any(|other| is_same_link(link, other))
 }
 
-// Whether the link is a name in this directory of the file that it names. Only that file's names are
-// gone through.
+// Whether the link is a name in this directory of the file that it names. Only that file's names
+// are gone through.
 #[tactic(auto, using(crate::proofs::Links::links_found), unfolding(state_model::specs::Rules::is_name_in))]
 fn is_name_in(
     records: &[Option<FileRec>],
@@ -58,10 +58,10 @@ fn are_names_in(
 }
 
 /// Whether the names `held` are those of this directory, in order by the table `upper`, which gives
-/// each UTF-16 unit its upper-case unit (Linux-NTFS documentation, "$INDEX_ROOT"). `records` has the
-/// record in use of each number, if there is one, `links` the names of each file, and `count` is how
-/// many names stand in the directory. It takes time linear in the names `held` and in all names of
-/// the files that they name.
+/// each UTF-16 unit its upper-case unit (Linux-NTFS documentation, "$INDEX_ROOT"). `records` has
+/// the record in use of each number, if there is one, `links` the names of each file, and `count`
+/// is how many names stand in the directory. It takes time linear in the names `held` and in all
+/// names of the files that they name.
 #[tactic(auto, unfolding(state_model::specs::Rules::is_index))]
 pub fn is_index(
     upper: &[u16],

@@ -56,7 +56,8 @@ fn count_links(
     Ok(())
 }
 
-// Counts the names of each file for the files that they stand in. `links` are the names of each file.
+// Counts the names of each file for the files that they stand in. `links` are the names of each
+// file.
 #[tactic(auto, using(crate::proofs::Tallies::names_more, crate::proofs::Tallies::names_none, crate::proofs::Links::links_within, crate::proofs::Links::length_links))]
 fn count_all(
     records: &[Option<FileRec>],

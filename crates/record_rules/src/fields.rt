@@ -15,8 +15,8 @@ pub const FIRST_USER_RECORD: u64 = 24;
 /// The type of standard information.
 pub const STANDARD_INFORMATION: u32 = 0x10;
 
-/// Whether the record is that of a directory, by the flag 2 of its header (Linux-NTFS documentation,
-/// "FILE Record").
+/// Whether the record is that of a directory, by the flag 2 of its header (Linux-NTFS
+/// documentation, "FILE Record").
 pub fn is_directory_record(file: &FileRec) -> bool
     ensures value { result ≡ is_directory_record file.now }
 {
@@ -74,8 +74,8 @@ fn std_info_attr(file: &FileRec) -> Option<&Attr>
 }
 
 /// The record's standard information, of its first attribute of that type (Linux-NTFS
-/// documentation, "$STANDARD_INFORMATION"). One that isn't there, is in clusters or is too short has
-/// no flags, and times of zero. It takes time linear in the attributes.
+/// documentation, "$STANDARD_INFORMATION"). One that isn't there, is in clusters or is too short
+/// has no flags, and times of zero. It takes time linear in the attributes.
 #[tactic(auto, unfolding(state_model::specs::Files::info_of))]
 pub fn info_of(file: &FileRec) -> StdInfo
     ensures value { result ≡ info_of file.now }

@@ -23,8 +23,9 @@ fn only_base(file: &Option<FileRec>) -> Option<&FileRec>
     }
 }
 
-/// The file with this number, if there is one: a base record in use (Linux-NTFS documentation, "FILE
-/// Record"). `records` has the record in use of each number, if there is one. It takes constant time.
+/// The file with this number, if there is one: a base record in use (Linux-NTFS documentation,
+/// "FILE Record"). `records` has the record in use of each number, if there is one. It takes
+/// constant time.
 #[tactic(auto, unfolding(state_model::specs::Files::file_at))]
 pub fn file_at(records: &[Option<FileRec>], number: u64) -> Option<&FileRec>
     ensures value { option_copied result ≡ file_at (table_in records.now) number }

@@ -23,8 +23,8 @@ pub fn links_at(alloc: Global, records: &[Option<FileRec>], number: u64) -> Resu
 }
 
 /// The names of each file, by its number; there are none where there is no such file. `records` has
-/// the record in use of each number, if there is one. The error is want of memory. It takes time and
-/// memory linear in the records.
+/// the record in use of each number, if there is one. The error is want of memory. It takes time
+/// and memory linear in the records.
 #[tactic(auto, using(crate::proofs::Links::links_more), unfolding(crate::specs::Links::links_in))]
 pub fn links_in(alloc: Global, records: &[Option<FileRec>]) -> Result<Vec<LinkList>, Memory>
     ensures value { IfOk result (λ links. links.items ≡ links_in records.now) }

@@ -28,8 +28,8 @@ fn keeps_2(records: &[Option<FileRec>], links: &[LinkList], number: u64) -> bool
     have_directories(records, links_of(links, number))
 }
 
-/// The least number of a file whose names aren't lawful (rule 1), if there is one: no long name of a
-/// user's file or not one of a directory, no standard information of a user's file, a short name
+/// The least number of a file whose names aren't lawful (rule 1), if there is one: no long name of
+/// a user's file or not one of a directory, no standard information of a user's file, a short name
 /// without its partner or beside another of its directory (Linux-NTFS documentation, "$FILE_NAME").
 /// `records` has the record in use of each number, if there is one, and `links` the names of each
 /// file. It takes time linear in the records, and in the names of a file times its short names.
@@ -52,9 +52,9 @@ pub fn first_misplaced(records: &[Option<FileRec>], links: &[LinkList]) -> Optio
     (0..records.len() as u64).find(|number| !keeps_2(records, links, *number))
 }
 
-/// The least number of a directory whose way up doesn't reach the root (rule 8), if there is one. It
-/// takes time linear in the records and in the directories times their depth; the way up of the one
-/// that is found is given up after as many steps as there are records.
+/// The least number of a directory whose way up doesn't reach the root (rule 8), if there is one.
+/// It takes time linear in the records and in the directories times their depth; the way up of the
+/// one that is found is given up after as many steps as there are records.
 #[tactic(auto, unfolding(state_model::specs::Rules::first_failing))]
 pub fn first_unrooted(climber: &Climber) -> Option<u64>
     ensures value { result ≡ first_failing (keeps_8 (table_in climber.now.records.now) (length climber.now.records.now)) (length climber.now.records.now) }

@@ -49,7 +49,8 @@ fn has_index(
 
 /// Whether the index of the directory with this number is the list of its names in order, if there
 /// is one; `links` are the names of each file, and `counts` how many names stand in each. The error
-/// is want of memory. It takes time linear in the index and in the names of the files that it holds.
+/// is want of memory. It takes time linear in the index and in the names of the files that it
+/// holds.
 #[tactic(auto, using(record_rules::proofs::Tallies::names_known), unfolding(state_model::specs::Rules::keeps_3))]
 pub fn keeps_index(
     alloc: Global,

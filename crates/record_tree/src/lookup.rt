@@ -56,8 +56,8 @@ fn slot_at(slots: &[Option<Node>], number: u64) -> Option<&Node>
 impl RecordTree {
     /// The tree of these records: the record in use of each number, if there is one. `upper` gives
     /// each UTF-16 unit its upper-case unit. It takes near-linear time in the records and their
-    /// names, but for the way up from each name, which is climbed a directory at a time and is given
-    /// up after as many steps as there are records. The error is want of memory.
+    /// names, but for the way up from each name, which is climbed a directory at a time and is
+    /// given up after as many steps as there are records. The error is want of memory.
     pub fn new(
         alloc: Global,
         upper: Vec<u16>,

@@ -1,5 +1,5 @@
-//! File records of an NTFS volume as they are written: a record has one spelling in 1,024 bytes, and
-//! takes attributes at a place, or gives them up, as long as it has room.
+//! File records of an NTFS volume as they are written: a record has one spelling in 1,024 bytes,
+//! and takes attributes at a place, or gives them up, as long as it has room.
 //!
 //! The contract: what is written is the canonical spelling of the record, which is read again as
 //! that record; an attribute more is refused exactly where there is no room for it. The layouts are

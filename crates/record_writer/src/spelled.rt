@@ -71,10 +71,10 @@ fn is_short(name: &[u16]) -> bool
     name.len() < 256
 }
 
-/// Whether the attribute has a spelling (Linux-NTFS documentation, "Attribute Header"): its name has
-/// fewer than 256 units, its value or mapping pairs fewer than 2^31 bytes, the pairs a multiple of 8,
-/// and `held` is there exactly where the flags say compressed or sparse and the first VCN is 0. It
-/// takes constant time.
+/// Whether the attribute has a spelling (Linux-NTFS documentation, "Attribute Header"): its name
+/// has fewer than 256 units, its value or mapping pairs fewer than 2^31 bytes, the pairs a multiple
+/// of 8, and `held` is there exactly where the flags say compressed or sparse and the first VCN is
+/// 0. It takes constant time.
 pub fn attr_has_spelling(attr: &Attr) -> bool
     ensures value { IsTrue result ↔ FitsAttr attr.now }
 {

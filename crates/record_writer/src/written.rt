@@ -31,9 +31,9 @@ pub trait WrittenRecord: Sized {
     /// The record that contracts see.
     ghost seen: { Self → Record };
 
-    /// How many bytes of its 1,024 the record uses as it is written (Linux-NTFS documentation, "FILE
-    /// Record"), the end mark with 8 bytes among them. It takes time linear in the attributes, and
-    /// no memory.
+    /// How many bytes of its 1,024 the record uses as it is written (Linux-NTFS documentation,
+    /// "FILE Record"), the end mark with 8 bytes among them. It takes time linear in the
+    /// attributes, and no memory.
     fn used(&self) -> u32
         requires { used_of (seen self.now).attrs < 2 ^ 32 }
         ensures value { result ≡ used_of (seen self.now).attrs };

@@ -1,5 +1,6 @@
-//! Builders of the images of worked rows: the tiny image, one with an index, and a small volume that
-//! breaks no rule, with the parts of which they are made: file records, attributes, index entries.
+//! Builders of the images of worked rows: the tiny image, one with an index, and a small volume
+//! that breaks no rule, with the parts of which they are made: file records, attributes, index
+//! entries.
 #![tactic(auto)]
 
 mod image;

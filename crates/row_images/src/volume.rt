@@ -75,9 +75,9 @@ pub fn named_value(
     Ok(attribute)
 }
 
-/// The fields of a stream in clusters that images differ in: its type, whether it is flagged sparse,
-/// its name, its first VCN and how many there are, its real size, which is initialised, and its
-/// mapping pairs, at most 8 bytes.
+/// The fields of a stream in clusters that images differ in: its type, whether it is flagged
+/// sparse, its name, its first VCN and how many there are, its real size, which is initialised, and
+/// its mapping pairs, at most 8 bytes.
 #[derive(Clone, Copy)]
 pub struct Stored<'a> {
     pub kind: u8,
@@ -262,8 +262,8 @@ fn put_journal(alloc: Global, image: &mut [u8]) -> Result<(), AllocError>
     Ok(())
 }
 
-// Records 0, 2, 3 and 6, without names: the table of 32 records in 64 clusters at 8 with its bitmap,
-// the log in 16 clusters at 72, the version 3.1, and the bitmap of the clusters.
+// Records 0, 2, 3 and 6, without names: the table of 32 records in 64 clusters at 8 with its
+// bitmap, the log in 16 clusters at 72, the version 3.1, and the bitmap of the clusters.
 fn put_volume(alloc: Global, image: &mut [u8]) -> Result<(), AllocError>
     ensures { length image.new ≡ length image.old }
 {
@@ -285,10 +285,10 @@ fn put_volume(alloc: Global, image: &mut [u8]) -> Result<(), AllocError>
     Ok(())
 }
 
-/// A volume of 128 clusters of a sector each that breaks no rule, with a sector after it. In use are
-/// the records of the volume itself 0, 2, 3 and 6, which have no names; the root; record 11, a
-/// directory with the change journal, record 27; a directory 24 with file 26, which has a long and a
-/// short name; and file 25 in the root. The error is want of memory.
+/// A volume of 128 clusters of a sector each that breaks no rule, with a sector after it. In use
+/// are the records of the volume itself 0, 2, 3 and 6, which have no names; the root; record 11, a
+/// directory with the change journal, record 27; a directory 24 with file 26, which has a long and
+/// a short name; and file 25 in the root. The error is want of memory.
 pub fn whole_volume(alloc: Global) -> Result<Vec<u8>, AllocError>
     ensures { IfOk result (λ image. length image.items ≡ 66048) }
 {

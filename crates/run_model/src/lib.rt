@@ -1,4 +1,5 @@
-//! Serial runs of scripts on the file tree: the turns, the run that they make, and its printed text.
+//! Serial runs of scripts on the file tree: the turns, the run that they make, and its printed
+//! text.
 //!
 //! The contract: runs of turns go on and join, by the laws that stand here as functions with no
 //! body.

@@ -108,11 +108,11 @@ pub trait ScriptText: Sized {
     /// The script that bytes spell, or what refuses them.
     ghost script_of: { List ℕ → Result Self ScriptFault };
 
-    /// Reads a script: its commands, numbered from 1 for each client. `TooLarge` comes where there are
-    /// more than 16,777,216 bytes; else the first line at fault says `Line` with its number and the
-    /// first rule that it breaks, `TooManyClients`, which is tried between the rules 4 and 5, or
-    /// `TooManyCommands` at a command behind the 16,384th. The last error is want of memory. It takes
-    /// time and memory linear in the bytes.
+    /// Reads a script: its commands, numbered from 1 for each client. `TooLarge` comes where there
+    /// are more than 16,777,216 bytes; else the first line at fault says `Line` with its number and
+    /// the first rule that it breaks, `TooManyClients`, which is tried between the rules 4 and 5,
+    /// or `TooManyCommands` at a command behind the 16,384th. The last error is want of memory. It
+    /// takes time and memory linear in the bytes.
     fn read(alloc: Global, bytes: &[u8]) -> Result<Self, ScriptFault>
         ensures value { Gives (λ script. script) script_cause result (script_of bytes.now) };
 }

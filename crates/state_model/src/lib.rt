@@ -1,7 +1,8 @@
 //! What the file records of a volume stand for: the tree, and the rules under which they do.
 //!
 //! The contract: the laws of these definitions, as functions with no body. Records, names and
-//! indexes are those of the Linux-NTFS documentation, "FILE Record", "$FILE_NAME" and "$INDEX_ROOT".
+//! indexes are those of the Linux-NTFS documentation, "FILE Record", "$FILE_NAME" and
+//! "$INDEX_ROOT".
 #![tactic(auto)]
 
 mod broken;

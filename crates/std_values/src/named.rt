@@ -78,8 +78,8 @@ fn has_name(value: &[u8]) -> bool
 }
 
 /// Whether a value is a file name: it has exactly 42 (hexadecimal) bytes and those of its units, a
-/// namespace of 0 to 3, and units that are a name (Linux-NTFS documentation, "$FILE_NAME"). It takes
-/// no memory, and time linear in the bytes.
+/// namespace of 0 to 3, and units that are a name (Linux-NTFS documentation, "$FILE_NAME"). It
+/// takes no memory, and time linear in the bytes.
 #[tactic(auto, unfolding(record_model::specs::Values::is_file_name, record_model::specs::Values::space_of))]
 pub fn is_file_name(value: &[u8]) -> bool
     ensures value { result ≡ is_file_name value.now }

@@ -207,8 +207,8 @@ fn fill_front<V: View>(
 /// Makes `out` the bytes of a stream from the place `at` on, and zeros behind its real size. A
 /// volume has `per` sectors a cluster. `body` is room for a sector; this takes no memory.
 ///
-/// Linear in `out` for a value in the record, of which the view isn't asked; for a stream in clusters
-/// as long as [`fill`] takes.
+/// Linear in `out` for a value in the record, of which the view isn't asked; for a stream in
+/// clusters as long as [`fill`] takes.
 ///
 /// - [`ViewFault::Fault`]: the view failed, and counts it; any bytes may stand in `out` then. There
 ///   is no other error.

@@ -46,8 +46,8 @@ fn has_sizes(per: u64, extents: &Extents) -> bool
 
 /// Whether the runs of a stream lie below so many clusters, and its initialised size is at most its
 /// real size, this at most the allocated one, and this is that of its clusters (Linux-NTFS
-/// documentation, "Attribute Header"); a volume has `per` sectors a cluster. A value in a record fits,
-/// and so does a stream that isn't there. Linear in the runs.
+/// documentation, "Attribute Header"); a volume has `per` sectors a cluster. A value in a record
+/// fits, and so does a stream that isn't there. Linear in the runs.
 pub fn fits_volume(per: u64, clusters: u64, stream: &Option<Stream>) -> bool
     requires { per ≤ 8 }
     ensures { result ≡ fits_volume per clusters stream.now }

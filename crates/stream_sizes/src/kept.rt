@@ -94,10 +94,10 @@ fn keeps_next(
 }
 
 /// Whether each stream that attributes are pieces of, but for file names, has every VCN, lies below
-/// so many clusters and has lawful sizes (Linux-NTFS documentation, "Attribute Header"); a volume has
-/// `per` sectors a cluster. The error is want of memory. Linear in the attributes and the runs where
-/// the pieces of each stream stand one behind the other and by rising first VCN, for each stream;
-/// else one such pass for each attribute.
+/// so many clusters and has lawful sizes (Linux-NTFS documentation, "Attribute Header"); a volume
+/// has `per` sectors a cluster. The error is want of memory. Linear in the attributes and the runs
+/// where the pieces of each stream stand one behind the other and by rising first VCN, for each
+/// stream; else one such pass for each attribute.
 pub fn keep_all(alloc: Global, per: u64, clusters: u64, attrs: &[Attr]) -> Result<bool, Memory>
     requires { per ≤ 8 }
     ensures { IfOk result (λ keeps. keeps ≡ list_all (keeps_stream per clusters attrs.now) attrs.now) }

@@ -2,8 +2,8 @@
 //! sizes; those of the volume itself and of indexes have no sparse run and no torn block; and the
 //! bitmaps are long enough.
 //!
-//! The contract: the answers are those of the definitions over a view's content, exactly. The layouts
-//! are those of the Linux-NTFS documentation, "Attribute Header", "$MFT", "$Bitmap" and
+//! The contract: the answers are those of the definitions over a view's content, exactly. The
+//! layouts are those of the Linux-NTFS documentation, "Attribute Header", "$MFT", "$Bitmap" and
 //! "$INDEX_ALLOCATION".
 #![tactic(auto)]
 

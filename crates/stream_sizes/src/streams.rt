@@ -38,20 +38,22 @@ fn keeps_shape(
 }
 
 /// Whether the streams of the file with this number keep what streams have to, in a volume of `per`
-/// sectors a cluster and so many clusters (Linux-NTFS documentation, "Attribute Header" and "$MFT"):
+/// sectors a cluster and so many clusters (Linux-NTFS documentation, "Attribute Header" and
+/// "$MFT"):
 ///
-/// - each has every VCN, lies in the volume, and its initialised size is at most its real size, this
-///   at most the allocated one, and this is that of its clusters; file names aside;
-/// - the unnamed data of `$MFT`, `$MFTMirr`, `$LogFile` and `$Bitmap`, the bitmap of `$MFT`, and the
-///   index allocation and the bitmap of a directory's `$I30` have no sparse run;
+/// - each has every VCN, lies in the volume, and its initialised size is at most its real size,
+///   this at most the allocated one, and this is that of its clusters; file names aside;
+/// - the unnamed data of `$MFT`, `$MFTMirr`, `$LogFile` and `$Bitmap`, the bitmap of `$MFT`, and
+///   the index allocation and the bitmap of a directory's `$I30` have no sparse run;
 /// - the data of `$MFT` is initialised up to its real size;
-/// - no file record of `$MFT` or `$MFTMirr`, and no block of a directory's `$I30`, is torn, where it
-///   lies in one run and begins below its stream's initialised size.
+/// - no file record of `$MFT` or `$MFTMirr`, and no block of a directory's `$I30`, is torn, where
+///   it lies in one run and begins below its stream's initialised size.
 ///
 /// `body` is room for a body. Linear in the attributes and the runs where the pieces of each stream
-/// stand one behind the other, for each stream; else one such pass for each attribute. The blocks of
-/// `$MFT`, `$MFTMirr` and a directory alone are read, each once and in order, along the runs; and only
-/// where the sizes are lawful, so that they are no more than the stream's clusters have room for.
+/// stand one behind the other, for each stream; else one such pass for each attribute. The blocks
+/// of `$MFT`, `$MFTMirr` and a directory alone are read, each once and in order, along the runs;
+/// and only where the sizes are lawful, so that they are no more than the stream's clusters have
+/// room for.
 ///
 /// - [`SizesFault::View`]: the view failed, and counts it.
 /// - [`SizesFault::Memory`]: there is no memory left.

@@ -259,12 +259,12 @@ fn keeps_blocks<V: View>(
     )
 }
 
-/// Whether no file record of the unnamed data of `$MFT` or `$MFTMirr`, and no block of a directory's
-/// `$I30`, is torn: one that lies in one run and begins below its stream's initialised size. It reads
-/// each such block once, up to the first that is torn, and goes along the runs with them: where the
-/// runs stand by rising VCN and no block lies in two of them, that is one pass; a block in two runs,
-/// or in none, takes one pass over the runs behind it. A volume has `per` sectors a cluster; `body` is
-/// room for a body.
+/// Whether no file record of the unnamed data of `$MFT` or `$MFTMirr`, and no block of a
+/// directory's `$I30`, is torn: one that lies in one run and begins below its stream's initialised
+/// size. It reads each such block once, up to the first that is torn, and goes along the runs with
+/// them: where the runs stand by rising VCN and no block lies in two of them, that is one pass; a
+/// block in two runs, or in none, takes one pass over the runs behind it. A volume has `per`
+/// sectors a cluster; `body` is room for a body.
 #[tactic(auto, unfolding(volume_model::specs::Sizes::keeps_untorn))]
 pub fn keeps_untorn<V: View>(
     alloc: Global,

@@ -171,13 +171,13 @@ fn keeps_sizes<V: View>(
 }
 
 /// The least number at which streams don't keep what they have to, if there is one: of a file whose
-/// streams don't (see [`keeps_streams`]), 0 where the bitmap of `$MFT` has no bit for some record, and
-/// 6 where the data of `$Bitmap` has none for some cluster (Linux-NTFS documentation, "$Bitmap"). A
-/// volume has `per` sectors a cluster and so many clusters; `files` are its files by number, each with
-/// all its attributes. `body` is room for a body.
+/// streams don't (see [`keeps_streams`]), 0 where the bitmap of `$MFT` has no bit for some record,
+/// and 6 where the data of `$Bitmap` has none for some cluster (Linux-NTFS documentation,
+/// "$Bitmap"). A volume has `per` sectors a cluster and so many clusters; `files` are its files by
+/// number, each with all its attributes. `body` is room for a body.
 ///
-/// It takes what [`keeps_streams`] takes for each file up to the answer, and memory for the streams of
-/// one file.
+/// It takes what [`keeps_streams`] takes for each file up to the answer, and memory for the streams
+/// of one file.
 ///
 /// - [`SizesFault::View`]: the view failed, and counts it.
 /// - [`SizesFault::Memory`]: there is no memory left.

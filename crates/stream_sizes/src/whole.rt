@@ -1,4 +1,5 @@
-//! The streams of the volume itself and of indexes: no sparse run, and the file table is initialised.
+//! The streams of the volume itself and of indexes: no sparse run, and the file table is
+//! initialised.
 ghost use Rattle.std.specs.Prelude.{◌≡◌, ◌==◌, ◌&&◌, not, [], IfOk};
 ghost use Rattle.record_model.specs.Values.{data_type};
 ghost use Rattle.state_model.specs.Files.{is_directory_record};
@@ -85,9 +86,9 @@ fn keeps_index(alloc: Global, file: &FileRec) -> Result<bool, Memory>
 }
 
 /// Whether the streams of the file with this number that have to be whole have no sparse run: the
-/// unnamed data of `$MFT`, `$MFTMirr`, `$LogFile` and `$Bitmap`, the bitmap of `$MFT`, and the index
-/// allocation and the bitmap of a directory's `$I30` (Linux-NTFS documentation, "Data runs"). The
-/// error is want of memory. Linear in the attributes and the runs, as `stream_of` is.
+/// unnamed data of `$MFT`, `$MFTMirr`, `$LogFile` and `$Bitmap`, the bitmap of `$MFT`, and the
+/// index allocation and the bitmap of a directory's `$I30` (Linux-NTFS documentation, "Data runs").
+/// The error is want of memory. Linear in the attributes and the runs, as `stream_of` is.
 #[tactic(auto, unfolding(volume_model::specs::Sizes::keeps_whole))]
 pub fn keeps_whole(alloc: Global, number: u64, file: &FileRec) -> Result<bool, Memory>
     ensures { IfOk result (λ keeps. keeps ≡ keeps_whole number file.now) }
@@ -107,8 +108,8 @@ fn is_data_initialised(alloc: Global, attrs: &[Attr]) -> Result<bool, Memory>
     Ok(is_initialised(&stream))
 }
 
-/// Whether the data of the file with this number is initialised up to its real size, if it is `$MFT`.
-/// The error is want of memory. Linear in the attributes and the runs, as `stream_of` is.
+/// Whether the data of the file with this number is initialised up to its real size, if it is
+/// `$MFT`. The error is want of memory. Linear in the attributes and the runs, as `stream_of` is.
 pub fn keeps_table(alloc: Global, number: u64, file: &FileRec) -> Result<bool, Memory>
     ensures { IfOk result (λ keeps. keeps ≡ keeps_table number file.now) }
 {

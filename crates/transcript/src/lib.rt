@@ -1,7 +1,7 @@
 //! The printed text of a run of a script.
 //!
-//! The contract: the text has one line for each command, by client and then by number, and each line
-//! says the command's client, number, turn, journal position and reply.
+//! The contract: the text has one line for each command, by client and then by number, and each
+//! line says the command's client, number, turn, journal position and reply.
 #![tactic(auto)]
 
 mod laws;

@@ -95,8 +95,8 @@ fn end_of(next: u64, entries: &[Usn]) -> u64
     end
 }
 
-// At most `most` of the records of a whole journal, which begins at its byte `first`, from a position
-// in it on, and the place after the last of them, or the journal's next one.
+// At most `most` of the records of a whole journal, which begins at its byte `first`, from a
+// position in it on, and the place after the last of them, or the journal's next one.
 fn pull_inside<V: View>(
     alloc: Global,
     view: &mut V,
@@ -144,12 +144,13 @@ fn pull_inside<V: View>(
 /// - `Trimmed`: exactly where `from` lies before the journal, which begins there.
 /// - `Ahead`: exactly where `from` lies after the journal's next place, which is there.
 /// - `View`: the view failed.
-/// - `Memory`: want of memory. It comes too where the real size of `$J` is within 8,192 bytes of 2^64,
-///   which no lawful sizes allow; and where the view gives a record that is at fault, which no view
-///   does that is known to hold whole records.
+/// - `Memory`: want of memory. It comes too where the real size of `$J` is within 8,192 bytes of
+///   2^64, which no lawful sizes allow; and where the view gives a record that is at fault, which
+///   no view does that is known to hold whole records.
 ///
-/// It reads the pages from that of `from` on until it has `most` records, each once, and keeps one of
-/// them: linear in their bytes, each of whose sectors takes one pass over the runs, and one pass more.
+/// It reads the pages from that of `from` on until it has `most` records, each once, and keeps one
+/// of them: linear in their bytes, each of whose sectors takes one pass over the runs, and one pass
+/// more.
 #[tactic(auto, unfolding(crate::specs::Pulls::pulled_of))]
 pub fn read_from<V: View>(
     alloc: Global,

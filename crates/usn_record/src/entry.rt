@@ -49,9 +49,9 @@ fn entry(alloc: Global, own: &[u8]) -> Result<Usn, UsnFault>
     })
 }
 
-/// The record at the front of these bytes, which stand at this offset of the journal, and its length;
-/// no entry where it is of another version. The errors are those of `checked_length`, and want of
-/// memory. It takes time and memory linear in the record.
+/// The record at the front of these bytes, which stand at this offset of the journal, and its
+/// length; no entry where it is of another version. The errors are those of `checked_length`, and
+/// want of memory. It takes time and memory linear in the record.
 pub fn first_record(alloc: Global, bytes: &[u8], at: u64) -> Result<(Option<Usn>, u32), UsnFault>
     ensures value { Gives (λ found. found) usn_cause result (usn_in bytes.now at) }
     ensures inside { IfOk result (λ found. (8 ≤ found.1) × (found.1 ≤ length bytes.now)) }
@@ -64,15 +64,16 @@ pub fn first_record(alloc: Global, bytes: &[u8], at: u64) -> Result<(Option<Usn>
     Ok((Some(entry(alloc, own)?), length))
 }
 
-/// Reads the record at the offset `at` of the journal (Microsoft's reference, "USN_RECORD_V2") in the
-/// bytes of its page, of which there are 4,096, or fewer where the journal ends inside it; bytes that
-/// are given behind these are none of the page. The answer is the entry and the record's length; no
-/// entry where the major version isn't 2.
+/// Reads the record at the offset `at` of the journal (Microsoft's reference, "USN_RECORD_V2") in
+/// the bytes of its page, of which there are 4,096, or fewer where the journal ends inside it;
+/// bytes that are given behind these are none of the page. The answer is the entry and the record's
+/// length; no entry where the major version isn't 2.
 ///
 /// - `Cut`: the length, or the record, runs past the page.
-/// - `Shape`: the length is below 8 or no multiple of 8; or a record of version 2 has a minor version
-///   other than 0, a USN other than `at`, a name elsewhere than at 3C (hexadecimal), a length other
-///   than its name needs, bytes other than zeros behind the name, or units that are no name.
+/// - `Shape`: the length is below 8 or no multiple of 8; or a record of version 2 has a minor
+///   version other than 0, a USN other than `at`, a name elsewhere than at 3C (hexadecimal), a
+///   length other than its name needs, bytes other than zeros behind the name, or units that are no
+///   name.
 /// - `Memory`: want of memory.
 ///
 /// It takes time and memory linear in the record.

@@ -22,10 +22,10 @@ fn keep(entries: &mut UsnList, entry: Option<Usn>) -> Result<(), AllocError>
 }
 
 /// Reads the records of a page of the journal (Microsoft's reference, "USN_RECORD_V2") from the
-/// offset `at` of the journal on, in the bytes of the page, of which there are 4,096, or fewer where
-/// the journal ends inside it; bytes that are given behind these are none of the page. Records of
-/// another version than 2 are passed over, and where only zeros are left, the page ends. The offset
-/// behind the page is below 2^64.
+/// offset `at` of the journal on, in the bytes of the page, of which there are 4,096, or fewer
+/// where the journal ends inside it; bytes that are given behind these are none of the page.
+/// Records of another version than 2 are passed over, and where only zeros are left, the page ends.
+/// The offset behind the page is below 2^64.
 ///
 /// The errors are those of `read`, of the first record that is refused. It takes time and memory
 /// linear in the page.

@@ -79,9 +79,10 @@ fn spelling(alloc: Global, entry: &Usn) -> Result<Vec<u8>, AllocError>
     Ok(bytes)
 }
 
-/// Appends the record of an entry (Microsoft's reference, "USN_RECORD_V2"), of version 2.0, with zeros
-/// behind the name up to a multiple of 8. The numbers of its two files are below 2^48. The error is
-/// want of memory, and leaves what is appended to. It takes time and memory linear in the name.
+/// Appends the record of an entry (Microsoft's reference, "USN_RECORD_V2"), of version 2.0, with
+/// zeros behind the name up to a multiple of 8. The numbers of its two files are below 2^48. The
+/// error is want of memory, and leaves what is appended to. It takes time and memory linear in the
+/// name.
 pub fn write(entry: &Usn, out: &mut Vec<u8>) -> Result<(), Memory>
     requires child { entry.now.child.number < 2 ^ 48 }
     requires parent { entry.now.parent.number < 2 ^ 48 }

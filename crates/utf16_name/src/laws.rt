@@ -18,7 +18,8 @@ pub fn printed_name_is_read()
     ensures { (units : List ℕ) → IsName units → name_of_text (name_text units) ≡ Ok units }
 {}
 
-/// Law: where characters spell units element by element, a text of these characters is read as them.
+/// Law: where characters spell units element by element, a text of these characters is read as
+/// them.
 pub fn spelled_is_read()
     ensures { (text units : List ℕ) → Spells (chars text) units → units_of_text text ≡ Ok units }
 {}

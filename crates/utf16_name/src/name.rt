@@ -98,8 +98,8 @@ impl Name {
         })
     }
 
-    /// The name that a text spells, in time linear in the text. The errors are `Text` as of `text_units`,
-    /// then those of `check`, and want of memory.
+    /// The name that a text spells, in time linear in the text. The errors are `Text` as of
+    /// `text_units`, then those of `check`, and want of memory.
     pub fn from_text(alloc: Global, text: &str) -> Result<Name, NameFault>
         ensures value { Gives (λ name. name) name_cause result (name_of_text text.now) }
     {

@@ -20,11 +20,11 @@ fn push_spelled(units: &mut Vec<u16>, spelled: Spelled) -> Result<(), AllocError
     Ok(())
 }
 
-/// The units that a text spells, which need not be a name's: none, more than 255, or a 0 or `/` that
-/// an escape spells. A character from 0x21 to 0x7E other than `\` and `/` stands for itself, `\u` and
-/// four hexadecimal digits of either case for that unit, and a character above 0x7F for its UTF-16
-/// units. The errors are `Text` at the byte of the text where the first element at fault begins, and
-/// want of memory. It takes time linear in the text.
+/// The units that a text spells, which need not be a name's: none, more than 255, or a 0 or `/`
+/// that an escape spells. A character from 0x21 to 0x7E other than `\` and `/` stands for itself,
+/// `\u` and four hexadecimal digits of either case for that unit, and a character above 0x7F for
+/// its UTF-16 units. The errors are `Text` at the byte of the text where the first element at fault
+/// begins, and want of memory. It takes time linear in the text.
 pub fn text_units(alloc: Global, text: &str) -> Result<Units, NameFault>
     ensures value { Gives (λ units. units) name_cause result (units_of_text text.now) }
 {

@@ -69,19 +69,19 @@ fn check_named<V: View>(
 /// journal. A volume stands for a tree exactly where it breaks none of its nine rules (Linux-NTFS
 /// documentation, "FILE Record", "$FILE_NAME", "$INDEX_ROOT", "Data runs", "$Bitmap", "$UsnJrnl").
 ///
-/// - [`CheckFault::Broken`]: the first rule that the volume breaks, with the least number at which it
-///   does. Rules 1 to 4, 7 and 8 are broken at a record: 1 the names of a file, 2 the directory of
-///   each name, 3 the index of a directory, 4 the pieces, places and sizes of streams, and at record 0
-///   a file table that doesn't begin where the boot sector says, 7 a record that is in use and not
-///   marked, 8 the way up of a directory. Rules 5 and 6 are broken at a cluster: 5 one that is owned
-///   twice, 6 one that is owned and not marked. Rule 9, the change journal, is broken at an offset in
-///   `$J`.
+/// - [`CheckFault::Broken`]: the first rule that the volume breaks, with the least number at which
+///   it does. Rules 1 to 4, 7 and 8 are broken at a record: 1 the names of a file, 2 the directory
+///   of each name, 3 the index of a directory, 4 the pieces, places and sizes of streams, and at
+///   record 0 a file table that doesn't begin where the boot sector says, 7 a record that is in use
+///   and not marked, 8 the way up of a directory. Rules 5 and 6 are broken at a cluster: 5 one that
+///   is owned twice, 6 one that is owned and not marked. Rule 9, the change journal, is broken at
+///   an offset in `$J`.
 /// - [`CheckFault::View`]: the view failed.
 /// - [`CheckFault::Memory`]: want of memory.
 ///
-/// It goes once over the records, over each index and over `$J`. It takes time linear in the records,
-/// in the names times how deep they stand, in the indexes' blocks and in the clusters' bits, and n log
-/// n in the runs; memory is linear in the records, the names and the runs.
+/// It goes once over the records, over each index and over `$J`. It takes time linear in the
+/// records, in the names times how deep they stand, in the indexes' blocks and in the clusters'
+/// bits, and n log n in the runs; memory is linear in the records, the names and the runs.
 pub fn check<V: View>(alloc: Global, view: &mut V, map: &VolumeMap) -> Result<Tree, CheckFault>
     requires map { IsMap map.now }
     ensures value { IfSome (V.content view.old) (λ c. GivesOrFails (λ tree. tree) check_cause result (checked c (volume_in map.now))) }

@@ -1,6 +1,6 @@
 //! The check of a loaded volume: its tree, without the bytes of its files and the records of its
-//! journal, exactly where it breaks none of the nine rules; else the first rule that it breaks, with
-//! the least number at which it does.
+//! journal, exactly where it breaks none of the nine rules; else the first rule that it breaks,
+//! with the least number at which it does.
 //!
 //! The contract: `check` answers what the definition of a check gives for the view's content. The
 //! layouts are those of the Linux-NTFS documentation, "FILE Record", "$FILE_NAME", "$INDEX_ROOT",

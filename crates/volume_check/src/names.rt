@@ -17,8 +17,8 @@ pub struct Names {
     pub counts: Vec<usize>,
 }
 
-/// The names of these files, by number. The error is want of memory. It takes time and memory linear
-/// in the records.
+/// The names of these files, by number. The error is want of memory. It takes time and memory
+/// linear in the records.
 pub fn names_of(alloc: Global, files: &[Option<FileRec>]) -> Result<Names, Memory>
     ensures { IfOk result (λ names. AreNames files.now names) }
 {

@@ -80,10 +80,10 @@ fn with_journal<V: View>(
     Ok(tree_with(alloc, map, names, climber, marks, links, journal)?)
 }
 
-/// The tree of a loaded volume that keeps the rules before the ninth, without the bytes of its nodes
-/// and the records of its journal; or the ninth rule, where its journal is at fault. `names` are the
-/// names of its files, `climber` climbs over these, `marks` are its marks, and `body` is room for a
-/// body. It takes time and memory linear in the records, and reads the journal once.
+/// The tree of a loaded volume that keeps the rules before the ninth, without the bytes of its
+/// nodes and the records of its journal; or the ninth rule, where its journal is at fault. `names`
+/// are the names of its files, `climber` climbs over these, `marks` are its marks, and `body` is
+/// room for a body. It takes time and memory linear in the records, and reads the journal once.
 pub fn report<V: View>(
     alloc: Global,
     view: &mut V,

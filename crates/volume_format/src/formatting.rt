@@ -86,8 +86,8 @@ fn write_volume<D: Device>(
 /// the last sector too.
 ///
 /// It takes time linear in the clusters, constant memory, and writes at most 64 KiB in a call; the
-/// last call is a sync. Of this the contract says how many writes there are, that there is one sync,
-/// and no read.
+/// last call is a sync. Of this the contract says how many writes there are, that there is one
+/// sync, and no read.
 ///
 /// - [`FormatFault::Short`]: the device has no sector, or fewer than 4,537.
 /// - [`FormatFault::VolumeLarge`]: there would be more than 16,777,216 clusters. It comes before

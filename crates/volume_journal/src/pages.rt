@@ -114,7 +114,8 @@ fn check_pages<V: View>(
     Ok(())
 }
 
-// Whether a record owns the bytes before the journal's end in their page; `room` is room for a page.
+// Whether a record owns the bytes before the journal's end in their page; `room` is room for a
+// page.
 #[tactic(auto, unfolding(volume_state::specs::Journals::journal_owned, journal_model::specs::Journals::is_owned, journal_model::specs::Journals::bytes_between))]
 fn last_owned<V: View>(
     view: &mut V,
@@ -144,13 +145,13 @@ fn last_owned<V: View>(
 
 /// Checks the records of a journal that begins at its byte `first`, and answers whether a record of
 /// any version owns the bytes before its end in their page. A volume has `per` sectors a cluster;
-/// `body` is room for a body. It reads each byte once, from the page of `first` on to the real size,
-/// those of the last page twice, and keeps one page: linear in those bytes.
+/// `body` is room for a body. It reads each byte once, from the page of `first` on to the real
+/// size, those of the last page twice, and keeps one page: linear in those bytes.
 ///
 /// - `Broken`: the record at this offset is the first at fault.
 /// - `View`: the view failed.
-/// - `Memory`: want of memory. It comes too where the real size is within 8,192 bytes of 2^64, which
-///   no lawful sizes allow.
+/// - `Memory`: want of memory. It comes too where the real size is within 8,192 bytes of 2^64,
+///   which no lawful sizes allow.
 #[tactic(auto, unfolding(volume_state::specs::Journals::journal_entries, journal_model::specs::Journals::journal_in))]
 pub fn check_entries<V: View>(
     alloc: Global,

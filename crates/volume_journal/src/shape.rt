@@ -95,8 +95,8 @@ pub fn limits_of(stream: &Stream) -> Option<JournalMax>
     }
 }
 
-/// The clusters of `$J`, which has these flags; none where it is resident, or out of shape. A volume
-/// has `per` sectors a cluster. Linear in the runs.
+/// The clusters of `$J`, which has these flags; none where it is resident, or out of shape. A
+/// volume has `per` sectors a cluster. Linear in the runs.
 pub fn entries_of(per: u64, flags: u16, stream: &Stream) -> Option<&Extents>
     requires few { per ≤ 8 }
     requires small { HasSmallRuns stream.now }

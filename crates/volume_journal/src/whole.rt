@@ -158,9 +158,10 @@ fn file_journal<V: View>(
     optional_journal(alloc, view, per, flags, limits, entries, body)
 }
 
-/// The change journal of a loaded volume (Linux-NTFS documentation, "$UsnJrnl"), without its records;
-/// none where `$Extend` has no `$UsnJrnl`, or this lacks one of its streams `$Max` and `$J`. `up` is
-/// the volume's table of upper-case units, `links` are all its names, and `body` is room for a body.
+/// The change journal of a loaded volume (Linux-NTFS documentation, "$UsnJrnl"), without its
+/// records; none where `$Extend` has no `$UsnJrnl`, or this lacks one of its streams `$Max` and
+/// `$J`. `up` is the volume's table of upper-case units, `links` are all its names, and `body` is
+/// room for a body.
 ///
 /// - `Broken` with 0: `$Max` isn't resident or has fewer than 20 bytes (hexadecimal); or `$J` is
 ///   resident, or isn't flagged sparse, or isn't initialised; or a sparse run of it ends past its
@@ -169,8 +170,8 @@ fn file_journal<V: View>(
 /// - `Broken` with an offset: the first record of `$J` that is at fault (Microsoft's reference,
 ///   "USN_RECORD_V2") stands there.
 /// - `View`: the view failed.
-/// - `Memory`: want of memory. It comes too where the real size of `$J` is within 8,192 bytes of 2^64,
-///   which no lawful sizes allow.
+/// - `Memory`: want of memory. It comes too where the real size of `$J` is within 8,192 bytes of
+///   2^64, which no lawful sizes allow.
 ///
 /// Linear in the links, in the file's attributes and runs, and in the bytes of the journal from its
 /// first cluster that isn't sparse on, each of whose sectors takes one pass over the runs more.

@@ -77,13 +77,13 @@ fn links_in<V: View>(
     }
 }
 
-/// The long names of the files that `volume_map::load` answers, by the files' numbers, and of each file as they
-/// stand in its records; or its errors.
+/// The long names of the files that `volume_map::load` answers, by the files' numbers, and of each
+/// file as they stand in its records; or its errors.
 ///
-/// It reads each record once, and keeps only the names, as long as no file has an attribute list: time
-/// is then linear in the records of the table, and for each of them in the runs of the table, and memory
-/// is linear in the names. At the first file with an attribute list it begins again as `load` does, and
-/// costs what that does.
+/// It reads each record once, and keeps only the names, as long as no file has an attribute list:
+/// time is then linear in the records of the table, and for each of them in the runs of the table,
+/// and memory is linear in the names. At the first file with an attribute list it begins again as
+/// `load` does, and costs what that does.
 pub fn load_links<V: View>(
     alloc: Global,
     view: &mut V,

@@ -1,5 +1,5 @@
-//! Plain records, which are judged where they stand: base records with no attribute list and no index
-//! in clusters, that break none of the rules 1 to 8.
+//! Plain records, which are judged where they stand: base records with no attribute list and no
+//! index in clusters, that break none of the rules 1 to 8.
 ghost use Rattle.std.specs.Prelude.{◌≡◌, ◌==◌, ◌++◌, ◌≤◌, [], true, false, length, IfOk, IfSome, IsTrue};
 ghost use Rattle.std.specs.List.{cons_option, filter};
 ghost use Rattle.record_model.specs.Values.{standard_information, file_name, is_file_name, has_lawful_value};
@@ -138,8 +138,8 @@ fn take_attr(
     }
 }
 
-// Takes the attribute at the front of these bytes, and answers its length; none where no plain record
-// has it. `least` is the least type that it may have.
+// Takes the attribute at the front of these bytes, and answers its length; none where no plain
+// record has it. `least` is the least type that it may have.
 fn take_front(
     alloc: Global,
     child: FileRef,
@@ -205,9 +205,9 @@ fn attribute_bytes(body: &[u8]) -> &[u8]
     body.split_at(first).1.split_at(used - first).0
 }
 
-/// Whether the body of a record in use, of this number, is that of a plain record: then its long names
-/// are appended, else any may have been. It copies nothing but these names, and is linear in the body.
-/// The error is want of memory.
+/// Whether the body of a record in use, of this number, is that of a plain record: then its long
+/// names are appended, else any may have been. It copies nothing but these names, and is linear in
+/// the body. The error is want of memory.
 pub fn take_plain(
     alloc: Global,
     number: u64,

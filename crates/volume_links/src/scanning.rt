@@ -23,8 +23,8 @@ use volume_map::{
     ATTRIBUTE_LIST, MapFault, cuts_index, has_type, is_base_record, is_used, or_rule, whole_record,
 };
 
-/// What a scan found of the first records of a table: the long names of the files among them, none of
-/// which has an attribute list, and what refuses the first that breaks a rule.
+/// What a scan found of the first records of a table: the long names of the files among them, none
+/// of which has an attribute list, and what refuses the first that breaks a rule.
 #[derive(Debug, Drop)]
 pub struct Scan {
     pub links: Vec<Link>,
@@ -38,7 +38,8 @@ enum Seen {
     Torn,
     // A file with an attribute list: other records may hold names of it.
     Listed,
-    // Any other: its long names were appended, if it is a file, and this is the rule that it breaks.
+    // Any other: its long names were appended, if it is a file, and this is the rule that it
+    // breaks.
     Judged { rule: Option<u32> },
 }
 
@@ -278,9 +279,10 @@ fn step<V: View>(
     judge(cut, number, seen, &mut scan.refusal)
 }
 
-/// What a scan finds of all records of the table, by rising number, up to one that is torn, which is
-/// refused; none where a file has an attribute list. `cut` says whether a record of the table lies in two
-/// runs. Each is read once. Linear in the records, and in the runs of the table for each.
+/// What a scan finds of all records of the table, by rising number, up to one that is torn, which
+/// is refused; none where a file has an attribute list. `cut` says whether a record of the table
+/// lies in two runs. Each is read once. Linear in the records, and in the runs of the table for
+/// each.
 pub fn scan_table<V: View>(
     alloc: Global,
     view: &mut V,

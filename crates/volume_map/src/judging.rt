@@ -45,8 +45,8 @@ fn is_directory(file: &FileRec) -> bool
     RecordFlags::has_directory(file.head().flags)
 }
 
-/// Whether a block of the directory's index lies in two runs; linear in the record. `per` is the sectors
-/// of a cluster. The error is want of memory.
+/// Whether a block of the directory's index lies in two runs; linear in the record. `per` is the
+/// sectors of a cluster. The error is want of memory.
 #[tactic(auto, unfolding(state_model::specs::Indexes::names_index))]
 pub fn cuts_index(alloc: Global, per: u64, file: &FileRec) -> Result<bool, Memory>
     requires some { 0 < per }
@@ -77,9 +77,9 @@ fn file_cuts_index(alloc: Global, per: u64, file: &Option<FileRec>) -> Result<bo
     }
 }
 
-/// The least rule that a record breaks, by what was found: one of the rules 1 to 8, if there is one, and
-/// whether it breaks rule 9 (a record or an index block lies in two runs) and rule 10 (its attribute list
-/// names an attribute that no record holds).
+/// The least rule that a record breaks, by what was found: one of the rules 1 to 8, if there is
+/// one, and whether it breaks rule 9 (a record or an index block lies in two runs) and rule 10 (its
+/// attribute list names an attribute that no record holds).
 pub fn or_rule(rule: Option<u32>, nine: bool, ten: bool) -> Option<u32>
     ensures { result ≡ or_rule rule nine ten }
 {
@@ -113,8 +113,8 @@ fn rule_at(
     Ok(or_rule(rules[number], nine, tens[number]))
 }
 
-/// Refuses the first record that breaks a rule, by what was found of each; `files` are the files with
-/// all their attributes. Linear in the records and the attributes of directories.
+/// Refuses the first record that breaks a rule, by what was found of each; `files` are the files
+/// with all their attributes. Linear in the records and the attributes of directories.
 pub fn check_rules(
     alloc: Global,
     per: u64,

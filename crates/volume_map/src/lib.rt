@@ -1,10 +1,10 @@
-//! The files of a volume: the records of its file table, wherever they lie, each with the attributes
-//! that its attribute list names in other records.
+//! The files of a volume: the records of its file table, wherever they lie, each with the
+//! attributes that its attribute list names in other records.
 //!
-//! The contract: `load` answers the files that a view's content stands for, or the first refusal that
-//! applies. The layouts are those of the Linux-NTFS documentation, "$MFT", "FILE Record" and
-//! "$ATTRIBUTE_LIST". The calls beside it, on one record or one table, are those that a pass over the
-//! same table makes which keeps less.
+//! The contract: `load` answers the files that a view's content stands for, or the first refusal
+//! that applies. The layouts are those of the Linux-NTFS documentation, "$MFT", "FILE Record" and
+//! "$ATTRIBUTE_LIST". The calls beside it, on one record or one table, are those that a pass over
+//! the same table makes which keeps less.
 #![tactic(auto)]
 
 mod extras;

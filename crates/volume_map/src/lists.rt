@@ -158,8 +158,8 @@ fn push(lists: &mut Vec<ListRead>, list: ListRead) -> Result<(), AllocError>
     Ok(())
 }
 
-/// The entries of the attribute list of each file, by the numbers of the records; `body` is room for
-/// a body. Linear in the records, and in the entries with the runs of their list.
+/// The entries of the attribute list of each file, by the numbers of the records; `body` is room
+/// for a body. Linear in the records, and in the entries with the runs of their list.
 pub fn read_lists<V: View>(
     alloc: Global,
     view: &mut V,

@@ -26,8 +26,8 @@ use state_model::{Extents, Geometry};
 use std::alloc::Global;
 use stream_map::has_cut_block;
 
-// Makes the records the files, by the rules of 1 to 8 that the records break and the lists of files;
-// refuses the first record that breaks a rule.
+// Makes the records the files, by the rules of 1 to 8 that the records break and the lists of
+// files; refuses the first record that breaks a rule.
 fn check_files(
     alloc: Global,
     per: u64,
@@ -73,12 +73,12 @@ fn judged_files(
     Ok(records)
 }
 
-/// The files of a table with these clusters, by number, as [`load`] answers them; `body` is room for a
-/// body, and `per` the sectors of a cluster.
+/// The files of a table with these clusters, by number, as [`load`] answers them; `body` is room
+/// for a body, and `per` the sectors of a cluster.
 ///
-/// The errors are a failure of the view, want of memory, and the first refusal that applies: the first
-/// record that is torn; the first record that breaks a rule, and the least one that it breaks. It costs
-/// what `load` does.
+/// The errors are a failure of the view, want of memory, and the first refusal that applies: the
+/// first record that is torn; the first record that breaks a rule, and the least one that it
+/// breaks. It costs what `load` does.
 pub fn files_in<V: View>(
     alloc: Global,
     view: &mut V,
@@ -101,18 +101,19 @@ pub fn files_in<V: View>(
 }
 
 /// The files of the volume that a view's content is, by number: the base records in use of its file
-/// table, each with the attributes of other records that its attribute list names behind its own, by
-/// the numbers of these records. There is none at the number of another record.
+/// table, each with the attributes of other records that its attribute list names behind its own,
+/// by the numbers of these records. There is none at the number of another record.
 ///
-/// The errors are a failure of the view, want of memory, and the first refusal that applies: record 0
-/// where the boot sector says that the table begins is torn, or breaks one of the rules 1 to 6 and 8;
-/// it has an attribute list; it gives the table too many records; its mapping pairs are at fault; the
-/// first record that is torn; the first record that breaks a rule, and the least one that it breaks.
+/// The errors are a failure of the view, want of memory, and the first refusal that applies: record
+/// 0 where the boot sector says that the table begins is torn, or breaks one of the rules 1 to 6
+/// and 8; it has an attribute list; it gives the table too many records; its mapping pairs are at
+/// fault; the first record that is torn; the first record that breaks a rule, and the least one
+/// that it breaks.
 ///
-/// It reads each record once, and then each attribute list. Its time is linear in the records of the
-/// table, for each of them in the runs of the table, which stand in record 0, and in the entries of
-/// lists, for each attribute of a record that refers to a file in the entries of that file's list. Its
-/// memory is linear in the records and in these entries.
+/// It reads each record once, and then each attribute list. Its time is linear in the records of
+/// the table, for each of them in the runs of the table, which stand in record 0, and in the
+/// entries of lists, for each attribute of a record that refers to a file in the entries of that
+/// file's list. Its memory is linear in the records and in these entries.
 pub fn load<V: View>(
     alloc: Global,
     view: &mut V,

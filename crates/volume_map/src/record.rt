@@ -22,8 +22,8 @@ fn do_span(sizes: Sizes, runs: &[Run]) -> bool
     end == sizes.last.wrapping_add(1)
 }
 
-/// Whether mapping pairs are read, and have the clusters from the first VCN to the last one; linear in
-/// the pairs. The error is want of memory.
+/// Whether mapping pairs are read, and have the clusters from the first VCN to the last one; linear
+/// in the pairs. The error is want of memory.
 pub fn pairs_fit(alloc: Global, sizes: Sizes, pairs: &[u8]) -> Result<bool, Memory>
     ensures { IfOk result (λ fits. fits ≡ span sizes (runs_of sizes.first pairs.now)) }
 {
@@ -54,8 +54,8 @@ fn all_fit(alloc: Global, attrs: &[Attr]) -> Result<bool, Memory>
     Ok(true)
 }
 
-/// Whether the mapping pairs of each attribute are read, and have the clusters from its first VCN to
-/// its last one (rule 7); linear in the record.
+/// Whether the mapping pairs of each attribute are read, and have the clusters from its first VCN
+/// to its last one (rule 7); linear in the record.
 #[tactic(auto, unfolding(state_model::specs::Loads::has_all_pairs))]
 pub fn has_all_pairs(alloc: Global, file: &FileRec) -> Result<bool, Memory>
     ensures { IfOk result (λ fit. fit ≡ has_all_pairs file.now) }

@@ -158,10 +158,11 @@ fn extents_in(alloc: Global, file: Option<FileRec>) -> Result<Extents, MapFault>
 }
 
 /// The clusters of the file table, by record 0 where the boot sector says that the table begins, or
-/// what refuses it; `body` is room for a body. It reads that record alone, and takes time linear in it.
+/// what refuses it; `body` is room for a body. It reads that record alone, and takes time linear in
+/// it.
 ///
-/// The errors are a failure of the view, want of memory, and the first of [`load`]'s refusals that record
-/// 0 alone tells.
+/// The errors are a failure of the view, want of memory, and the first of [`load`]'s refusals that
+/// record 0 alone tells.
 ///
 /// [`load`]: crate::load
 pub fn table_of<V: View>(
@@ -183,9 +184,9 @@ pub fn table_of<V: View>(
     extents_in(alloc, file)
 }
 
-/// The record of that number, where the boot sector says that the table begins, by the rules 1 to 8;
-/// none where it isn't in use. One that is torn, or breaks a rule, is refused. `body` is room for a
-/// body.
+/// The record of that number, where the boot sector says that the table begins, by the rules 1 to
+/// 8; none where it isn't in use. One that is torn, or breaks a rule, is refused. `body` is room
+/// for a body.
 pub fn boot_record<V: View>(
     alloc: Global,
     view: &mut V,

@@ -20,8 +20,8 @@ use state_model::{Extents, MapRefusal};
 use std::alloc::{AllocError, Global};
 use stream_map::block_at;
 
-/// The first records of a table, by number: each one that is in use and breaks none of the rules 1 to
-/// 8, and the least of these rules that one in use breaks.
+/// The first records of a table, by number: each one that is in use and breaks none of the rules 1
+/// to 8, and the least of these rules that one in use breaks.
 #[derive(Debug, Drop)]
 pub struct Walk {
     pub records: Vec<Option<FileRec>>,
@@ -103,8 +103,8 @@ fn step<V: View>(
     note(walk, number, piece)
 }
 
-/// The records of the table by rising number, up to one that is torn, which is refused; each is read
-/// once. Linear in the records, and in the runs of the table for each.
+/// The records of the table by rising number, up to one that is torn, which is refused; each is
+/// read once. Linear in the records, and in the runs of the table for each.
 pub fn walk_table<V: View>(
     alloc: Global,
     view: &mut V,

@@ -1,5 +1,5 @@
-//! A volume as its file table is loaded: the bits of its bitmaps, its streams, indexes and clusters,
-//! what each of them has to keep, and the nodes that its files stand for.
+//! A volume as its file table is loaded: the bits of its bitmaps, its streams, indexes and
+//! clusters, what each of them has to keep, and the nodes that its files stand for.
 //!
 //! The contract: the laws of these definitions, as functions with no body. The layouts are those of
 //! the Linux-NTFS documentation, "$MFT", "$Bitmap", "Attribute Header" and "$INDEX_ALLOCATION".

@@ -116,8 +116,8 @@ fn push_some(nodes: &mut NodeList, node: Option<Node>) -> Result<(), AllocError>
 }
 
 /// The nodes of a volume by number, without their bytes: base records in use, but those of the
-/// volume itself that have no name. `climber` climbs over the map's files, and `links` are the names
-/// of each file. The error is want of memory.
+/// volume itself that have no name. `climber` climbs over the map's files, and `links` are the
+/// names of each file. The error is want of memory.
 ///
 /// Linear in the attributes and runs of the files, and in their names times how deep these stand.
 #[tactic(auto, using(crate::proofs::Nodes::nodes_more), unfolding(volume_model::specs::Nodes::nodes_by))]

@@ -105,7 +105,8 @@ pub fn cluster_bits<V: View>(
 }
 
 /// The bits of the file table's records, set where a record is in use; a bit past the end of the
-/// table's bitmap is clear. `body` is room for a body. It takes time and memory linear in the records.
+/// table's bitmap is clear. `body` is room for a body. It takes time and memory linear in the
+/// records.
 #[tactic(auto, unfolding(volume_model::specs::Volumes::record_bits))]
 pub fn record_bits<V: View>(
     alloc: Global,

@@ -14,8 +14,8 @@ use upcase_order::Upcase;
 use utf16_name::Units;
 
 // A directory with one name, whose key stands in the index block at sector 16: the sectors of a
-// cluster, the mapping pairs of its allocation, the initialised size, and whether the index is found
-// to hold the name. Without mapping pairs the key stands in the root.
+// cluster, the mapping pairs of its allocation, the initialised size, and whether the index is
+// found to hold the name. Without mapping pairs the key stands in the root.
 struct Row(u8, &'static [u8], u64, bool);
 
 static ROWS: [Row; 7] = [

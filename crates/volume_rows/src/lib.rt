@@ -1,6 +1,6 @@
-//! Rows of inputs and answers of what lies in a volume, its streams, attribute lists, indexes, owners of
-//! clusters and change journal, and of the calls over an image: a scan, a check, the reading of a
-//! journal and a format. The crate has tests and what they share, and no more.
+//! Rows of inputs and answers of what lies in a volume, its streams, attribute lists, indexes,
+//! owners of clusters and change journal, and of the calls over an image: a scan, a check, the
+//! reading of a journal and a format. The crate has tests and what they share, and no more.
 #![tactic(auto)]
 
 #[cfg(test)]
