@@ -1,5 +1,6 @@
 pub mod KeyUnits
 pub mod Held
+pub mod Gathered
 pub mod Lawful
 pub mod Putting
 pub mod Laid

@@ -1,6 +1,7 @@
-ghost use Rattle.std.specs.Prelude.{◌≡◌, IfOk, IfSome, OnOk};
-ghost use Rattle.index_model.specs.Indexes.{node_of_block};
-ghost use Rattle.index_change.specs.Holding.{Holds};
+ghost use Rattle.std.specs.Prelude.{◌≡◌, ℕ, IfOk, IfSome, OnOk};
+ghost use Rattle.index_model.specs.Indexes.{node_of_block, entry_link};
+ghost use Rattle.index_model.specs.Walks.{below, beside, entry_sought, kid_sought, root_vcn, side_of, sought_in};
+ghost use Rattle.index_change.specs.Holding.{AllHeld, Holds, StayHeld};
 ghost use Rattle.index_tree.specs.Places.{place_of};
 ghost use Rattle.index_tree.specs.Faults.{FailsAsView};
 
@@ -34,6 +35,8 @@ impl<'a> Gatherer<'a> {
         held: &mut Held,
     ) -> Result<(), ViewFault>
         ensures right { OnOk result (IfSome (V.content v.old) (λ c. Holds (node_of_block c (place_of self.now.dir.now)) held.old → Holds (node_of_block c (place_of self.now.dir.now)) held.new)) }
+        ensures stay { OnOk result (StayHeld held.old held.new) }
+        ensures met { OnOk result (IfSome (V.content v.old) (λ c. (above : ℕ) → AllHeld (node_of_block c (place_of self.now.dir.now)) (kid_sought self.now.up.now self.now.name.now (node_of_block c (place_of self.now.dir.now)) levels above child) held.new)) }
         ensures same { V.content v.new ≡ V.content v.old }
         ensures kept { V.kept v.new ≡ V.kept v.old }
         ensures cause { FailsAsView (V.faults v.old) (V.faults v.new) result }
@@ -59,6 +62,8 @@ impl<'a> Gatherer<'a> {
         held: &mut Held,
     ) -> Result<(), ViewFault>
         ensures right { OnOk result (IfSome (V.content v.old) (λ c. Holds (node_of_block c (place_of self.now.dir.now)) held.old → Holds (node_of_block c (place_of self.now.dir.now)) held.new)) }
+        ensures stay { OnOk result (StayHeld held.old held.new) }
+        ensures met { OnOk result (IfSome (V.content v.old) (λ c. (above : ℕ) → AllHeld (node_of_block c (place_of self.now.dir.now)) (below (kid_sought self.now.up.now self.now.name.now (node_of_block c (place_of self.now.dir.now)) levels above) down) held.new)) }
         ensures same { V.content v.new ≡ V.content v.old }
         ensures kept { V.kept v.new ≡ V.kept v.old }
         ensures cause { FailsAsView (V.faults v.old) (V.faults v.new) result }
@@ -67,6 +72,29 @@ impl<'a> Gatherer<'a> {
             None => Ok(()),
             Some(child) => self.child(v, levels, child, held),
         }
+    }
+
+    // Holds what hangs below an entry that stands at this side, unless that is before the name.
+    #[cycle(gathering)]
+    fn beside<V: View>(
+        &self,
+        v: &mut V,
+        levels: u32,
+        side: Side,
+        down: Option<u64>,
+        held: &mut Held,
+    ) -> Result<(), ViewFault>
+        ensures right { OnOk result (IfSome (V.content v.old) (λ c. Holds (node_of_block c (place_of self.now.dir.now)) held.old → Holds (node_of_block c (place_of self.now.dir.now)) held.new)) }
+        ensures stay { OnOk result (StayHeld held.old held.new) }
+        ensures met { OnOk result (IfSome (V.content v.old) (λ c. (above : ℕ) → AllHeld (node_of_block c (place_of self.now.dir.now)) (beside side (below (kid_sought self.now.up.now self.now.name.now (node_of_block c (place_of self.now.dir.now)) levels above) down)) held.new)) }
+        ensures same { V.content v.new ≡ V.content v.old }
+        ensures kept { V.kept v.new ≡ V.kept v.old }
+        ensures cause { FailsAsView (V.faults v.old) (V.faults v.new) result }
+    {
+        if side == Side::Before {
+            return Ok(());
+        }
+        self.below(v, levels, down, held)
     }
 
     // Holds what a search meets below an entry, and answers where the entry stands.
@@ -79,16 +107,16 @@ impl<'a> Gatherer<'a> {
         held: &mut Held,
     ) -> Result<Side, ViewFault>
         ensures right { OnOk result (IfSome (V.content v.old) (λ c. Holds (node_of_block c (place_of self.now.dir.now)) held.old → Holds (node_of_block c (place_of self.now.dir.now)) held.new)) }
+        ensures stay { OnOk result (StayHeld held.old held.new) }
+        ensures met { OnOk result (IfSome (V.content v.old) (λ c. (above : ℕ) → AllHeld (node_of_block c (place_of self.now.dir.now)) (entry_sought (side_of self.now.up.now self.now.name.now (entry_link entry.now)) (entry_link entry.now) (below (kid_sought self.now.up.now self.now.name.now (node_of_block c (place_of self.now.dir.now)) levels above) entry.now.down)) held.new)) }
+        ensures side { IfOk result (λ side. side ≡ side_of self.now.up.now self.now.name.now (entry_link entry.now)) }
         ensures same { V.content v.new ≡ V.content v.old }
         ensures kept { V.kept v.new ≡ V.kept v.old }
         ensures cause { FailsAsView (V.faults v.old) (V.faults v.new) result }
     {
         let link = entry_link(self.alloc, entry)?;
         let side = side_of(self.up, self.name, &link);
-        if side == Side::Before {
-            return Ok(side);
-        }
-        self.below(v, levels, entry.down, held)?;
+        self.beside(v, levels, side, entry.down, held)?;
         Ok(side)
     }
 
@@ -102,22 +130,25 @@ impl<'a> Gatherer<'a> {
         held: &mut Held,
     ) -> Result<(), ViewFault>
         ensures right { OnOk result (IfSome (V.content v.old) (λ c. Holds (node_of_block c (place_of self.now.dir.now)) held.old → Holds (node_of_block c (place_of self.now.dir.now)) held.new)) }
+        ensures stay { OnOk result (StayHeld held.old held.new) }
+        ensures met { OnOk result (IfSome (V.content v.old) (λ c. (above : ℕ) → AllHeld (node_of_block c (place_of self.now.dir.now)) (sought_in self.now.up.now self.now.name.now (node_of_block c (place_of self.now.dir.now)) levels above entries.now) held.new)) }
         ensures same { V.content v.new ≡ V.content v.old }
         ensures kept { V.kept v.new ≡ V.kept v.old }
         ensures cause { FailsAsView (V.faults v.old) (V.faults v.new) result }
     {
         for entry in entries {
             let side = self.entry(v, levels, entry, held)?;
-            if side == Side::Behind {
-                return Ok(());
+            match side {
+                Side::Behind => return Ok(()),
+                _ => {}
             }
         }
         Ok(())
     }
 }
 
-/// The nodes below the root that a search for a name meets, each read once more, where the search
-/// has met no fault. Linear in their bytes.
+/// The nodes below the root that a search for a name meets and that break no rule, each read once
+/// more. Linear in their bytes.
 pub fn gather<V: View>(
     alloc: Global,
     v: &mut V,
@@ -127,6 +158,7 @@ pub fn gather<V: View>(
     root: &EntryList,
 ) -> Result<Held, ViewFault>
     ensures right { IfSome (V.content v.old) (λ c. IfOk result (Holds (node_of_block c (place_of dir.now)))) }
+    ensures met { IfSome (V.content v.old) (λ c. IfOk result (AllHeld (node_of_block c (place_of dir.now)) (sought_in up.now name.now (node_of_block c (place_of dir.now)) 15 root_vcn root.now))) }
     ensures same { V.content v.new ≡ V.content v.old }
     ensures kept { V.kept v.new ≡ V.kept v.old }
     ensures cause { FailsAsView (V.faults v.old) (V.faults v.new) result }

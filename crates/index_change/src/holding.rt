@@ -1,11 +1,10 @@
 ghost use Rattle.std.specs.Prelude.{◌≡◌, ◌<◌, IfErr, IfOk, OnOk, Ok, length};
 ghost use Rattle.std.specs.Option.{ForSome};
-ghost use Rattle.record_model.specs.Nodes.{node_at};
 ghost use Rattle.index_model.specs.Indexes.{node_of_block};
 ghost use Rattle.index_plan.specs.declared.fault.ReadFault.TheVariants.{Memory as no_memory};
 ghost use Rattle.index_plan.specs.Reading.{Reads};
 ghost use Rattle.index_plan.specs.Room.{Sized};
-ghost use Rattle.index_change.specs.Holding.{Holds};
+ghost use Rattle.index_change.specs.Holding.{Holds, HoldsMore};
 ghost use Rattle.index_tree.specs.Places.{place_of};
 
 use block_view::View;
@@ -20,9 +19,11 @@ use std::collections::BTreeMap;
 /// The nodes by their VCNs.
 pub type Held = BTreeMap<u64, Node>;
 
-/// One node more. The error is want of memory.
+/// One node more, in place of the one that was held by its VCN. The error is want of memory.
+/// Logarithmic in the nodes that are held.
 pub fn hold(held: &mut Held, vcn: u64, node: Node) -> Result<(), AllocError>
-    ensures { (read : Reads) → read vcn ≡ Ok node.entries → Holds read held.old → OnOk result (Holds read held.new) }
+    ensures more { OnOk result (HoldsMore vcn node held.old held.new) }
+    ensures right { (read : Reads) → read vcn ≡ Ok node.entries → Holds read held.old → OnOk result (Holds read held.new) }
 {
     match held.insert(vcn, node) {
         Ok(_) => Ok(()),
