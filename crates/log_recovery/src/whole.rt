@@ -232,7 +232,7 @@ pub fn recover_view<V: View>(
     })
 }
 
-/// The same on a device, which is only read.
+/// The same on a device, which is only read: what a crash may leave of it stays too.
 ///
 /// The errors are those of [`recover_view`]; [`RecoveryFault::Fault`] is a failure of the device.
 /// Its time is that of `recover_view`, and memory is linear in the entries, with room for one piece

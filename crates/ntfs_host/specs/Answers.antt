@@ -1,5 +1,5 @@
 -- What the commands that run no script answer, and what they leave on the device.
-use Rattle.std.specs.Prelude.{◌≡◌, ⊤, ℕ, List, length, Option, Result, Ok}
+use Rattle.std.specs.Prelude.{◌≡◌, ⊤, ℕ, List, length, Option, Result, Ok, IfSome}
 use Rattle.std.specs.Option.{option_map}
 use Rattle.host_base.specs.Answers.{◌>>=◌}
 use Rattle.volume_format.specs.declared.fault.FormatFault.{FormatFault}
@@ -9,6 +9,7 @@ use Rattle.sector_device.specs.Moments.{Changes, Begins}
 use Rattle.volume_format.specs.Layouts.{layout_of, device_writes}
 use Rattle.volume_format.specs.Images.{regions, formatted}
 use Rattle.volume_format.specs.Stopping.{PutsFront, KeepsOthers}
+use Rattle.volume_format.specs.Crashing.{IsSettledNow, KeepsLeft}
 use Rattle.image_scan.specs.declared.refusal.Refusal.{Refusal}
 use Rattle.image_scan.specs.declared.refusal.Refusal.TheVariants.{VolumeLarge, Short, Unbuilt}
 use Rattle.image_scan.specs.declared.refusal.ScanError.{ScanError}
@@ -109,6 +110,28 @@ LeavesRest Dump sectors gives gives_now = gives_now ≡ gives
 LeavesRest Check sectors gives gives_now = gives_now ≡ gives
 LeavesRest Journal sectors gives gives_now = gives_now ≡ gives
 LeavesRest (Format seed time) sectors gives gives_now = KeepsOthers (layout_of sectors) gives gives_now
+
+-- A format that is done leaves nothing unsynced; of another command nothing is said.
+abbrev pub SettlesBy : Quiet → Changes → Type 0
+SettlesBy Scan now = ⊤
+SettlesBy Dump now = ⊤
+SettlesBy Check now = ⊤
+SettlesBy Journal now = ⊤
+SettlesBy (Format seed time) now = IsSettledNow now
+
+-- What a crash leaves since the moment at which a command began, whatever comes of it, by the number
+-- of sectors: during a format and after it, in free clusters and all behind them, what it might have
+-- left before; with another command all is as before.
+abbrev pub KeepsLeftBy : Quiet → ℕ → ℕ → Changes → Changes → Type 0
+KeepsLeftBy Scan sectors moment before now = now ≡ before
+KeepsLeftBy Dump sectors moment before now = now ≡ before
+KeepsLeftBy Check sectors moment before now = now ≡ before
+KeepsLeftBy Journal sectors moment before now = now ≡ before
+KeepsLeftBy (Format seed time) sectors moment before now = KeepsLeft (layout_of sectors) sectors moment before now
+
+-- where no call of the device is begun, the same holds of it, whatever the command is
+abbrev pub KeepsLeftUncalled : ℕ → ℕ → Changes → Type 0
+KeepsLeftUncalled sectors moment changes = (command : Option Quiet) → IfSome command (λ q. KeepsLeftBy q sectors moment changes changes)
 
 -- a refusal, and no fault
 abbrev pub IsRefusal : ScanError → Type 0

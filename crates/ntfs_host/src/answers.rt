@@ -9,9 +9,10 @@ ghost use Rattle.volume_format.specs.Images.{regions, formatted};
 ghost use Rattle.sector_device.specs.Moments.{Begins};
 ghost use Rattle.volume_format.specs.Layouts.{layout_of, device_writes};
 ghost use Rattle.volume_format.specs.Stopping.{PutsFront, KeepsOthers};
+ghost use Rattle.volume_format.specs.Crashing.{IsSettledNow, KeepsLeft};
 ghost use Rattle.image_scan.specs.Errors.{scan_cause, refused_as};
 ghost use Rattle.image_dump.specs.Texts.{scan_text, dump_text, check_text, journal_text};
-ghost use Rattle.ntfs_host.specs.Answers.{scan_answer, dump_answer, check_answer, journal_answer, format_refusal, error_of_format, format_line, answer_of, IsReader, Leaves, LeavesFront, LeavesRest, IsRefusal, BeginsBy};
+ghost use Rattle.ntfs_host.specs.Answers.{scan_answer, dump_answer, check_answer, journal_answer, format_refusal, error_of_format, format_line, answer_of, IsReader, Leaves, LeavesFront, LeavesRest, IsRefusal, BeginsBy, SettlesBy, KeepsLeftBy};
 
 use crate::command::Quiet;
 use crate::text::formatted_line;
@@ -139,6 +140,8 @@ fn make_volume<D: Device>(
     ensures answer { GivesOrFails (λ f. f) scan_cause result (refused_as format_refusal (format_answer (D.sector_count device.old))) }
     ensures image { IfOk result (λ f. D.gives device.new ≡ option_map (λ disk. formatted disk seed time) (D.gives device.old)) }
     ensures begins { IfOk result (λ _. Begins (device_writes (layout_of (D.sector_count device.old))) 1 (D.changes_of device.old) (D.changes_of device.new)) }
+    ensures settled { IfOk result (λ _. IsSettledNow (D.changes_of device.new)) }
+    ensures others_left { KeepsLeft (layout_of (D.sector_count device.old)) (D.sector_count device.old) (D.moment_of device.old) (D.changes_of device.old) (D.changes_of device.new) }
     ensures stopped { IsErrOf result ScanError.Device → PutsFront (regions (layout_of (D.sector_count device.old)) seed time) (D.gives device.old) (D.gives device.new) }
     ensures others { KeepsOthers (layout_of (D.sector_count device.old)) (D.gives device.old) (D.gives device.new) }
     ensures refused { IfErr result (λ e. IsRefusal e → D.gives device.new ≡ D.gives device.old) }
@@ -169,6 +172,8 @@ fn format_answer<D: Device>(
     ensures answer { GivesOrFails (λ text. string_bytes text) scan_cause result (format_line (D.sector_count device.old)) }
     ensures image { IfOk result (λ text. D.gives device.new ≡ option_map (λ disk. formatted disk seed time) (D.gives device.old)) }
     ensures begins { IfOk result (λ _. Begins (device_writes (layout_of (D.sector_count device.old))) 1 (D.changes_of device.old) (D.changes_of device.new)) }
+    ensures settled { IfOk result (λ _. IsSettledNow (D.changes_of device.new)) }
+    ensures others_left { KeepsLeft (layout_of (D.sector_count device.old)) (D.sector_count device.old) (D.moment_of device.old) (D.changes_of device.old) (D.changes_of device.new) }
     ensures stopped { IsErrOf result ScanError.Device → PutsFront (regions (layout_of (D.sector_count device.old)) seed time) (D.gives device.old) (D.gives device.new) }
     ensures others { KeepsOthers (layout_of (D.sector_count device.old)) (D.gives device.old) (D.gives device.new) }
     ensures refused { IfErr result (λ e. IsRefusal e → D.gives device.new ≡ D.gives device.old) }
@@ -199,6 +204,8 @@ pub fn answer<D: Device>(
     ensures answer { IfSome (D.gives device.old) (λ disk. GivesOrFails (λ text. string_bytes text) scan_cause result (answer_of command.now disk)) }
     ensures leaves { IfOk result (λ text. Leaves command.now (D.gives device.old) (D.gives device.new)) }
     ensures begins { IfOk result (λ text. BeginsBy command.now (D.sector_count device.old) (D.changes_of device.old) (D.changes_of device.new)) }
+    ensures settled { IfOk result (λ text. SettlesBy command.now (D.changes_of device.new)) }
+    ensures others_left { KeepsLeftBy command.now (D.sector_count device.old) (D.moment_of device.old) (D.changes_of device.old) (D.changes_of device.new) }
     ensures stopped { IsErrOf result ScanError.Device → LeavesFront command.now (D.sector_count device.old) (D.gives device.old) (D.gives device.new) }
     ensures others { LeavesRest command.now (D.sector_count device.old) (D.gives device.old) (D.gives device.new) }
     ensures refused { IfErr result (λ e. IsRefusal e → D.gives device.new ≡ D.gives device.old) }

@@ -4,7 +4,7 @@ ghost use Rattle.std.specs.Io.KnownBytes.{Appends};
 ghost use Rattle.host_base.specs.Causes.{Rose, HasFailed, AppendsPart, last_moment};
 ghost use Rattle.script_text.specs.Scripts.{script_of};
 ghost use Rattle.upcase_order.specs.Tables.{standard_table};
-ghost use Rattle.ntfs_host.specs.Answers.{answer_of, IsReader, Leaves, LeavesFront, LeavesRest, BeginsBy};
+ghost use Rattle.ntfs_host.specs.Answers.{answer_of, IsReader, Leaves, LeavesFront, LeavesRest, BeginsBy, SettlesBy, KeepsLeftBy, KeepsLeftUncalled};
 ghost use Rattle.small_image.specs.Mounts.{mounted_of};
 ghost use Rattle.ntfs_host.specs.Runs.{PrintsScript, PrintsScriptPart, IsRunStatus};
 ghost use Rattle.ntfs_host.specs.Scripts.{script_line, IsAccepted, IsReadWhole, LosesAtMost};
@@ -38,6 +38,13 @@ const USAGE_LINE: &str = "usage: ntfshost IMAGE COMMAND [--time N] [--seed N] [-
 pub struct Outcome<D> {
     pub status: u8,
     pub device: D,
+}
+
+// Law: of a device that isn't called a crash leaves what it might have left before.
+fn leaves_uncalled<D: Device>(device: &D)
+    ensures { KeepsLeftUncalled (D.sector_count device.now) (D.moment_of device.now) (D.changes_of device.now) }
+{
+    let _ = device;
 }
 
 // Writes the text, each of its lines by itself.
@@ -87,6 +94,8 @@ fn answer_into<K: Sink, D: Device>(
     ensures begins_part { result ≡ 7 → BeginsBy command.now (D.sector_count device.old) (D.changes_of device.old) (D.changes_of device.new) ⊎ (D.changes_of device.new ≡ D.changes_of device.old) }
     ensures begins_wanting { result ≡ 6 → (D.changes_of device.new ≡ D.changes_of device.old) ⊎ BeginsBy command.now (D.sector_count device.old) (D.changes_of device.old) (D.changes_of device.new) }
     ensures begins_refused { IfSome (D.gives device.old) (λ disk. IsErr (answer_of command.now disk) → D.changes_of device.new ≡ D.changes_of device.old) }
+    ensures settled { result ≡ 0 → SettlesBy command.now (D.changes_of device.new) }
+    ensures others_left { KeepsLeftBy command.now (D.sector_count device.old) (D.moment_of device.old) (D.changes_of device.old) (D.changes_of device.new) }
     ensures sectors { D.sector_count device.new ≡ D.sector_count device.old }
     ensures later { D.fault_count device.old ≤ D.fault_count device.new }
 {
@@ -134,8 +143,9 @@ fn answer_into<K: Sink, D: Device>(
 /// `Format` makes a new volume with this serial number, all of whose times are this one, and prints
 /// `formatted CLUSTERS ROOM`. It refuses a device of no sectors, of more than 16,777,216 clusters
 /// of eight sectors, and of fewer than 4,537 sectors. It writes the system's files; free clusters
-/// and the last sector of the device stay as they are. Its time is linear in the log and the bitmap
-/// of the clusters, and its memory doesn't grow with the volume.
+/// and the last sector of the device stay as they are, also where a crash cuts it off, of which no
+/// more is promised. Its time is linear in the log and the bitmap of the clusters, and its memory
+/// doesn't grow with the volume.
 ///
 /// The layouts are those of the Linux-NTFS documentation, "$Boot", "$MFT", "FILE Record",
 /// "$FILE_NAME", "$INDEX_ROOT", "$Bitmap" and "$UsnJrnl". The status is that of [`Outcome`].
@@ -168,7 +178,10 @@ pub fn quiet_command<K: Sink, D: Device>(
     // its line. A format whose line isn't written has made its volume, or was refused; one that
     // wants memory has made its volume, or leaves all; one whose device failed leaves a front of
     // its regions. Free clusters, what lies behind them and the last sector stay always. A device
-    // has as many sectors as before, and its faults don't fall.
+    // has as many sectors as before, and its faults don't fall. After every command but a format a
+    // crash leaves exactly what it might have left before, now and since any moment; after a format
+    // that is done nothing is unsynced, and whatever comes of one, a crash during it or after it
+    // leaves in those sectors that stay only what it might have left there before.
     ensures reads { IsReader command.now → D.gives result.device ≡ D.gives device }
     ensures only_read { IsReader command.now → D.changes_of result.device ≡ D.changes_of device }
     ensures unwritten { result.status ≡ 3 → D.changes_of result.device ≡ D.changes_of device }
@@ -184,6 +197,8 @@ pub fn quiet_command<K: Sink, D: Device>(
     ensures left_wanting { result.status ≡ 6 → (D.gives result.device ≡ D.gives device) ⊎ Leaves command.now (D.gives device) (D.gives result.device) }
     ensures left_done { result.status ≡ 7 → IfSome (D.gives device) (λ disk. IsOk (answer_of command.now disk) → Leaves command.now (D.gives device) (D.gives result.device)) }
     ensures left_refused { IfSome (D.gives device) (λ disk. IsErr (answer_of command.now disk) → D.gives result.device ≡ D.gives device) }
+    ensures settled { result.status ≡ 0 → SettlesBy command.now (D.changes_of result.device) }
+    ensures others_left { KeepsLeftBy command.now (D.sector_count device) (D.moment_of device) (D.changes_of device) (D.changes_of result.device) }
     ensures sectors { D.sector_count result.device ≡ D.sector_count device }
     ensures later { D.fault_count device ≤ D.fault_count result.device }
 
@@ -326,7 +341,10 @@ pub fn ntfs_host<R: Threads + Wait + Sync, S: Source, K: Sink, D: Device + Send,
     // its line. A format whose line isn't written has made its volume, or was refused; one that
     // wants memory has made its volume, or leaves all; one whose device failed leaves a front of
     // its regions. Free clusters, what lies behind them and the last sector stay always. A device
-    // has as many sectors as before, and its faults don't fall.
+    // has as many sectors as before, and its faults don't fall. After every command but a format a
+    // crash leaves exactly what it might have left before, now and since any moment; after a format
+    // that is done nothing is unsynced, and whatever comes of one, a crash during it or after it
+    // leaves in those sectors that stay only what it might have left there before.
     ensures reads { Reads (quiet_in words.now) → D.gives result.device ≡ D.gives device }
     ensures only_read { Reads (quiet_in words.now) → D.changes_of result.device ≡ D.changes_of device }
     ensures unwritten { result.status ≡ 3 → D.changes_of result.device ≡ D.changes_of device }
@@ -342,12 +360,15 @@ pub fn ntfs_host<R: Threads + Wait + Sync, S: Source, K: Sink, D: Device + Send,
     ensures left_wanting { result.status ≡ 6 → (D.gives result.device ≡ D.gives device) ⊎ IfSome (quiet_in words.now) (λ command. Leaves command (D.gives device) (D.gives result.device)) }
     ensures left_done { IfSome (quiet_in words.now) (λ command. result.status ≡ 7 → IfSome (D.gives device) (λ disk. IsOk (answer_of command disk) → Leaves command (D.gives device) (D.gives result.device))) }
     ensures left_refused { IfSome (quiet_in words.now) (λ command. IfSome (D.gives device) (λ disk. IsErr (answer_of command disk) → D.gives result.device ≡ D.gives device)) }
+    ensures settled { IfSome (quiet_in words.now) (λ command. result.status ≡ 0 → SettlesBy command (D.changes_of result.device)) }
+    ensures others_left { IfSome (quiet_in words.now) (λ command. KeepsLeftBy command (D.sector_count device) (D.moment_of device) (D.changes_of device) (D.changes_of result.device)) }
     ensures sectors { D.sector_count result.device ≡ D.sector_count device }
     ensures later { D.fault_count device ≤ D.fault_count result.device }
 {
     let command = match command_in(alloc, words) {
         Ok(command) => command,
         Err(_) => {
+            leaves_uncalled(&device);
             return Outcome {
                 status: MEMORY,
                 device,

@@ -1,6 +1,6 @@
 -- Bytes in sectors, and parts of what was written.
 use Rattle.std.proofs.Common.{◌≡◌, ◌⊎◌, ℕ, zero, suc, ◌+◌, ◌-◌, ◌*◌, ◌/◌, ◌%◌, ◌<◌, ◌≤◌, List, [], ◌∷◌, ◌++◌, length, take, drop, get_or, refl, sym, ap, ◌∙◌, inl, inr, arith}
-use Rattle.std.proofs.lemmas.List.{append-nil, get_or-take, get_or-drop, take-append-drop, take-take, drop-take, drop-drop, ext_get_or, take_all, drop_all}
+use Rattle.std.proofs.lemmas.List.{append-nil, length-take-le, get_or-take, get_or-drop, take-append-drop, take-take, drop-take, drop-drop, ext_get_or, take_all, drop_all}
 use Rattle.std.proofs.lemmas.Bool.{cases_lt}
 use borrow.Rule.Slice.PartMut.{put_mid}
 use Rattle.disk_model.specs.Bytes.{part, written}
@@ -91,6 +91,40 @@ written_in_sectors bytes new first whole le =
     let lt'' : s < length after / 512 = omega arith in
     sector_after bytes new first s whole le lt' ∙ sym (get_or-sectors_of after s zero_sector lt''))
 
+-- ---- parts of bytes that are whole sectors
+
+part_of_part : (at n k len : ℕ) (bytes : List ℕ) → k + len ≤ n → at + n ≤ length bytes → part k len (part at n bytes) ≡ part (at + k) len bytes
+part_of_part at n k len bytes le inside =
+    same_parts k (at + k) len (part at n bytes) bytes (omega (arith, length-part at n bytes inside)) (omega arith) (λ i lt.
+    let e : at + (k + i) ≡ at + k + i = omega arith in
+    get_or-part at n (k + i) bytes (omega arith) ∙ ap (λ (j : ℕ). get_or bytes j 0) e)
+
+-- the sectors of a part are sectors of the whole
+pub sector_of_part : (first n j : ℕ) (bytes : List ℕ) → n % 512 ≡ 0 → 512 * first + n ≤ length bytes → j < n / 512 → sector_of (sectors_of (part (512 * first) n bytes)) j ≡ sector_of (sectors_of bytes) (first + j)
+unfolding sector_in
+sector_of_part first n j bytes whole inside lt =
+    let len : length (part (512 * first) n bytes) ≡ n = length-part (512 * first) n bytes inside in
+    let at : 512 * first + 512 * j ≡ 512 * (first + j) = omega arith in
+    get_or-sectors_of (part (512 * first) n bytes) j zero_sector (omega (arith, len))
+    ∙ part_of_part (512 * first) n (512 * j) 512 bytes (omega arith) inside ∙ ap (λ (k : ℕ). part k 512 bytes) at
+    ∙ sym (get_or-sectors_of bytes (first + j) zero_sector (omega arith))
+
+pub count_of_part : (first n : ℕ) (bytes : List ℕ) → 512 * first + n ≤ length bytes → length (sectors_of (part (512 * first) n bytes)) ≡ n / 512
+count_of_part first n bytes inside = length-sectors_of (part (512 * first) n bytes) ∙ ap (λ (k : ℕ). k / 512) (length-part (512 * first) n bytes inside)
+
+-- the sectors of a front are a front of the sectors
+pub sectors_of_front : (n : ℕ) (bytes : List ℕ) → n % 512 ≡ 0 → n ≤ length bytes → sectors_of (take n bytes) ≡ take (n / 512) (sectors_of bytes)
+sectors_of_front n bytes whole le =
+    let zero_at : 512 * 0 ≡ 0 = omega arith in
+    let front : take n bytes ≡ part (512 * 0) n bytes = refl in
+    let count : length (sectors_of (take n bytes)) ≡ n / 512 = count_of_part 0 n bytes (omega arith) in
+    let all : length (sectors_of bytes) ≡ length bytes / 512 = length-sectors_of bytes in
+    let short : length (take (n / 512) (sectors_of bytes)) ≡ n / 512 = length-take-le (n / 512) (sectors_of bytes) (omega (arith, all)) in
+    ext_get_or zero_sector (sectors_of (take n bytes)) (take (n / 512) (sectors_of bytes)) (count ∙ sym short) (λ j lt.
+    let lt' : j < n / 512 = omega (arith, count) in
+    let same : 0 + j ≡ j = omega arith in
+    sector_of_part 0 n j bytes whole (omega arith) lt' ∙ ap (λ (k : ℕ). sector_of (sectors_of bytes) k) same ∙ sym (get_or-take (n / 512) (sectors_of bytes) j zero_sector lt'))
+
 -- ---- a failed write
 
 pub outside_stays : (before new now : List (List ℕ)) (first s : ℕ) → IsMixOf before (written first new before) now → (s < first) ⊎ (first + length new ≤ s) → sector_of now s ≡ sector_of before s
@@ -126,10 +160,16 @@ read_is_raw out now items old first len e f g whole le =
     e ∙ ap (λ (l : List ℕ). part (512 * first) len l) (f ∙ g) ∙ ap (λ (n : ℕ). part (512 * first) n old) long ∙ sym raw
 
 -- a whole vector that was lent as a slice
-lent_whole : (n : ℕ) (xs items : List ℕ) → length xs ≡ length items → n ≡ length items → take n (xs ++ drop (length xs) items) ≡ xs
+pub lent_whole : (n : ℕ) (xs items : List ℕ) → length xs ≡ length items → n ≡ length items → take n (xs ++ drop (length xs) items) ≡ xs
 lent_whole n xs items same len =
     let rest : drop (length xs) items ≡ [] = drop_all (length xs) items (omega arith) in
     ap (λ (l : List ℕ). take n (xs ++ l)) rest ∙ ap (λ (l : List ℕ). take n l) (append-nil xs) ∙ take_all n xs (omega arith)
+
+-- the bytes after a write into a vector
+pub bytes_after : (n at : ℕ) (xs now items old new : List ℕ) → xs ≡ written at new now → now ≡ items → n ≡ length items → items ≡ old → take n (xs ++ drop (length xs) items) ≡ written at new old
+bytes_after n at xs now items old new e f len g =
+    let same : length xs ≡ length items = ap (λ (l : List ℕ). length l) e ∙ length-written at new now ∙ ap (λ (l : List ℕ). length l) f in
+    lent_whole n xs items same len ∙ e ∙ ap (λ (l : List ℕ). written at new l) (f ∙ g)
 
 pub write_is_written : (n first : ℕ) (xs now items old new : List ℕ) → xs ≡ written (512 * first) new now → now ≡ items → n ≡ length items → items ≡ old → length new % 512 ≡ 0 → 512 * first + length new ≤ 512 * (length old / 512) → sectors_of (take n (xs ++ drop (length xs) items)) ≡ written first (sectors_of new) (sectors_of old)
 write_is_written n first xs now items old new e f len g whole le =

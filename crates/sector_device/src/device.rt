@@ -3,7 +3,8 @@ ghost use Rattle.std.specs.Option.{option_map};
 ghost use Rattle.disk_model.specs.Bytes.{written};
 ghost use Rattle.disk_model.specs.Sectors.{sector_of, raw_from};
 ghost use Rattle.host_base.specs.Causes.{FailsByCause, last_moment};
-ghost use Rattle.sector_device.specs.Moments.{moment_after, DoesNothing, Changes, after_write, after_sync};
+ghost use Rattle.sector_device.specs.Disks.{SeesDisk, IsSized, EndsAt, AreOver};
+ghost use Rattle.sector_device.specs.Moments.{moment_after, DoesNothing, Changes, Writes, Syncs};
 ghost use Rattle.sector_device.specs.Sectors.{sectors_of, IsDiskOf, IsTornBy};
 
 use host_base::Failed;
@@ -41,7 +42,15 @@ pub trait Device {
     /// Never falls.
     ghost fault_count: { Self → ℕ };
 
-    /// The writes and the syncs begun: while they stay, nothing was written or synced.
+    /// The writes and the syncs begun; and of each sector, where the device is known, the durable
+    /// value and those written since the last sync that succeeded, now and at earlier moments: what
+    /// a crash may leave. While this stays, nothing was written or synced, and a crash leaves what
+    /// it might have left before.
+    ///
+    /// A crash inside a call leaves nothing else. While a write runs the values written only grow,
+    /// so each image that it may leave on the way may be left at its end or was before it; while a
+    /// sync runs, the images are those of before. A disk of before counts until the moment inside
+    /// the call that changed it, so that what is left since the call's return leaves it out.
     ghost changes_of: { Self → Changes };
 
     /// The number of sectors; the offset of each of their bytes fits a `u64`.
@@ -80,7 +89,7 @@ pub trait Device {
         ensures torn { OnErr result (IsTornBy first (sectors_of bytes.now) (gives self.old) (gives self.new)) }
         ensures sectors { sector_count self.new ≡ sector_count self.old }
         ensures moment { moment_of self.new ≡ moment_after (moment_of self.old) }
-        ensures changes { changes_of self.new ≡ after_write (moment_of self.old) (changes_of self.old) }
+        ensures changes { Writes (moment_of self.old) first (sectors_of bytes.now) result (changes_of self.old) (changes_of self.new) }
         ensures cause { FailsByCause (fault_count self.old) (fault_count self.new) (moment_of self.new) result }
         ensures ended { last_moment ≤ moment_of self.old → DoesNothing (gives self.old) (gives self.new) (fault_count self.old) (fault_count self.new) result };
 
@@ -89,12 +98,24 @@ pub trait Device {
         ensures gives { gives self.new ≡ gives self.old }
         ensures sectors { sector_count self.new ≡ sector_count self.old }
         ensures moment { moment_of self.new ≡ moment_after (moment_of self.old) }
-        ensures changes { changes_of self.new ≡ after_sync (moment_of self.old) (changes_of self.old) }
+        ensures changes { Syncs (moment_of self.old) result (changes_of self.old) (changes_of self.new) }
         ensures cause { FailsByCause (fault_count self.old) (fault_count self.new) (moment_of self.new) result }
         ensures ended { last_moment ≤ moment_of self.old → DoesNothing (gives self.old) (gives self.new) (fault_count self.old) (fault_count self.new) result };
 
     /// Law: what reads give is `sector_count` sectors of 512 bytes each.
     ghost whole: { (d : Self) → IfSome (gives d) (IsDiskOf (sector_count d)) };
+
+    /// Law: what reads give is the newest of what was written, or else what is durable.
+    ghost seen: { (d : Self) → SeesDisk (gives d) (changes_of d).disk };
+
+    /// Law: each value has 512 bytes.
+    ghost values: { (d : Self) → IfSome (changes_of d).disk IsSized };
+
+    /// Law: no sector past the end is ever written.
+    ghost beyond: { (d : Self) → IfSome (changes_of d).disk (EndsAt (sector_count d)) };
+
+    /// Law: what was before is over.
+    ghost over: { (d : Self) → AreOver (moment_of d) (changes_of d).past };
 
     /// Law: the offset of each byte fits a `u64`.
     ghost few: { (d : Self) → sector_count d < 2 ^ 55 };

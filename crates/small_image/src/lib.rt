@@ -2,8 +2,8 @@
 //! table in one run, no attribute list, and no other clusters than those of the table and the log.
 //!
 //! The contract: `mount` answers the records of the image on a device, by number, or the first
-//! refusal that applies. The layouts are those of the Linux-NTFS documentation, "$Boot", "$MFT" and
-//! "FILE Record".
+//! refusal that applies, and the device is only read, so that what a crash may leave stays too. The
+//! layouts are those of the Linux-NTFS documentation, "$Boot", "$MFT" and "FILE Record".
 #![tactic(auto)]
 
 mod boot;

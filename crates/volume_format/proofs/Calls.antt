@@ -1,9 +1,9 @@
 -- A call of a device that went well began before the last moment.
-use Rattle.std.proofs.Common.{◌≡◌, ℕ, ◌+◌, ◌^◌, ◌≤◌, Result, Ok, Err, inl, inr, refl, ap, arith}
+use Rattle.std.proofs.Common.{◌≡◌, ℕ, ◌+◌, ◌^◌, ◌≤◌, List, Result, Ok, Err, inl, inr, arith}
 use Rattle.std.specs.Prelude.{OnOk, IsErr}
 use Rattle.std.proofs.lemmas.Bool.{cases_lt, lt-ltb}
 use Rattle.host_base.specs.Causes.{last_moment}
-use Rattle.sector_device.specs.Moments.{moment_after, Changes, Begins, after_write, after_sync}
+use Rattle.sector_device.specs.Moments.{moment_after, Changes, Begins, Writes, Syncs}
 
 pub went_on : {T E : Type 0} (result : Result T E) (old now : ℕ) → now ≡ moment_after old → (last_moment ≤ old → IsErr result) → OnOk result (now ≡ old + 2)
 went_on (Err e) old now is ended = tt
@@ -13,25 +13,19 @@ went_on (Ok x) old now is ended =
       | inr le ↦ (let bad = ended le in absurd cc)
     ]
 
-pub began_write : {T E : Type 0} (result : Result T E) (old : ℕ) (before now : Changes) → now ≡ after_write old before → (last_moment ≤ old → IsErr result) → OnOk result (Begins 1 0 before now)
-began_write (Err e) old before now is ended = tt
-began_write (Ok x) old before now is ended =
+pub began_write : {T E : Type 0} (result : Result T E) (old first : ℕ) (new : List (List ℕ)) (before now : Changes) → Writes old first new result before now → (last_moment ≤ old → IsErr result) → OnOk result (Begins 1 0 before now)
+began_write (Err e) old first new before now is ended = tt
+began_write (Ok x) old first new before now is ended =
     elim (cases_lt old (2 ^ 62)) [
-      | inl lt ↦ (let it = rw (lt-ltb old (2 ^ 62) lt) at is in
-          let w : now.writes ≡ before.writes + 1 = ap (λ (c : Changes). c.writes) it in
-          let s : now.syncs ≡ before.syncs = ap (λ (c : Changes). c.syncs) it in
-          record { written = w; synced = omega (arith, s) })
+      | inl lt ↦ (let w = rw (lt-ltb old (2 ^ 62) lt) at is.writes in record { written = w; synced = omega (arith, is.syncs) })
       | inr le ↦ (let bad = ended le in absurd cc)
     ]
 
-pub began_sync : {T E : Type 0} (result : Result T E) (old : ℕ) (before now : Changes) → now ≡ after_sync old before → (last_moment ≤ old → IsErr result) → OnOk result (Begins 0 1 before now)
+pub began_sync : {T E : Type 0} (result : Result T E) (old : ℕ) (before now : Changes) → Syncs old result before now → (last_moment ≤ old → IsErr result) → OnOk result (Begins 0 1 before now)
 began_sync (Err e) old before now is ended = tt
 began_sync (Ok x) old before now is ended =
     elim (cases_lt old (2 ^ 62)) [
-      | inl lt ↦ (let it = rw (lt-ltb old (2 ^ 62) lt) at is in
-          let w : now.writes ≡ before.writes = ap (λ (c : Changes). c.writes) it in
-          let s : now.syncs ≡ before.syncs + 1 = ap (λ (c : Changes). c.syncs) it in
-          record { written = omega (arith, w); synced = s })
+      | inl lt ↦ (let s = rw (lt-ltb old (2 ^ 62) lt) at is.syncs in record { written = omega (arith, is.writes); synced = s })
       | inr le ↦ (let bad = ended le in absurd cc)
     ]
 

@@ -6,3 +6,4 @@ pub mod FittingNode
 pub mod Pieces
 pub mod Stopping
 pub mod Calls
+pub mod Crashing

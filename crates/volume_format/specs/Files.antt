@@ -114,7 +114,7 @@ mapped id kind name lcn clusters real initialised = record {
 abbrev pub in_clusters : ℕ → ℕ → List ℕ → ℕ → ℕ → ℕ → Attr
 in_clusters id kind name first clusters bytes = mapped id kind name (Some first) clusters bytes bytes
 
--- standard information of 48 bytes (hexadecimal); 6 is hidden and system
+-- standard information of 0x48 bytes; 6 is hidden and system
 abbrev pub standard_value : ℕ → List ℕ
 standard_value time = std_info_over (record { created = time; modified = time; changed = time; read_at = time; flags = 6 }) (zeros 0x48)
 
@@ -131,7 +131,7 @@ bytes_of Absent = 0
 bytes_of Empty = 0
 bytes_of (Clusters first clusters bytes) = bytes
 
--- the fields of a system file's name; 10000000 (hexadecimal) is a directory
+-- the fields of a system file's name; 0x10000000 is a directory
 abbrev pub name_fields : Layout → ℕ → ℕ → FileNameValue
 name_fields v time n = record {
   parent = reference 5;

@@ -4,5 +4,6 @@ pub mod Files
 pub mod Indexes
 pub mod Images
 pub mod Stopping
+pub mod Crashing
 pub mod Fillings
 pub mod Parts

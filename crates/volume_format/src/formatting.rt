@@ -4,10 +4,11 @@ ghost use Rattle.host_base.specs.Answers.{GivesOrFails};
 ghost use Rattle.host_base.specs.Causes.{HasFailed};
 ghost use Rattle.sector_device.specs.Moments.{Begins};
 ghost use Rattle.volume_format.specs.declared.fault.FormatFault.TheVariants.{Fault as device_failed, Memory as no_memory};
-ghost use Rattle.volume_format.specs.Layouts.{IsLayout, layout_of, device_calls, device_writes};
+ghost use Rattle.volume_format.specs.Layouts.{IsLayout, layout_of, used_clusters, device_calls, device_writes};
 ghost use Rattle.volume_format.specs.Answers.{format_answer, format_cause, IsUntouched};
 ghost use Rattle.volume_format.specs.Images.{formatted, Puts, regions};
 ghost use Rattle.volume_format.specs.Stopping.{PutsFront, KeepsOthers};
+ghost use Rattle.volume_format.specs.Crashing.{IsSettledNow, StaysFrom, KeepsLeft};
 
 use crate::fault::{FormatFault, Formatted};
 use crate::layout::{Layout, clusters_of, layout_of};
@@ -68,6 +69,8 @@ fn write_volume<D: Device>(
     ensures others { KeepsOthers v (D.gives device.old) (D.gives device.new) }
     ensures moment { OnOk result (D.moment_of device.new ≡ D.moment_of device.old + 2 * device_calls v) }
     ensures changes { OnOk result (Begins (device_writes v) 1 (D.changes_of device.old) (D.changes_of device.new)) }
+    ensures settled { OnOk result (IsSettledNow (D.changes_of device.new)) }
+    ensures above { StaysFrom (8 * used_clusters v) (D.moment_of device.old) (D.changes_of device.old) (D.changes_of device.new) }
     ensures sectors { D.sector_count device.new ≡ D.sector_count device.old }
     ensures later { D.fault_count device.old ≤ D.fault_count device.new }
     ensures fault { IsErrOf result device_failed → HasFailed (D.fault_count device.old) (D.fault_count device.new) (D.moment_of device.new) }
@@ -87,7 +90,13 @@ fn write_volume<D: Device>(
 ///
 /// It takes time linear in the clusters, constant memory, and writes at most 64 KiB in a call; the
 /// last call is a sync. Of this the contract says how many writes there are, that there is one
-/// sync, and no read.
+/// sync, no read, and that after a format that is done nothing is unsynced: then a crash leaves
+/// one image, the new volume.
+///
+/// Whatever is answered, a crash during the format, or after it, leaves in free clusters, and in
+/// the last sector, only what it might have left there before. More isn't promised of a crash
+/// during a format: the regions of the volume may have old and new sectors in any mixture. The
+/// boot sector is written last, but no sync is before it, so it may be there without the rest.
 ///
 /// - [`FormatFault::Short`]: the device has no sector, or fewer than 4,537.
 /// - [`FormatFault::VolumeLarge`]: there would be more than 16,777,216 clusters. It comes before
@@ -108,6 +117,8 @@ pub fn format<D: Device>(
     ensures others { KeepsOthers (layout_of (D.sector_count device.old)) (D.gives device.old) (D.gives device.new) }
     ensures calls { IfOk result (λ _. D.moment_of device.new ≡ D.moment_of device.old + 2 * device_calls (layout_of (D.sector_count device.old))) }
     ensures changes { IfOk result (λ _. Begins (device_writes (layout_of (D.sector_count device.old))) 1 (D.changes_of device.old) (D.changes_of device.new)) }
+    ensures settled { IfOk result (λ _. IsSettledNow (D.changes_of device.new)) }
+    ensures others_left { KeepsLeft (layout_of (D.sector_count device.old)) (D.sector_count device.old) (D.moment_of device.old) (D.changes_of device.old) (D.changes_of device.new) }
     ensures only { IsErr (format_answer (D.sector_count device.old)) → result ≡ format_answer (D.sector_count device.old) }
     ensures memory { IsErrOf result no_memory → IsUntouched (D.gives device.old) (D.gives device.new) (D.moment_of device.old) (D.moment_of device.new) (D.changes_of device.old) (D.changes_of device.new) (D.fault_count device.old) (D.fault_count device.new) }
     ensures refused { IsErr (format_answer (D.sector_count device.old)) → IsUntouched (D.gives device.old) (D.gives device.new) (D.moment_of device.old) (D.moment_of device.new) (D.changes_of device.old) (D.changes_of device.new) (D.fault_count device.old) (D.fault_count device.new) }

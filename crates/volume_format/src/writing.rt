@@ -1,12 +1,13 @@
-ghost use Rattle.std.specs.Prelude.{◌≡◌, ◌+◌, ◌*◌, ◌/◌, ◌%◌, ◌≤◌, [], ◌∷◌, OnOk, OnErr, length};
+ghost use Rattle.std.specs.Prelude.{◌≡◌, ℕ, ◌+◌, ◌*◌, ◌/◌, ◌%◌, ◌≤◌, [], ◌∷◌, OnOk, OnErr, length};
 ghost use Rattle.std.specs.Option.{option_map};
 ghost use Rattle.host_base.specs.Causes.{FailsByCause};
 ghost use Rattle.disk_model.specs.Bytes.{written};
 ghost use Rattle.sector_device.specs.Moments.{Begins};
 ghost use Rattle.sector_device.specs.Sectors.{sectors_of, IsTornBy};
-ghost use Rattle.volume_format.specs.Layouts.{IsLayout, upper_case_first, log_first, cluster_bits_first, piece_calls, device_calls, device_writes, table_first, mirror_first, record_bits_first};
+ghost use Rattle.volume_format.specs.Layouts.{IsLayout, upper_case_first, log_first, cluster_bits_first, block_first, used_clusters, piece_calls, device_calls, device_writes, table_first, mirror_first, record_bits_first};
 ghost use Rattle.volume_format.specs.Images.{Puts, upper_case_bytes, log_bytes, cluster_bits};
 ghost use Rattle.volume_format.specs.Stopping.{PutsFront, PutsTorn, KeepsOthers};
+ghost use Rattle.volume_format.specs.Crashing.{IsSettledNow, StaysFrom};
 ghost use Rattle.volume_format.specs.Fillings.{filling_bytes, IsInside};
 ghost use Rattle.volume_format.specs.Parts.{HaveSizes, regions_of};
 
@@ -27,6 +28,7 @@ fn put<D: Device>(device: &mut D, cluster: u64, bytes: &[u8]) -> Result<(), Fail
     ensures torn { OnErr result (PutsTorn (record { cluster = cluster; bytes = bytes.now }) (D.gives device.old) (D.gives device.new)) }
     ensures moment { OnOk result (D.moment_of device.new ≡ D.moment_of device.old + 2) }
     ensures changes { OnOk result (Begins 1 0 (D.changes_of device.old) (D.changes_of device.new)) }
+    ensures above { StaysFrom (8 * cluster + length bytes.now / 512) (D.moment_of device.old) (D.changes_of device.old) (D.changes_of device.new) }
     ensures sectors { D.sector_count device.new ≡ D.sector_count device.old }
     ensures cause { FailsByCause (D.fault_count device.old) (D.fault_count device.new) (D.moment_of device.new) result }
 {
@@ -49,6 +51,7 @@ fn put_piece<D: Device>(
     ensures torn { OnErr result (IsTornBy (8 * cluster + at / 512) (sectors_of (filling_bytes filling at (length piece.old))) (D.gives device.old) (D.gives device.new)) }
     ensures moment { OnOk result (D.moment_of device.new ≡ D.moment_of device.old + 2) }
     ensures changes { OnOk result (Begins 1 0 (D.changes_of device.old) (D.changes_of device.new)) }
+    ensures above { StaysFrom (8 * cluster + at / 512 + length piece.old / 512) (D.moment_of device.old) (D.changes_of device.old) (D.changes_of device.new) }
     ensures sectors { D.sector_count device.new ≡ D.sector_count device.old }
     ensures cause { FailsByCause (D.fault_count device.old) (D.fault_count device.new) (D.moment_of device.new) result }
 {
@@ -71,6 +74,7 @@ fn put_pieces<D: Device>(
     ensures torn { OnErr result (PutsTorn (record { cluster = cluster; bytes = filling_bytes filling 0 (65536 * count) }) (D.gives device.old) (D.gives device.new)) }
     ensures moment { OnOk result (D.moment_of device.new ≡ D.moment_of device.old + 2 * count) }
     ensures changes { OnOk result (Begins count 0 (D.changes_of device.old) (D.changes_of device.new)) }
+    ensures above { StaysFrom (8 * cluster + 128 * count) (D.moment_of device.old) (D.changes_of device.old) (D.changes_of device.new) }
     ensures sectors { D.sector_count device.new ≡ D.sector_count device.old }
     ensures cause { FailsByCause (D.fault_count device.old) (D.fault_count device.new) (D.moment_of device.new) result }
 {
@@ -96,6 +100,7 @@ fn put_filled<D: Device>(
     ensures torn { OnErr result (PutsTorn (record { cluster = cluster; bytes = filling_bytes filling 0 bytes }) (D.gives device.old) (D.gives device.new)) }
     ensures moment { OnOk result (D.moment_of device.new ≡ D.moment_of device.old + 2 * ((bytes + 65535) / 65536)) }
     ensures changes { OnOk result (Begins ((bytes + 65535) / 65536) 0 (D.changes_of device.old) (D.changes_of device.new)) }
+    ensures above { StaysFrom (8 * cluster + bytes / 512) (D.moment_of device.old) (D.changes_of device.old) (D.changes_of device.new) }
     ensures sectors { D.sector_count device.new ≡ D.sector_count device.old }
     ensures cause { FailsByCause (D.fault_count device.old) (D.fault_count device.new) (D.moment_of device.new) result }
 {
@@ -122,6 +127,7 @@ fn put_upper_case<D: Device>(device: &mut D, room: &mut [u8]) -> Result<(), Fail
     ensures torn { OnErr result (PutsTorn (record { cluster = upper_case_first; bytes = upper_case_bytes }) (D.gives device.old) (D.gives device.new)) }
     ensures moment { OnOk result (D.moment_of device.new ≡ D.moment_of device.old + 2 * piece_calls 32) }
     ensures changes { OnOk result (Begins (piece_calls 32) 0 (D.changes_of device.old) (D.changes_of device.new)) }
+    ensures above { StaysFrom (8 * log_first) (D.moment_of device.old) (D.changes_of device.old) (D.changes_of device.new) }
     ensures sectors { D.sector_count device.new ≡ D.sector_count device.old }
     ensures cause { FailsByCause (D.fault_count device.old) (D.fault_count device.new) (D.moment_of device.new) result }
 {
@@ -137,6 +143,7 @@ fn put_log<D: Device>(device: &mut D, v: Layout, room: &mut [u8]) -> Result<(), 
     ensures torn { OnErr result (PutsTorn (record { cluster = log_first; bytes = log_bytes v }) (D.gives device.old) (D.gives device.new)) }
     ensures moment { OnOk result (D.moment_of device.new ≡ D.moment_of device.old + 2 * piece_calls v.log_pages) }
     ensures changes { OnOk result (Begins (piece_calls v.log_pages) 0 (D.changes_of device.old) (D.changes_of device.new)) }
+    ensures above { StaysFrom (8 * cluster_bits_first v) (D.moment_of device.old) (D.changes_of device.old) (D.changes_of device.new) }
     ensures sectors { D.sector_count device.new ≡ D.sector_count device.old }
     ensures cause { FailsByCause (D.fault_count device.old) (D.fault_count device.new) (D.moment_of device.new) result }
 {
@@ -152,6 +159,7 @@ fn put_cluster_bits<D: Device>(device: &mut D, v: Layout, room: &mut [u8]) -> Re
     ensures torn { OnErr result (PutsTorn (record { cluster = cluster_bits_first v; bytes = cluster_bits v }) (D.gives device.old) (D.gives device.new)) }
     ensures moment { OnOk result (D.moment_of device.new ≡ D.moment_of device.old + 2 * piece_calls v.bitmap_clusters) }
     ensures changes { OnOk result (Begins (piece_calls v.bitmap_clusters) 0 (D.changes_of device.old) (D.changes_of device.new)) }
+    ensures above { StaysFrom (8 * block_first v) (D.moment_of device.old) (D.changes_of device.old) (D.changes_of device.new) }
     ensures sectors { D.sector_count device.new ≡ D.sector_count device.old }
     ensures cause { FailsByCause (D.fault_count device.old) (D.fault_count device.new) (D.moment_of device.new) result }
 {
@@ -173,6 +181,7 @@ fn put_records<D: Device>(device: &mut D, parts: &Parts) -> Result<(), Failed>
     ensures stopped { OnErr result (PutsFront (record { cluster = table_first; bytes = parts.now.table.items } ∷ record { cluster = mirror_first; bytes = parts.now.mirror.items } ∷ record { cluster = record_bits_first; bytes = parts.now.record_bits.items } ∷ []) (D.gives device.old) (D.gives device.new)) }
     ensures moment { OnOk result (D.moment_of device.new ≡ D.moment_of device.old + 6) }
     ensures changes { OnOk result (Begins 3 0 (D.changes_of device.old) (D.changes_of device.new)) }
+    ensures above { StaysFrom (8 * upper_case_first) (D.moment_of device.old) (D.changes_of device.old) (D.changes_of device.new) }
     ensures sectors { D.sector_count device.new ≡ D.sector_count device.old }
     ensures cause { FailsByCause (D.fault_count device.old) (D.fault_count device.new) (D.moment_of device.new) result }
 {
@@ -190,6 +199,7 @@ fn put_long<D: Device>(device: &mut D, v: Layout, room: &mut [u8]) -> Result<(),
     ensures stopped { OnErr result (PutsFront (record { cluster = upper_case_first; bytes = upper_case_bytes } ∷ record { cluster = log_first; bytes = log_bytes v } ∷ record { cluster = cluster_bits_first v; bytes = cluster_bits v } ∷ []) (D.gives device.old) (D.gives device.new)) }
     ensures moment { OnOk result (D.moment_of device.new ≡ D.moment_of device.old + 2 * (piece_calls 32 + piece_calls v.log_pages + piece_calls v.bitmap_clusters)) }
     ensures changes { OnOk result (Begins (piece_calls 32 + piece_calls v.log_pages + piece_calls v.bitmap_clusters) 0 (D.changes_of device.old) (D.changes_of device.new)) }
+    ensures above { StaysFrom (8 * block_first v) (D.moment_of device.old) (D.changes_of device.old) (D.changes_of device.new) }
     ensures sectors { D.sector_count device.new ≡ D.sector_count device.old }
     ensures cause { FailsByCause (D.fault_count device.old) (D.fault_count device.new) (D.moment_of device.new) result }
 {
@@ -199,11 +209,13 @@ fn put_long<D: Device>(device: &mut D, v: Layout, room: &mut [u8]) -> Result<(),
 }
 
 // Syncs.
-#[tactic(auto, using(crate::proofs::Calls::went_on, crate::proofs::Calls::began_sync))]
+#[tactic(auto, using(crate::proofs::Calls::went_on, crate::proofs::Calls::began_sync, crate::proofs::Crashing::synced_now, crate::proofs::Crashing::sync_stays))]
 fn finish<D: Device>(device: &mut D) -> Result<(), Failed>
     ensures gives { D.gives device.new ≡ D.gives device.old }
     ensures moment { OnOk result (D.moment_of device.new ≡ D.moment_of device.old + 2) }
     ensures changes { OnOk result (Begins 0 1 (D.changes_of device.old) (D.changes_of device.new)) }
+    ensures settled { OnOk result (IsSettledNow (D.changes_of device.new)) }
+    ensures above { (first : ℕ) → StaysFrom first (D.moment_of device.old) (D.changes_of device.old) (D.changes_of device.new) }
     ensures sectors { D.sector_count device.new ≡ D.sector_count device.old }
     ensures cause { FailsByCause (D.fault_count device.old) (D.fault_count device.new) (D.moment_of device.new) result }
 {
@@ -212,6 +224,8 @@ fn finish<D: Device>(device: &mut D) -> Result<(), Failed>
 
 /// Writes all regions, the boot sector last, and syncs. The error is a failure of the device; then
 /// some regions stand, in their order, of the next one any sectors may, and nothing else changed.
+/// After the sync nothing is unsynced; whatever is answered, a crash leaves of the sectors behind
+/// the regions what it might have left before.
 pub fn put_image<D: Device>(
     device: &mut D,
     v: Layout,
@@ -227,6 +241,8 @@ pub fn put_image<D: Device>(
     ensures others { KeepsOthers v (D.gives device.old) (D.gives device.new) }
     ensures moment { OnOk result (D.moment_of device.new ≡ D.moment_of device.old + 2 * device_calls v) }
     ensures changes { OnOk result (Begins (device_writes v) 1 (D.changes_of device.old) (D.changes_of device.new)) }
+    ensures settled { OnOk result (IsSettledNow (D.changes_of device.new)) }
+    ensures above { StaysFrom (8 * used_clusters v) (D.moment_of device.old) (D.changes_of device.old) (D.changes_of device.new) }
     ensures sectors { D.sector_count device.new ≡ D.sector_count device.old }
     ensures cause { FailsByCause (D.fault_count device.old) (D.fault_count device.new) (D.moment_of device.new) result }
 {

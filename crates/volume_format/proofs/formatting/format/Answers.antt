@@ -5,6 +5,7 @@ use Rattle.volume_format.specs.declared.fault.FormatFault.TheVariants.{Fault as 
 use Rattle.volume_format.specs.Layouts.{layout_of}
 use Rattle.volume_format.proofs.Pieces.{image_known}
 use Rattle.volume_format.proofs.Stopping.{same_error, keeps_all, stopped_on, keeps_on}
+use Rattle.volume_format.proofs.Crashing.{none_stays, stays_left, stays_on}
 use Rattle.volume_format.proofs.formatting.format.Goals as goal
 
 pub write_volume-requires-clause-within : goal.write_volume-requires-clause-within
@@ -31,3 +32,16 @@ returns-in_err-write_volume-clause-others g c =
 pub returns-clause-others : goal.returns-clause-others
 returns-clause-others g c =
     keeps_on c.layout_of.result (layout_of (g.D.Device.sector_count c.args.device.now)) _ _ (c.layout_of.ensures ∙ ap layout_of c.sectors-sectors.ensures) c.write_volume.ensures.others
+
+pub returns-in_err-answer-clause-others_left : goal.returns-in_err-answer-clause-others_left
+returns-in_err-answer-clause-others_left g c = stays_left (layout_of (g.D.Device.sector_count c.args.device.now)) _ _ _ _ (g.met.D.Device.over c.args.device.now) (none_stays _ _ (g.D.Device.changes_of c.args.device.now))
+
+pub returns-in_err-write_volume-clause-others_left : goal.returns-in_err-write_volume-clause-others_left
+returns-in_err-write_volume-clause-others_left g c =
+    stays_left (layout_of (g.D.Device.sector_count c.args.device.now)) _ _ _ _ (g.met.D.Device.over c.args.device.now)
+    (stays_on c.layout_of.result (layout_of (g.D.Device.sector_count c.args.device.now)) _ _ _ (c.layout_of.ensures ∙ ap layout_of c.sectors-sectors.ensures) c.in_err-write_volume.ensures.above)
+
+pub returns-clause-others_left : goal.returns-clause-others_left
+returns-clause-others_left g c =
+    stays_left (layout_of (g.D.Device.sector_count c.args.device.now)) _ _ _ _ (g.met.D.Device.over c.args.device.now)
+    (stays_on c.layout_of.result (layout_of (g.D.Device.sector_count c.args.device.now)) _ _ _ (c.layout_of.ensures ∙ ap layout_of c.sectors-sectors.ensures) c.write_volume.ensures.above)

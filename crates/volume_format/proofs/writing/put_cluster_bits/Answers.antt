@@ -5,6 +5,7 @@ use Rattle.volume_format.specs.Fillings.{filling_byte, filling_bytes}
 use Rattle.std.proofs.lemmas.Result.{on_err_weaker}
 use Rattle.volume_format.specs.Stopping.{PutsTorn}
 use Rattle.volume_format.proofs.Calls.{began_as}
+use Rattle.volume_format.proofs.Crashing.{stays_above}
 use Rattle.volume_format.proofs.writing.put_cluster_bits.Goals as goal
 
 pub returns-clause-image : goal.returns-clause-image
@@ -26,3 +27,6 @@ returns-clause-torn g c =
 
 pub returns-clause-changes : goal.returns-clause-changes
 returns-clause-changes g c = on_ok_weaker c.put_filled.result (λ e. began_as _ _ _ _ (omega arith) e) c.put_filled.ensures.changes
+
+pub returns-clause-above : goal.returns-clause-above
+returns-clause-above g c = stays_above _ _ _ _ _ (omega (arith, c.cluster_bits_first.ensures)) c.put_filled.ensures.above

@@ -1,8 +1,10 @@
-use Rattle.std.proofs.Common.{arith}
+use Rattle.std.proofs.Common.{ℕ, ◌*◌, List, length, ap, arith}
 use Rattle.std.proofs.lemmas.Result.{on_ok_weaker}
+use Rattle.volume_format.specs.Layouts.{used_clusters}
 use Rattle.volume_format.proofs.Stopping.{any_err, torn_as, put_as, in_records, in_long, in_block, in_boot, in_sync, stopped_keeps}
 use Rattle.volume_format.proofs.Calls.{began_more}
 use Rattle.std.proofs.Common.{refl}
+use Rattle.volume_format.proofs.Crashing.{stays_above, stays_then}
 use Rattle.volume_format.proofs.writing.put_image.Goals as goal
 
 pub returns-clause-moment : goal.returns-clause-moment
@@ -43,3 +45,33 @@ pub returns-clause-changes : goal.returns-clause-changes
 returns-clause-changes g c =
     let begun = began_more _ 0 _ 0 _ 0 _ _ _ refl refl (began_more _ 0 _ 0 _ 0 _ _ _ refl refl (began_more _ 0 _ 0 _ 0 _ _ _ refl refl c.in_ok-put_records.ensures.changes c.in_ok-put_long.ensures.changes) c.in_ok-put.ensures.changes) c.in_ok-put-2.ensures.changes in
     on_ok_weaker c.finish.result (λ e. began_more _ 0 0 1 _ 1 _ _ _ (omega arith) refl begun e) c.finish.ensures.changes
+
+pub returns-in_err-put_records-clause-above : goal.returns-in_err-put_records-clause-above
+returns-in_err-put_records-clause-above g c = stays_above _ _ _ _ _ (omega arith) c.in_err-put_records.ensures.above
+
+pub returns-in_err-put_long-clause-above : goal.returns-in_err-put_long-clause-above
+returns-in_err-put_long-clause-above g c = stays_then _ _ (8 * used_clusters c.args.v) _ _ _ _ _ (omega arith) (omega arith) (omega (arith, c.in_ok-put_records.ensures.moment)) c.in_ok-put_records.ensures.above c.in_err-put_long.ensures.above
+
+pub returns-in_err-put-clause-above : goal.returns-in_err-put-clause-above
+returns-in_err-put-clause-above g c =
+    stays_then _ _ (8 * used_clusters c.args.v) _ _ _ _ _ (omega arith) (omega (arith, c.block_first.ensures, c.requires.sizes.block, ap (λ (l : List ℕ). length l) c.deref.ensures.value)) (omega (arith, c.in_ok-put_records.ensures.moment, c.in_ok-put_long.ensures.moment))
+    (stays_then _ _ (8 * used_clusters c.args.v) _ _ _ _ _ (omega arith) (omega arith) (omega (arith, c.in_ok-put_records.ensures.moment)) c.in_ok-put_records.ensures.above c.in_ok-put_long.ensures.above)
+    c.in_err-put.ensures.above
+
+pub returns-in_err-put-2-clause-above : goal.returns-in_err-put-2-clause-above
+returns-in_err-put-2-clause-above g c =
+    stays_then _ _ (8 * used_clusters c.args.v) _ _ _ _ _ (omega arith) (omega (arith, c.requires.layout.log_some, c.requires.sizes.boot, ap (λ (l : List ℕ). length l) c.deref-2.ensures.value)) (omega (arith, c.in_ok-put_records.ensures.moment, c.in_ok-put_long.ensures.moment, c.in_ok-put.ensures.moment))
+    (stays_then _ _ (8 * used_clusters c.args.v) _ _ _ _ _ (omega arith) (omega (arith, c.block_first.ensures, c.requires.sizes.block, ap (λ (l : List ℕ). length l) c.deref.ensures.value)) (omega (arith, c.in_ok-put_records.ensures.moment, c.in_ok-put_long.ensures.moment))
+    (stays_then _ _ (8 * used_clusters c.args.v) _ _ _ _ _ (omega arith) (omega arith) (omega (arith, c.in_ok-put_records.ensures.moment)) c.in_ok-put_records.ensures.above c.in_ok-put_long.ensures.above)
+    c.in_ok-put.ensures.above)
+    c.in_err-put-2.ensures.above
+
+pub returns-clause-above : goal.returns-clause-above
+returns-clause-above g c =
+    stays_then _ (8 * used_clusters c.args.v) (8 * used_clusters c.args.v) _ _ _ _ _ (omega arith) (omega arith) (omega (arith, c.in_ok-put_records.ensures.moment, c.in_ok-put_long.ensures.moment, c.in_ok-put.ensures.moment, c.in_ok-put-2.ensures.moment))
+    (stays_then _ _ (8 * used_clusters c.args.v) _ _ _ _ _ (omega arith) (omega (arith, c.requires.layout.log_some, c.requires.sizes.boot, ap (λ (l : List ℕ). length l) c.deref-2.ensures.value)) (omega (arith, c.in_ok-put_records.ensures.moment, c.in_ok-put_long.ensures.moment, c.in_ok-put.ensures.moment))
+    (stays_then _ _ (8 * used_clusters c.args.v) _ _ _ _ _ (omega arith) (omega (arith, c.block_first.ensures, c.requires.sizes.block, ap (λ (l : List ℕ). length l) c.deref.ensures.value)) (omega (arith, c.in_ok-put_records.ensures.moment, c.in_ok-put_long.ensures.moment))
+    (stays_then _ _ (8 * used_clusters c.args.v) _ _ _ _ _ (omega arith) (omega arith) (omega (arith, c.in_ok-put_records.ensures.moment)) c.in_ok-put_records.ensures.above c.in_ok-put_long.ensures.above)
+    c.in_ok-put.ensures.above)
+    c.in_ok-put-2.ensures.above)
+    (c.finish.ensures.above (8 * used_clusters c.args.v))

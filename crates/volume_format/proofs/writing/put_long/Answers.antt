@@ -1,4 +1,4 @@
-use Rattle.std.proofs.Common.{arith}
+use Rattle.std.proofs.Common.{◌*◌, arith}
 use Rattle.std.proofs.lemmas.Result.{on_ok_weaker}
 use Rattle.std.proofs.lemmas.Result.{on_err_weaker}
 use Rattle.std.proofs.Common.{[], ◌∷◌}
@@ -7,6 +7,7 @@ use Rattle.volume_format.specs.Images.{Region, upper_case_bytes, log_bytes, clus
 use Rattle.volume_format.proofs.Stopping.{any_err, stops_in, stops_next}
 use Rattle.volume_format.proofs.Calls.{began_more}
 use Rattle.std.proofs.Common.{refl}
+use Rattle.volume_format.proofs.Crashing.{stays_above, stays_then}
 use Rattle.volume_format.proofs.writing.put_long.Goals as goal
 
 pub returns-clause-moment : goal.returns-clause-moment
@@ -41,3 +42,15 @@ returns-clause-stopped g c =
 pub returns-clause-changes : goal.returns-clause-changes
 returns-clause-changes g c =
     on_ok_weaker c.put_cluster_bits.result (λ e. began_more _ 0 _ 0 _ 0 _ _ _ refl refl (began_more _ 0 _ 0 _ 0 _ _ _ refl refl c.in_ok-put_upper_case.ensures.changes c.in_ok-put_log.ensures.changes) e) c.put_cluster_bits.ensures.changes
+
+pub returns-in_err-put_upper_case-clause-above : goal.returns-in_err-put_upper_case-clause-above
+returns-in_err-put_upper_case-clause-above g c = stays_above _ _ _ _ _ (omega arith) c.in_err-put_upper_case.ensures.above
+
+pub returns-in_err-put_log-clause-above : goal.returns-in_err-put_log-clause-above
+returns-in_err-put_log-clause-above g c = stays_then _ _ _ _ _ _ _ _ (omega arith) (omega arith) (omega (arith, c.in_ok-put_upper_case.ensures.moment)) c.in_ok-put_upper_case.ensures.above c.in_err-put_log.ensures.above
+
+pub returns-clause-above : goal.returns-clause-above
+returns-clause-above g c =
+    stays_then (8 * cluster_bits_first c.args.v) _ _ _ _ _ _ _ (omega arith) (omega arith) (omega (arith, c.in_ok-put_upper_case.ensures.moment, c.in_ok-put_log.ensures.moment))
+    (stays_then _ _ _ _ _ _ _ _ (omega arith) (omega arith) (omega (arith, c.in_ok-put_upper_case.ensures.moment)) c.in_ok-put_upper_case.ensures.above c.in_ok-put_log.ensures.above)
+    c.put_cluster_bits.ensures.above

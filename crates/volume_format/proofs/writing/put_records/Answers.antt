@@ -1,12 +1,13 @@
-use Rattle.std.proofs.Common.{arith}
+use Rattle.std.proofs.Common.{◌*◌, ℕ, List, length, ap, arith}
 use Rattle.std.proofs.lemmas.Result.{on_ok_weaker}
 use Rattle.std.proofs.lemmas.Result.{on_err_weaker}
 use Rattle.std.proofs.Common.{[], ◌∷◌}
-use Rattle.volume_format.specs.Layouts.{table_first, mirror_first, record_bits_first}
+use Rattle.volume_format.specs.Layouts.{table_first, mirror_first, record_bits_first, upper_case_first}
 use Rattle.volume_format.specs.Images.{Region}
 use Rattle.volume_format.proofs.Stopping.{any_err, torn_as, put_as, stops_in, stops_next}
 use Rattle.volume_format.proofs.Calls.{began_more}
 use Rattle.std.proofs.Common.{refl}
+use Rattle.volume_format.proofs.Crashing.{stays_above, stays_then}
 use Rattle.volume_format.proofs.writing.put_records.Goals as goal
 
 pub returns-clause-moment : goal.returns-clause-moment
@@ -41,3 +42,16 @@ returns-clause-stopped g c =
 pub returns-clause-changes : goal.returns-clause-changes
 returns-clause-changes g c =
     on_ok_weaker c.put-3.result (λ e. began_more 2 0 1 0 3 0 _ _ _ refl refl (began_more 1 0 1 0 2 0 _ _ _ refl refl c.in_ok-put.ensures.changes c.in_ok-put-2.ensures.changes) e) c.put-3.ensures.changes
+
+pub returns-in_err-put-clause-above : goal.returns-in_err-put-clause-above
+returns-in_err-put-clause-above g c = stays_above _ _ _ _ _ (omega (arith, c.requires.sizes.table, ap (λ (l : List ℕ). length l) c.deref.ensures.value)) c.in_err-put.ensures.above
+
+pub returns-in_err-put-2-clause-above : goal.returns-in_err-put-2-clause-above
+returns-in_err-put-2-clause-above g c =
+    stays_then _ _ _ _ _ _ _ _ (omega (arith, c.requires.sizes.table, ap (λ (l : List ℕ). length l) c.deref.ensures.value)) (omega (arith, c.requires.sizes.mirror, ap (λ (l : List ℕ). length l) c.deref-2.ensures.value)) (omega (arith, c.in_ok-put.ensures.moment)) c.in_ok-put.ensures.above c.in_err-put-2.ensures.above
+
+pub returns-clause-above : goal.returns-clause-above
+returns-clause-above g c =
+    stays_then (8 * upper_case_first) _ _ _ _ _ _ _ (omega arith) (omega (arith, c.requires.sizes.record_bits, ap (λ (l : List ℕ). length l) c.deref-3.ensures.value)) (omega (arith, c.in_ok-put.ensures.moment, c.in_ok-put-2.ensures.moment))
+    (stays_then _ _ _ _ _ _ _ _ (omega (arith, c.requires.sizes.table, ap (λ (l : List ℕ). length l) c.deref.ensures.value)) (omega (arith, c.requires.sizes.mirror, ap (λ (l : List ℕ). length l) c.deref-2.ensures.value)) (omega (arith, c.in_ok-put.ensures.moment)) c.in_ok-put.ensures.above c.in_ok-put-2.ensures.above)
+    c.put-3.ensures.above
