@@ -4,10 +4,12 @@
 Each bug is a name, a file of the crate, and lines that stand for others. They are planted many at a time, one in a function, and
 `rt check` says of which functions the proof fails. A bug whose function is still proved is one that the contract lets through. One
 whose function is not judged, since a function that it calls has a bug too, is tried again later. The gate tries none of these: they
-are too many for it; those that tell most stand in the crates' must-fail folders too.
+are too many for it; those that tell most stand in the crates' must-fail folders.
 
 It works in the checkout that it stands in, which has to be clean, and leaves the files as they were. Of each bug it prints a line,
-and of each crate how many bugs were refused and how many let through.
+with the clauses at which its function is refused, and of each crate how many bugs were refused and how many let through. A line
+`let through: WHY` behind a bug's name says that no clause refuses it, and why. Each other one has to be refused: where it isn't, or
+no longer fits the text, the status is 1.
 """
 import os
 import re
@@ -22,6 +24,7 @@ HIDDEN = re.compile(r"(?:no proof|not proved)[:;] it (?:calls|passes)(?!.*(?:did
 class Bug:
     def __init__(self, name, crate):
         self.name, self.crate, self.file, self.pairs = name, crate, None, []
+        self.why = None
 
     def path(self):
         return f"{TOP}/crates/{self.crate}/{self.file}"
@@ -56,6 +59,8 @@ def bugs_of(crate):
     for line in read(f"{TOP}/tools/bugs/{crate}.bugs").split("\n"):
         if line.startswith("# "):
             bugs.append(Bug(line[2:], crate))
+        elif line.startswith("let through: "):
+            bugs[-1].why = line[13:]
         elif line.startswith("file: "):
             bugs[-1].file = line[6:]
         elif line.startswith("old: "):
@@ -111,11 +116,22 @@ def verdict(bug, function, said):
     return "let through" if own and not failed else None
 
 
+def clauses(bug, function, said):
+    """What the check says isn't proved of the bug's function: its clauses, or what it calls requires."""
+    rows = read(bug.path()).split("\n")
+    found = []
+    for file, line, what in re.findall(r"^note: (src/[\w/]+\.rt):(\d+):\d+: .*\(`([^`]+)`\)$", said, re.M):
+        here = FUNCTION.findall("\n".join(rows[: int(line)])) + FUNCTION.findall("\n".join(rows[int(line) :]))[:1]
+        if file == bug.file and function in here[-2:] and what not in found:
+            found.append(what)
+    return ", ".join(found)
+
+
 def try_batch(crate, batch, texts):
     """What became of each bug of the batch."""
     was = {path: read(path) for path in texts}
     functions = {bug: bug.function() for bug in batch}
-    became, planted = {}, batch[:]
+    became, told, planted = {}, {}, batch[:]
     try:
         while planted:
             for path, text in was.items():
@@ -128,6 +144,7 @@ def try_batch(crate, batch, texts):
             planted = [bug for bug in planted if bug not in wrong]
             if not wrong:
                 became.update({bug: verdict(bug, functions[bug], said) for bug in planted})
+                told.update({bug: clauses(bug, functions[bug], said) for bug in planted if became[bug] == "refused"})
                 if len(planted) == 1 and became[planted[0]] is None:
                     # a constant's functions stand elsewhere: the whole crate judges it
                     words = {"logic=not-proved": "refused", "logic=proved": "let through"}
@@ -136,11 +153,12 @@ def try_batch(crate, batch, texts):
     finally:
         for path, text in was.items():
             write(path, text)
-    return became
+    return became, told
 
 
 def plant(crate):
-    waiting, became = [], {}
+    """Tries the crate's bugs; the answer is how many are neither refused nor marked."""
+    waiting, became, told = [], {}, {}
     for bug in bugs_of(crate):
         fits = os.path.isfile(bug.path()) and bug.planted(read(bug.path())) is not None
         became.update({} if fits else {bug: "does not fit"})
@@ -148,22 +166,25 @@ def plant(crate):
     alone = []
     while waiting or alone:
         batch, waiting, texts = next_batch(waiting or [alone.pop()])
-        for bug, word in try_batch(crate, batch, texts).items():
+        words, refused = try_batch(crate, batch, texts)
+        told.update(refused)
+        for bug, word in words.items():
             if word is None and len(batch) > 1:
                 alone.append(bug)
             else:
                 became[bug] = word or "not judged"
     for bug, word in became.items():
-        print(f"{crate}: {bug.name}: {word}")
+        print(f"{crate}: {bug.name}: {word}" + (f" ({told[bug]})" if told.get(bug) else "") + (", as marked" if bug.why else ""))
     counts = {word: list(became.values()).count(word) for word in sorted({*became.values()})}
     print(f"{crate}: {len(became)} bugs: " + ", ".join(f"{word} {count}" for word, count in counts.items()), flush=True)
+    return sum(word != "refused" and not bug.why for bug, word in became.items())
 
 
 def main():
     if subprocess.run(["git", "status", "--porcelain", "crates"], cwd=TOP, capture_output=True, text=True).stdout:
         sys.exit("the checkout has changes under crates/: commit or undo them first")
-    for crate in sys.argv[1:]:
-        plant(crate)
+    lost = sum([plant(crate) for crate in sys.argv[1:]])
+    sys.exit(f"{lost} bugs that have to be refused are not" if lost else 0)
 
 
 if __name__ == "__main__":
