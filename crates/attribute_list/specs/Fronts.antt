@@ -5,7 +5,7 @@ use Rattle.disk_model.specs.Bytes.{zeros}
 use Rattle.record_model.specs.ListEntries.{name_end, has_entry, entry_of}
 use Rattle.attribute_list.specs.declared.first.FirstEntry.{FirstEntry}
 
--- the first 300 bytes (hexadecimal), filled up with zeros
+-- the first 0x300 bytes, filled up with zeros
 unfoldable pub front_of : List ℕ → List ℕ
 front_of bytes = take 0x300 (bytes ++ zeros 0x300)
 

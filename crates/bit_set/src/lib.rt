@@ -12,6 +12,3 @@ mod words;
 
 pub use laws::{clearing_takes_away, members_are_set_bits, same_members_same_bits, setting_unites};
 pub use set::BitSet;
-
-#[cfg(test)]
-mod tests;

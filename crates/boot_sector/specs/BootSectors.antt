@@ -20,7 +20,7 @@ end_mark = 0x55 ∷ 0xAA ∷ []
 abbrev pub IsClusterSize : ℕ → Type 0
 IsClusterSize n = (n ≡ 1) ⊎ (n ≡ 2) ⊎ (n ≡ 4) ⊎ (n ≡ 8)
 
--- the bytes that a raw byte says: below 80 (hexadecimal) so many clusters; else it is negative, and -v says 2^v
+-- the bytes that a raw byte says: below 0x80 so many clusters; else it is negative, and -v says 2^v
 unfoldable pub bytes_said : ℕ → ℕ → ℕ
 bytes_said per_cluster raw = if nat_lt raw 0x80 then raw * per_cluster * 512 else 2 ^ (0x100 - raw)
 

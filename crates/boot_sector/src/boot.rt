@@ -23,8 +23,8 @@ pub struct Boot {
 /// Why a boot sector is refused.
 #[derive(Clone, Copy, Debug, PartialEq, Eq, Error)]
 pub enum BootFault {
-    /// Rule 1: the bytes at 03 (hexadecimal) aren't `NTFS` and four spaces; rule 2: those at 1FE
-    /// aren't 55 and AA.
+    /// Rule 1: the bytes at 0x03 aren't `NTFS` and four spaces; rule 2: those at
+    /// 0x1FE aren't 0x55 and 0xAA.
     #[error("not NTFS, by rule {rule}")]
     NotNtfs { rule: u32 },
     /// The field at this offset is out of the profile; its value is the raw unsigned number.
@@ -184,14 +184,15 @@ fn put_fields(boot: &Boot, out: &mut [u8])
 impl Boot {
     /// The fields that the 512 bytes of a boot sector spell.
     ///
-    /// - [`BootFault::NotNtfs`]: rule 1, the bytes at 03 (hexadecimal) aren't `NTFS` and four
-    ///   spaces; rule 2, those at 1FE aren't 55 and AA.
+    /// - [`BootFault::NotNtfs`]: rule 1, the bytes at 0x03 aren't `NTFS` and four
+    ///   spaces; rule 2, those at 0x1FE aren't 0x55 and 0xAA.
     /// - [`BootFault::Geometry`]: the first of these fields that is out of the profile, by its
-    ///   offset and its raw value. At 0B stand the bytes of a sector, 512; at 0D the sectors of a
-    ///   cluster, 1, 2, 4 or 8; at 28 the volume's sectors, at least one cluster; at 30 and 38 the
-    ///   first clusters of `$MFT` and `$MFTMirr`, below the volume's clusters; at 40 and 44 the
-    ///   sizes of a file record, 1,024 bytes, and of an index block, 4,096 bytes, in clusters or,
-    ///   where the byte is negative, as the power of 2 with this number of bytes, negated.
+    ///   offset and its raw value. At 0x0B stand the bytes of a sector, 512; at 0x0D the sectors of
+    ///   a cluster, 1, 2, 4 or 8; at 0x28 the volume's sectors, at least one cluster; at 0x30 and
+    ///   0x38 the first clusters of `$MFT` and `$MFTMirr`, below the volume's clusters; at 0x40 and
+    ///   0x44 the sizes of a file record, 1,024 bytes, and of an index block, 4,096 bytes, in
+    ///   clusters or, where the byte is negative, as the power of 2 with this number of bytes,
+    ///   negated.
     /// - [`BootFault::VolumeLarge`]: there are more than 16,777,216 clusters.
     pub fn read(bytes: &[u8]) -> Result<Boot, BootFault>
         requires { length bytes.now ≡ 512 }
@@ -209,7 +210,7 @@ impl Boot {
         self.sectors / self.per_cluster as u64
     }
 
-    /// Writes the fields as the 512 bytes of a boot sector: at 40 (hexadecimal) stands F6, at 44
+    /// Writes the fields as the 512 bytes of a boot sector: at 0x40 stands 0xF6, at 0x44
     /// the clusters of 4,096 bytes, and zeros where no field is.
     pub fn write(&self, out: &mut [u8])
         requires fits { FitsBoot self.now }

@@ -10,8 +10,6 @@ mod fault;
 mod matching;
 mod number;
 mod reading;
-#[cfg(test)]
-mod tests;
 
 pub use command::Command;
 pub use fault::LineFault;

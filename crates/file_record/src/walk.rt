@@ -22,7 +22,7 @@ const FILE_NAME: u32 = 0x30;
 // The rule that an attribute's length breaks.
 const LENGTH_RULE: u32 = 3;
 
-// An attribute has at least 18 bytes (hexadecimal): 1,024 bytes have at most 42, and the end mark.
+// An attribute has at least 0x18 bytes: 1,024 bytes have at most 42, and the end mark.
 const MOST_ATTRIBUTES: u32 = 43;
 
 /// The attributes of a record, and whether each value is lawful.

@@ -1,41 +1,163 @@
-use crate::runs::{TINY_TEXT, run};
-use row_images::tiny_image;
+//! Runs of which one call of the source, the device or the sink fails, and who passes the gate.
+use crate::images::Image;
+use crate::runs::{Call, DUMP_WORDS, Fault, NO_FAULT, Part, RUN_WORDS, SCAN_WORDS, run};
+use std::process::Abort;
+use std::sync::Wait;
 use std::test::Fail;
+use std::thread::Threads;
 
-// The write that fails, and what the ones before it wrote.
+// What is run, and how it is answered.
+struct Table(Call, &'static [Row]);
+
+// The call that fails, and then the status, the text and who passes the gate.
+struct Row(Fault, u8, &'static [u8], u64);
+
+const SCRIPT: &[u8] = b"1 list /\n1 stat /\n1 stat /$mft/x\n1 stat /q\n";
+
+// The write of a scan or a dump that fails, and what the ones before it wrote. Of a run, the
+// source's first and second read fail, then each read of the device, then each write: the commands
+// come before the text, and after the script and the volume.
+static PRINTED: [Table; 3] = [
+    Table(
+        Call(Image::Tiny, SCAN_WORDS, b""),
+        &[
+            Row(Fault(Part::Sink, 1), 7, b"", 0),
+            Row(Fault(Part::Sink, 2), 7, b"0 1 5 5 $MFT\n", 0),
+            Row(
+                Fault(Part::Sink, 3),
+                7,
+                b"0 1 5 5 $MFT\n2 2 5 5 $LogFile\n",
+                0,
+            ),
+            Row(
+                Fault(Part::Sink, 4),
+                7,
+                b"0 1 5 5 $MFT\n2 2 5 5 $LogFile\n5 5 5 5 .\n",
+                0,
+            ),
+        ],
+    ),
+    Table(
+        Call(Image::Whole, DUMP_WORDS, b""),
+        &[Row(
+            Fault(Part::Sink, 2),
+            7,
+            b"node 5 5 directory 0 0 0 0 0 0 0\n",
+            0,
+        )],
+    ),
+    Table(
+        Call(Image::Indexed, RUN_WORDS, SCRIPT),
+        &[
+            Row(Fault(Part::Source, 1), 5, b"", 0),
+            Row(Fault(Part::Source, 2), 5, b"", 0),
+            Row(Fault(Part::Device, 1), 8, b"", 0),
+            Row(Fault(Part::Device, 2), 8, b"", 0),
+            Row(Fault(Part::Device, 3), 8, b"", 0),
+            Row(Fault(Part::Device, 4), 8, b"", 0),
+            Row(Fault(Part::Device, 5), 8, b"", 0),
+            Row(Fault(Part::Device, 6), 8, b"", 0),
+            Row(Fault(Part::Sink, 1), 7, b"", 11_121_314),
+            Row(
+                Fault(Part::Sink, 2),
+                7,
+                b"1 1 1 0 names 3 $LogFile $MFT .\n",
+                11_121_314,
+            ),
+        ],
+    ),
+];
+
+const USAGE: &[u8] = b"usage: ntfshost IMAGE COMMAND [--time N] [--seed N] [--journal N]\n";
+
+// Words that are no line of a command.
+static OTHER: [&[&str]; 7] = [
+    &["ntfshost", "x.img", "burn"],
+    &["ntfshost", "x.img", "Scan"],
+    &["ntfshost", "scan", "x.img"],
+    &["ntfshost", "x.img", "scan", "scan"],
+    &["ntfshost", "x.img"],
+    &["ntfshost"],
+    &[],
+];
+
+const LOOKS: &[u8] = b"1 list /\n# nothing\n1 stat /q\n1 stat /\n";
+
+const LOOKS_TEXT: &[u8] =
+    b"1 1 1 0 names 3 $LogFile $MFT .\n1 2 2 0 not-found 1\n1 3 3 0 stat 5 5 directory 1 0 0 0 0 0 0\n";
+
+const BROKEN: &[u8] = b"1 stat /\n1 stat\n";
+
+const AT_0: &[&str] = &["ntfshost", "tiny.img", "run", "--time=0"];
+
+const AT_1000: &[&str] = &["ntfshost", "tiny.img", "run", "--time=1000"];
+
+// Each command passes once, in the script's order; from another time on the run is the same. None
+// passes where the device, the script or the volume fails.
+static GATES: [Table; 5] = [
+    Table(
+        Call(Image::Indexed, AT_0, LOOKS),
+        &[Row(NO_FAULT, 0, LOOKS_TEXT, 111_213)],
+    ),
+    Table(
+        Call(Image::Indexed, AT_1000, LOOKS),
+        &[Row(NO_FAULT, 0, LOOKS_TEXT, 111_213)],
+    ),
+    Table(
+        Call(Image::Indexed, RUN_WORDS, LOOKS),
+        &[
+            Row(Fault(Part::Sink, 1), 7, b"", 111_213),
+            Row(Fault(Part::Device, 1), 8, b"", 0),
+        ],
+    ),
+    Table(
+        Call(Image::Indexed, RUN_WORDS, BROKEN),
+        &[Row(NO_FAULT, 4, b"script line 2 rule 6\n", 0)],
+    ),
+    Table(
+        Call(Image::Tiny, RUN_WORDS, LOOKS),
+        &[Row(NO_FAULT, 3, b"refused 15 BadVolume 3 5\n", 0)],
+    ),
+];
+
+// The first row that isn't answered so.
+fn first_bad<R: Threads + Wait + Sync + Abort + AllocGlobal>(
+    rt: &R,
+    table: &Table,
+) -> Result<Option<usize>, Fail> {
+    for (i, row) in table.1.iter().enumerate() {
+        let ended = run(rt, &table.0, row.0)?;
+        if !ended.is(row.1, row.2) || ended.passed != row.3 {
+            return Ok(Some(i));
+        }
+    }
+    Ok(None)
+}
+
 #[test]
-fn a_sink_that_fails_has_the_lines_before(rt: HostRuntime) -> Result<(), Fail> {
-    let image = tiny_image(rt.alloc())?;
-    for (write, text) in [
-        (1, b"".as_slice()),
-        (2, b"0 1 5 5 $MFT\n".as_slice()),
-        (3, b"0 1 5 5 $MFT\n2 2 5 5 $LogFile\n".as_slice()),
-        (4, b"0 1 5 5 $MFT\n2 2 5 5 $LogFile\n5 5 5 5 .\n".as_slice()),
-    ] {
-        let words = ["ntfshost", "tiny.img", "scan"];
-        let (status, written) = run(&rt, &words, &image, &[], &[write])?;
-        assert_eq!(rt; written.as_slice(), text);
-        assert_eq!(rt; status, 7);
+fn each_failure_has_its_status_and_the_lines_before(rt: HostRuntime) -> Result<(), Fail> {
+    for (i, table) in PRINTED.iter().enumerate() {
+        assert_eq!(rt; first_bad(&rt, table)?, None, "table {i}");
     }
     Ok(())
 }
 
-// Each read fails by its number, up to one that is never reached.
+// The first write fails; and no words are answered.
 #[test]
-fn a_device_that_fails_has_nothing_written(rt: HostRuntime) -> Result<(), Fail> {
-    let image = tiny_image(rt.alloc())?;
-    let mut failed = 0;
-    for read in 1..=100 {
-        let words = ["ntfshost", "tiny.img", "scan"];
-        let (status, written) = run(&rt, &words, &image, &[read], &[])?;
-        if status == 0 {
-            assert_eq!(rt; written.as_slice(), TINY_TEXT);
-            break;
-        }
-        assert_eq!(rt; status, 8);
-        assert!(rt; written.is_empty());
-        failed = read;
+fn other_words_are_answered_by_the_usage_line(rt: HostRuntime) -> Result<(), Fail> {
+    for (i, words) in OTHER.iter().enumerate() {
+        let ended = run(&rt, &Call(Image::Tiny, words, b""), Fault(Part::Sink, 1))?;
+        assert!(rt; ended.is(7, b""), "row {i}");
     }
-    assert!(rt; failed > 0 && failed < 100);
+    let ended = run(&rt, &Call(Image::Tiny, &[], b""), NO_FAULT)?;
+    assert!(rt; ended.is(2, USAGE));
+    Ok(())
+}
+
+#[test]
+fn the_gate_stands_before_the_text_and_after_the_volume(rt: HostRuntime) -> Result<(), Fail> {
+    for (i, table) in GATES.iter().enumerate() {
+        assert_eq!(rt; first_bad(&rt, table)?, None, "table {i}");
+    }
     Ok(())
 }

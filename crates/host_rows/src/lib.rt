@@ -1,6 +1,6 @@
-//! Rows of inputs and answers that cross crates: a scan of the tiny image and of images that differ
-//! from it, and runs of scripts on them, through the top call, with faults of the device and the
-//! sink. The crate has tests, and no more.
+//! Rows of the top call for what no run of the program shows: calls of the device, the source and
+//! the sink that fail by their numbers, who passes the gate, readers and writers of std, commands
+//! without words, and the words that the system gives. The crate has tests, and no more.
 #![tactic(auto)]
 
 #[cfg(test)]
@@ -8,16 +8,8 @@ mod answers;
 #[cfg(test)]
 mod faults;
 #[cfg(test)]
-mod gates;
-#[cfg(test)]
-mod names;
-#[cfg(test)]
-mod refusals;
-#[cfg(test)]
-mod rules;
+mod images;
 #[cfg(test)]
 mod runs;
 #[cfg(test)]
-mod scripts;
-#[cfg(test)]
-mod steps;
+mod sweeps;

@@ -19,6 +19,3 @@ pub use dump::dump_text;
 pub use journal::journal_text;
 pub use laws::{links_have_one_order, nodes_have_one_order};
 pub use scan::scan_text;
-
-#[cfg(test)]
-mod tests;

@@ -35,7 +35,7 @@ unit_count : (key : List ℕ) → length (units_of key) ≡ field 0x40 1 key
 unfolding units_of
 unit_count key = length-units_at 0x42 (field 0x40 1 key) key
 
--- a key has 44 to 240 bytes (hexadecimal)
+-- a key has 0x44 to 0x240 bytes
 key_bytes : (key : List ℕ) → is_file_name key ≡ true → (0 < length key) × (length key ≤ 576)
 key_bytes key h =
     let l = lawful_parts key h in

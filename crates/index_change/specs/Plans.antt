@@ -29,7 +29,7 @@ use Rattle.index_change.specs.Changing.{IsLaidOut, uses, PutNodes, changes_in}
 use Rattle.index_change.specs.Orders.{goes, link_of, put_link, has_entry}
 
 -- how many bytes the root's entries may take, so that the record that holds the root has at most 1,024 used bytes: those that are
--- free in it, and those behind the first 20 (hexadecimal) of the value that is there
+-- free in it, and those behind the first 0x20 of the value that is there
 unfoldable pub root_room : ℕ → List ℕ → ℕ
 root_room used value = (1024 - used) + (up8 (length value) - 0x20)
 

@@ -19,7 +19,7 @@ use upcase_order::Upcase;
 // The most units that a name has.
 const MOST_UNITS: usize = 255;
 
-// The units behind the first 42 bytes (hexadecimal) of a key.
+// The units behind the first 0x42 bytes of a key.
 #[tactic(auto, using(crate::proofs::KeyUnits::read_units))]
 fn read_units(key: &[u8], units: &mut [u16])
     requires { length key.now ≡ 0x42 + 2 * length units.old }

@@ -14,7 +14,7 @@ use Rattle.record_model.specs.Nodes.{Node, down_flag, entry_length, entries_leng
 use Rattle.record_model.proofs.FileNames.{lawful_parts}
 use Rattle.index_node.specs.Edits.{with_entries, inserted, last_entry, down_at, left_entries}
 
--- a key that is a file-name value has at most 240 bytes (hexadecimal)
+-- a key that is a file-name value has at most 0x240 bytes
 pub key_bounded : (key : List ℕ) → is_file_name key ≡ true → AreBytes key → length key ≤ 576
 key_bounded key h each =
     let small : field 0x40 1 key < 256 ^ 1 = field-lt 0x40 1 key each in

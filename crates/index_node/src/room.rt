@@ -7,7 +7,7 @@ use record_model::Entry;
 // How many bytes entries take as they are written.
 
 /// The used bytes of a block with these entries, counted from its node header; the first entry
-/// stands 28 bytes (hexadecimal) behind it. Linear in the entries.
+/// stands 0x28 bytes behind it. Linear in the entries.
 #[tactic(auto, using(crate::proofs::Sizes::sums), unfolding(record_model::specs::Nodes::node_used))]
 pub fn node_used(entries: &[Entry]) -> usize
     requires { node_used entries.now ≤ 8192 }
@@ -20,7 +20,7 @@ pub fn node_used(entries: &[Entry]) -> usize
     used
 }
 
-/// The bytes of an entry: its key begins at 10 (hexadecimal), and the VCN of a child stands behind
+/// The bytes of an entry: its key begins at 0x10, and the VCN of a child stands behind
 /// the key's padding to a multiple of 8.
 #[tactic(auto, unfolding(record_model::specs::Nodes::entry_length))]
 pub fn entry_length(entry: &Entry) -> usize

@@ -47,7 +47,7 @@ fn last_flag(key: &[u8]) -> u16
     if key.is_empty() { 2 } else { 0 }
 }
 
-// Puts the first 10 bytes (hexadecimal) of an entry of this length.
+// Puts the first 0x10 bytes of an entry of this length.
 fn put_entry_head(out: &mut [u8], at: usize, entry: &Entry, entry_length: u16)
     requires number { entry.now.child.number < 2 ^ 48 }
     requires key { length entry.now.key < 2 ^ 16 }
@@ -103,7 +103,7 @@ fn put_entry(out: &mut [u8], at: usize, entry: &Entry)
     put_down(out, at + 8 * ((0x10 + key.len() + 7) / 8), entry.down);
 }
 
-/// Puts entries one behind the other from 40 (hexadecimal) on, and answers where they end. Linear
+/// Puts entries one behind the other from 0x40 on, and answers where they end. Linear
 /// in their bytes.
 pub fn put_entries(out: &mut [u8], entries: &[Entry]) -> usize
     requires numbers { All (λ (e : EntryOf). e.child.number < 2 ^ 48) entries.now }
@@ -120,7 +120,7 @@ pub fn put_entries(out: &mut [u8], entries: &[Entry]) -> usize
     at
 }
 
-/// Puts the first 40 bytes (hexadecimal) of a block: its signature, LSN and VCN and its node
+/// Puts the first 0x40 bytes of a block: its signature, LSN and VCN and its node
 /// header, with the array of the update sequence as zeros.
 pub fn put_block_head(out: &mut [u8], lsn: u64, vcn: u64, used: u32, flag: u8)
     requires { 0x40 ≤ length out.old }

@@ -16,7 +16,7 @@ use std::alloc::{AllocError, Global};
 // The bytes of a block for entries.
 const ROOM: usize = 4032;
 
-// The bytes of an entry as it is written: its key begins at 10 (hexadecimal), and the VCN of a
+// The bytes of an entry as it is written: its key begins at 0x10, and the VCN of a
 // child stands behind the key's padding to a multiple of 8.
 #[tactic(auto, unfolding(record_model::specs::Nodes::entry_length))]
 fn entry_length(entry: &Entry) -> usize

@@ -10,7 +10,7 @@ use Rattle.record_model.specs.Nodes.{Node, entry_spelling, entries_length, child
 unfoldable pub root_used : List Entry → ℕ
 root_used entries = 0x10 + entries_length entries
 
--- The first 20 bytes (hexadecimal): file names by the collation of names, over blocks of 4,096 bytes of so many clusters; and
+-- The first 0x20 bytes: file names by the collation of names, over blocks of 4,096 bytes of so many clusters; and
 -- the node header, with the first entry at 10 and no free bytes behind the used ones.
 unfoldable pub root_head : ℕ → ℕ → ℕ → List ℕ
 root_head clusters used flag =

@@ -16,7 +16,7 @@ const HEAD: usize = 0x20;
 // Where a block's entries begin.
 const BLOCK_HEAD: usize = 0x40;
 
-// Puts the first 20 bytes (hexadecimal).
+// Puts the first 0x20 bytes.
 fn put_head(out: &mut [u8], clusters: u8, used: u32, flag: u8)
     requires { 0x20 ≤ length out.old }
     ensures { out.new ≡ written 0 (root_head clusters used flag) out.old }
@@ -71,7 +71,7 @@ fn root_of(
 }
 
 /// The value of an index root with these entries (Linux-NTFS documentation, "$INDEX_ROOT"), for
-/// index blocks of 4,096 bytes that have so many clusters, as byte 0C (hexadecimal) says. The last
+/// index blocks of 4,096 bytes that have so many clusters, as byte 0x0C says. The last
 /// entry has no key. The error is want of memory. Linear in the bytes.
 pub fn write_root(alloc: Global, clusters: u8, entries: EntryList) -> Result<Bytes, AllocError>
     requires { HaveSpelling entries }

@@ -3,7 +3,7 @@ ghost use Rattle.std.specs.Prelude.{All, IfOk};
 ghost use Rattle.block_view.specs.Changes.{Fits};
 
 use crate::few_names::{self, Key, NO, Part, Spot, block, files, put};
-use block_view::{MemoryView, Overlay};
+use block_view::{MemoryView, Overlay, View};
 use host_base::{Bytes, FileRef};
 use index_change::{DirPlace, DirPlan, TreeFault, ViewFault, plan_insert, plan_remove};
 use index_tree::walk;
@@ -70,11 +70,17 @@ fn fresh_of(alloc: Global, row: &Row) -> Result<Vec<u64>, AllocError> {
     Ok(fresh)
 }
 
-// The links of the index of `TREE` after a plan, by their files.
+// The files of an index over a view, in its order.
+fn files_over<V: View>(alloc: Global, view: &mut V, dir: &DirPlace) -> Result<Vec<u64>, Fail> {
+    let up = Upcase::standard(alloc)?;
+    let links = walk(alloc, view, dir, &up)?;
+    Ok(files(alloc, &links)?)
+}
+
+// The files of the index of `TREE` after a plan.
 fn files_after(alloc: Global, plan: DirPlan) -> Result<Vec<u64>, Fail>
     requires { All Fits plan.changes.items }
 {
-    let up = Upcase::standard(alloc)?;
     let mut view = view_of(alloc, &TREE, 0)?;
     let DirPlace { blocks, .. } = place_with_fresh(alloc, &TREE)?;
     let DirPlan { root, changes, .. } = plan;
@@ -88,8 +94,7 @@ fn files_after(alloc: Global, plan: DirPlan) -> Result<Vec<u64>, Fail>
         view: &mut view,
         changes: &changes,
     };
-    let links = walk(alloc, &mut over, &after, &up)?;
-    Ok(files(alloc, &links)?)
+    files_over(alloc, &mut over, &after)
 }
 
 // The plan that puts an entry into an index, or takes it out, over a view whose call with this
@@ -122,16 +127,24 @@ fn planned(alloc: Global, row: &Row, key: &Entry, puts: bool) -> Result<DirPlan,
     planned_failing(alloc, row, key, puts, 0)
 }
 
+// The plan that puts a name into `TREE`, or takes it out: how many blocks it changes, takes and
+// frees, and the files of the index after it.
+fn files_planned(
+    alloc: Global,
+    number: u64,
+    unit: u8,
+    puts: bool,
+) -> Result<((usize, usize, usize), Vec<u64>), Fail> {
+    let key = entry(alloc, number, unit)?;
+    let plan = planned(alloc, &TREE, &key, puts)?;
+    let counts = (plan.changes.len(), plan.taken.len(), plan.freed.len());
+    Ok((counts, files_after(alloc, plan)?))
+}
+
 #[test]
 fn puts_a_name_in(rt: HostRuntime) -> Result<(), Fail> {
-    let alloc = rt.alloc();
-    let key = entry(alloc, 27, 0x64)?;
-    let plan = planned(alloc, &TREE, &key, true)?;
-    assert_eq!(rt;
-        (plan.changes.len(), plan.taken.len(), plan.freed.len()),
-        (1, 0, 0)
-    );
-    let left = files_after(alloc, plan)?;
+    let (counts, left) = files_planned(rt.alloc(), 27, 0x64, true)?;
+    assert_eq!(rt; counts, (1, 0, 0));
     assert_eq!(rt; left.as_slice(), [24, 25, 26, 27].as_slice());
     Ok(())
 }
@@ -139,40 +152,40 @@ fn puts_a_name_in(rt: HostRuntime) -> Result<(), Fail> {
 // The name in the root: the one before it comes up in its place.
 #[test]
 fn takes_a_name_out(rt: HostRuntime) -> Result<(), Fail> {
-    let alloc = rt.alloc();
-    let key = entry(alloc, 25, 0x62)?;
-    let plan = planned(alloc, &TREE, &key, false)?;
-    assert_eq!(rt;
-        (plan.changes.len(), plan.taken.len(), plan.freed.len()),
-        (1, 0, 0)
-    );
-    let left = files_after(alloc, plan)?;
+    let (counts, left) = files_planned(rt.alloc(), 25, 0x62, false)?;
+    assert_eq!(rt; counts, (1, 0, 0));
     assert_eq!(rt; left.as_slice(), [24, 26].as_slice());
     Ok(())
 }
 
+// What refuses the plan for the name of this unit of a file.
+fn fault_planned(
+    alloc: Global,
+    row: &Row,
+    number: u64,
+    unit: u8,
+    puts: bool,
+) -> Result<Option<TreeFault>, AllocError> {
+    let key = entry(alloc, number, unit)?;
+    Ok(planned(alloc, row, &key, puts).err())
+}
+
 #[test]
 fn tells_what_is_there(rt: HostRuntime) -> Result<(), Fail> {
-    let alloc = rt.alloc();
-    let same = entry(alloc, 26, 0x43)?;
-    assert_eq!(rt;
-        planned(alloc, &TREE, &same, true).err(),
-        Some(TreeFault::Present)
-    );
-    assert_eq!(rt;
-        planned(alloc, &TREE, &same, false).err(),
-        Some(TreeFault::Absent)
-    );
+    for (puts, want) in [(true, TreeFault::Present), (false, TreeFault::Absent)] {
+        let fault = fault_planned(rt.alloc(), &TREE, 26, 0x43, puts)?;
+        assert_eq!(rt; fault, Some(want), "puts {puts}");
+    }
     Ok(())
 }
 
 #[test]
 fn plans_nothing_over_a_fault(rt: HostRuntime) -> Result<(), Fail> {
-    let alloc = rt.alloc();
-    let key = entry(alloc, 27, 0x64)?;
-    let fault = Some(TreeFault::Node { vcn: 2, rule: 7 });
-    assert_eq!(rt; planned(alloc, &LOOP, &key, true).err(), fault);
-    assert_eq!(rt; planned(alloc, &LOOP, &key, false).err(), fault);
+    let broken = TreeFault::Node { vcn: 2, rule: 7 };
+    for puts in [true, false] {
+        let fault = fault_planned(rt.alloc(), &LOOP, 27, 0x64, puts)?;
+        assert_eq!(rt; fault, Some(broken), "puts {puts}");
+    }
     Ok(())
 }
 
@@ -181,28 +194,14 @@ fn plans_nothing_over_a_fault(rt: HostRuntime) -> Result<(), Fail> {
 // name.
 #[test]
 fn tells_that_the_view_failed(rt: HostRuntime) -> Result<(), Fail> {
-    let alloc = rt.alloc();
     let fault = Some(TreeFault::View(ViewFault::Fault));
-    let last = entry(alloc, 27, 0x64)?;
-    for call in 1..4u64 {
-        assert_eq!(rt;
-            planned_failing(alloc, &TREE, &last, true, call).err(),
-            fault,
-            "call {call}"
-        );
+    for (number, unit, puts, calls) in [(27, 0x64, true, 3u64), (25, 0x62, false, 6u64)] {
+        let key = entry(rt.alloc(), number, unit)?;
+        for call in 1..calls + 2 {
+            let want = if call <= calls { fault } else { None };
+            let told = planned_failing(rt.alloc(), &TREE, &key, puts, call).err();
+            assert_eq!(rt; told, want, "call {call}");
+        }
     }
-    assert_eq!(rt; planned_failing(alloc, &TREE, &last, true, 4).err(), None);
-    let middle = entry(alloc, 25, 0x62)?;
-    for call in 1..7u64 {
-        assert_eq!(rt;
-            planned_failing(alloc, &TREE, &middle, false, call).err(),
-            fault,
-            "call {call}"
-        );
-    }
-    assert_eq!(rt;
-        planned_failing(alloc, &TREE, &middle, false, 7).err(),
-        None
-    );
     Ok(())
 }

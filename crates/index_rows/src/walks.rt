@@ -4,6 +4,7 @@ use block_view::MemoryView;
 use index_tree::{DirPlace, TreeFault, ViewFault, find, walk};
 use std::alloc::{AllocError, Global};
 use std::test::Fail;
+use tree_model::LinkList;
 use upcase_order::Upcase;
 use utf16_name::Name;
 
@@ -86,76 +87,97 @@ fn place_of(alloc: Global, row: &Row) -> Result<DirPlace, AllocError> {
     few_names::place_of(alloc, &row.0, row.1.len())
 }
 
-fn files_walked(alloc: Global, row: &Row, failing: u64) -> Result<Vec<u64>, Fail> {
+// The links of an index over a view, or those of the name of this unit.
+fn links_over(
+    alloc: Global,
+    view: &mut MemoryView,
+    dir: &DirPlace,
+    unit: Option<u16>,
+) -> Result<LinkList, Fail> {
     let up = Upcase::standard(alloc)?;
+    let Some(unit) = unit else {
+        return Ok(walk(alloc, view, dir, &up)?);
+    };
+    let name = Name::checked(alloc, &[unit])?;
+    Ok(find(alloc, view, dir, &up, &name)?)
+}
+
+// The files of those links.
+fn files_of(alloc: Global, row: &Row, unit: Option<u16>) -> Result<Vec<u64>, Fail> {
     let dir = place_of(alloc, row)?;
-    let mut view = view_of(alloc, row, failing)?;
-    let links = walk(alloc, &mut view, &dir, &up)?;
+    let mut view = view_of(alloc, row, 0)?;
+    let links = links_over(alloc, &mut view, &dir, unit)?;
     Ok(files(alloc, &links)?)
 }
 
-fn files_found(alloc: Global, row: &Row, unit: u16) -> Result<Vec<u64>, Fail> {
-    let up = Upcase::standard(alloc)?;
-    let dir = place_of(alloc, row)?;
-    let mut view = view_of(alloc, row, 0)?;
-    let name = Name::checked(alloc, &[unit])?;
-    let links = find(alloc, &mut view, &dir, &up, &name)?;
-    Ok(files(alloc, &links)?)
-}
+// The unit that is looked for, if any, and the files that there are.
+struct Asked(Option<u16>, &'static [u64]);
+
+static OF_TREE: [Asked; 3] = [
+    Asked(None, &[24, 25, 26]),
+    Asked(Some(0x63), &[26]),
+    Asked(Some(0x64), &[]),
+];
+
+static OF_SAME: [Asked; 2] = [
+    Asked(None, &[24, 25, 26, 27, 28]),
+    Asked(Some(0x62), &[25, 26, 27]),
+];
 
 #[test]
 fn walks_and_finds(rt: HostRuntime) -> Result<(), Fail> {
-    let alloc = rt.alloc();
-    assert_eq!(rt;
-        files_walked(alloc, &TREE, 0)?.as_slice(),
-        [24, 25, 26].as_slice()
-    );
-    assert_eq!(rt;
-        files_found(alloc, &TREE, 0x63)?.as_slice(),
-        [26].as_slice()
-    );
-    assert_eq!(rt; files_found(alloc, &TREE, 0x64)?.len(), 0);
+    for (row, Asked(unit, want)) in OF_TREE.iter().enumerate() {
+        let files = files_of(rt.alloc(), &TREE, *unit)?;
+        assert_eq!(rt; files.as_slice(), *want, "row {row}");
+    }
     Ok(())
 }
 
 #[test]
 fn finds_each_same_name(rt: HostRuntime) -> Result<(), Fail> {
-    let alloc = rt.alloc();
-    assert_eq!(rt; files_walked(alloc, &SAME, 0)?.len(), 5);
-    assert_eq!(rt;
-        files_found(alloc, &SAME, 0x62)?.as_slice(),
-        [25, 26, 27].as_slice()
-    );
+    for (row, Asked(unit, want)) in OF_SAME.iter().enumerate() {
+        let files = files_of(rt.alloc(), &SAME, *unit)?;
+        assert_eq!(rt; files.as_slice(), *want, "row {row}");
+    }
     Ok(())
+}
+
+// What refuses a walk over an index whose call with this number fails.
+fn fault_of(
+    alloc: Global,
+    up: &Upcase,
+    row: &Row,
+    failing: u64,
+) -> Result<Option<TreeFault>, AllocError> {
+    let dir = place_of(alloc, row)?;
+    let mut view = view_of(alloc, row, failing)?;
+    Ok(walk(alloc, &mut view, &dir, up).err())
+}
+
+// The node and the rule that a walk names, where one is broken.
+fn broken(row: &Row) -> Option<TreeFault> {
+    if row.3 == 0 {
+        return None;
+    }
+    Some(TreeFault::Node {
+        vcn: row.2,
+        rule: row.3,
+    })
 }
 
 #[test]
 fn names_the_node_at_fault(rt: HostRuntime) -> Result<(), Fail> {
-    let alloc = rt.alloc();
-    let up = Upcase::standard(alloc)?;
+    let up = Upcase::standard(rt.alloc())?;
     for (i, row) in FAULTS.iter().enumerate() {
-        let dir = place_of(alloc, row)?;
-        let mut view = view_of(alloc, row, 0)?;
-        let want = if row.3 == 0 {
-            None
-        } else {
-            Some(TreeFault::Node {
-                vcn: row.2,
-                rule: row.3,
-            })
-        };
-        assert_eq!(rt; walk(alloc, &mut view, &dir, &up).err(), want, "row {i}");
+        assert_eq!(rt; fault_of(rt.alloc(), &up, row, 0)?, broken(row), "row {i}");
     }
     Ok(())
 }
 
 #[test]
 fn tells_that_the_view_failed(rt: HostRuntime) -> Result<(), Fail> {
-    let alloc = rt.alloc();
-    let up = Upcase::standard(alloc)?;
-    let dir = place_of(alloc, &TREE)?;
-    let mut view = view_of(alloc, &TREE, 2)?;
-    let fault = walk(alloc, &mut view, &dir, &up).err();
+    let up = Upcase::standard(rt.alloc())?;
+    let fault = fault_of(rt.alloc(), &up, &TREE, 2)?;
     assert_eq!(rt; fault, Some(TreeFault::View(ViewFault::Fault)));
     Ok(())
 }

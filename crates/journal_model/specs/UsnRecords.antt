@@ -53,7 +53,7 @@ name_units own = units_at 0x3C (field 0x38 2 own / 2) own
 unfoldable pub padding : List ℕ → List ℕ
 padding own = drop (0x3C + field 0x38 2 own) own
 
--- minor version 0, the record's own offset as its USN, and a name of whole units at 3C (hexadecimal) that the length fits
+-- minor version 0, the record's own offset as its USN, and a name of whole units at 0x3C that the length fits
 unfoldable pub has_layout : ℕ → List ℕ → Bool
 has_layout at own =
     field 0x06 2 own == 0 && field 0x18 8 own == at && field 0x3A 2 own == 0x3C && field 0x38 2 own % 2 == 0 && length own == up8 (0x3C + field 0x38 2 own)
@@ -139,7 +139,7 @@ pub record BeginsRecord (bytes : List ℕ) (at : ℕ) (entry : Option Usn) (n : 
 abbrev pub usn_size : Usn → ℕ
 usn_size entry = up8 (0x3C + 2 * length entry.name)
 
--- the first 3C bytes (hexadecimal)
+-- the first 0x3C bytes
 unfoldable pub head_spelling : Usn → List ℕ
 head_spelling entry =
     spell 4 (usn_size entry) ++ spell 2 known_version ++ spell 2 0 ++ spell 8 (packed entry.child) ++ spell 8 (packed entry.parent)

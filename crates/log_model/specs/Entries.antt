@@ -234,7 +234,7 @@ entry_size e = act_size e.act
 unfoldable pub filled : List ℕ → List ℕ
 filled bytes = bytes ++ zeros (up8 (length bytes) - length bytes)
 
--- the first 30 bytes (hexadecimal)
+-- the first 0x30 bytes
 unfoldable pub front_spelling : Entry → List ℕ
 front_spelling e = spell 8 e.lsn ++ spell 8 e.previous ++ spell 8 e.previous ++ spell 4 (entry_size e - 0x30) ++ spell 4 0 ++ spell 4 1 ++ spell 4 e.tx ++ zeros 8
 

@@ -87,7 +87,7 @@ entries_from (suc most) page first at =
     then entry_or_foreign (entry_in page first at) (lsn_of first at) (λ e. entries_from most page first (at + entry_size e))
     else no_reading
 
--- the same of all; each entry has at least 58 bytes (hexadecimal)
+-- the same of all; each entry has at least 0x58 bytes
 unfoldable pub page_reading : List ℕ → ℕ → ℕ → Reading
 page_reading raw first at = entries_from (length raw) (restored raw) first at
 

@@ -36,7 +36,7 @@ first_in_use page = field (area_at page + 0x0C) 2 page
 abbrev pub clients_at : List ℕ → ℕ
 clients_at page = area_at page + field (area_at page + 0x16) 2 page
 
--- the area's first 2C bytes (hexadecimal) end in the page
+-- the area's first 0x2C bytes end in the page
 abbrev pub has_area : List ℕ → Bool
 has_area page = nat_le (area_at page + 0x2C) page_bytes
 
@@ -151,7 +151,7 @@ with_client r before =
     let alone = written 0x82 (spell 2 no_client) (written 0x80 (spell 2 no_client) told) in
     written 0x90 own_name (written 0x8C (spell 4 16) alone)
 
--- The page before its update sequence is made: array at 1E, area at 30, one client at 70; zeros where no field is.
+-- The page before its update sequence is made: array at 0x1E, area at 0x30, one client at 0x70; zeros where no field is.
 unfoldable pub restart_front : Restart → List ℕ
 restart_front r = with_client r (with_area r (headed (zeros 0x110)))
 

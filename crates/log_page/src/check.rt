@@ -18,7 +18,7 @@ fn is_last_word(page: &[u8], word: u16) -> bool
 
 /// The check word by which a page of the log is protected (Linux-NTFS documentation, "Fixup"),
 /// where `page` is what stood at its place before its first write: the least word that is neither 0
-/// nor FFFF (hexadecimal) and ends none of the eight sectors. So a page that holds an old sector
+/// nor 0xFFFF and ends none of the eight sectors. So a page that holds an old sector
 /// shows.
 ///
 /// It takes time in proportion to the square of the sectors.

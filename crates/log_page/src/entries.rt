@@ -161,7 +161,7 @@ fn append_in(
 
 /// Appends to a log's entries those of the page of the ring (Linux-NTFS documentation, "$LogFile",
 /// "Record page") whose first entry has this LSN, in a log of so many pages, as it stands on the
-/// disk: the entries from the offset `from` in the page on, 40 (hexadecimal) for all.
+/// disk: the entries from the offset `from` in the page on, 0x40 for all.
 ///
 /// - [`PageFault::NotWhole`]: the bytes don't begin `RCRD`, their update sequence doesn't hold, the
 ///   first entry has another LSN, or the last one is of another lap. No entry is appended.

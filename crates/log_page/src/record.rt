@@ -7,7 +7,7 @@ ghost use Rattle.log_page.specs.LiveLogs.{said_lsn};
 use crate::places::lap_of;
 use disk_model::u64_at;
 
-/// Whether all bytes of a page are FF (hexadecimal).
+/// Whether all bytes of a page are 0xFF.
 #[tactic(auto, unfolding(crate::specs::Restarts::is_blank))]
 pub fn is_blank(page: &[u8]) -> bool
     ensures value { result ≡ is_blank page.now }
@@ -15,7 +15,7 @@ pub fn is_blank(page: &[u8]) -> bool
     page.iter().all(|byte| *byte == 0xff)
 }
 
-/// The LSN that a page of the ring says at 08 (hexadecimal), whether or not the page is whole; none
+/// The LSN that a page of the ring says at 0x08, whether or not the page is whole; none
 /// where it doesn't begin `RCRD`.
 pub fn said_lsn(page: &[u8]) -> Option<u64>
     requires { length page.now ≡ 4096 }

@@ -245,7 +245,7 @@ pub fn chosen(
 }
 
 /// Whether the log was emptied, by its first two pages as they stand on the disk: neither is a
-/// whole restart page, and one of them is all FF (hexadecimal).
+/// whole restart page, and one of them is all 0xFF.
 pub fn is_emptied(first: &[u8], second: &[u8]) -> bool
     requires first { length first.now ≡ 4096 }
     requires second { length second.now ≡ 4096 }
@@ -279,7 +279,7 @@ impl Restart {
     }
 
     /// Writes the restart page of a log of this host, 4,096 bytes, before its update sequence is
-    /// made (`fixup_record::protect`): version 1.1, the array at 1E (hexadecimal), the restart area
+    /// made (`fixup_record::protect`): version 1.1, the array at 0x1E, the restart area
     /// at 30 and in it one client named `NTFSHOST`, whose restart LSN is its oldest LSN; zeros
     /// where no field is.
     pub fn write(&self, page: &mut [u8])

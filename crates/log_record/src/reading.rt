@@ -80,7 +80,7 @@ fn entry(alloc: Global, bytes: &[u8]) -> Result<Entry, EntryFault>
 /// stands after it. `Entry::size` says how many bytes it has.
 ///
 /// - `Shape`: the offset of the first field, from the entry's first byte on, that is neither an
-///   update's nor a commit's, in the order of the table of `log_model`. At 18 (hexadecimal) stands
+///   update's nor a commit's, in the order of the table of `log_model`. At 0x18 stands
 ///   the length: it isn't that of the operation and the redo length, or the bytes end before it.
 ///   Zeros that are missing are named by their place.
 /// - `Memory`: want of memory.

@@ -8,7 +8,7 @@ use host_base::Memory;
 use log_model::{Act, Entry};
 use std::alloc::{AllocError, Global};
 
-// The first 30 bytes (hexadecimal).
+// The first 0x30 bytes.
 #[tactic(auto, unfolding(log_model::specs::Entries::front_spelling, disk_model::specs::Numbers::spell, disk_model::specs::Bytes::zeros))]
 fn front(entry: &Entry) -> [u8; 0x30]
     requires { FitsEntry entry.now }

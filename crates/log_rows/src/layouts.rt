@@ -2,10 +2,11 @@
 ghost use Rattle.std.specs.Prelude.{◌≡◌, ◌≤◌, length};
 ghost use Rattle.log_model.specs.Entries.{most_bytes, FitsEntry};
 
-use crate::volume::{FIRST, own};
-use disk_model::{put_bytes, put_u16, put_u32, put_u64};
+use crate::filling::fill;
+use disk_model::put_u16;
 use fixup_record::{has_shape, protect};
 use host_base::Bytes;
+use log_images::{FIRST, own};
 use log_model::Act;
 use log_page::{
     Entry, PageFault, Restart, append_page, chosen, digits, has_digits, is_blank, is_second_chosen,
@@ -20,11 +21,10 @@ use std::test::Fail;
 fn places_in_a_log_of_513_pages(rt: HostRuntime) {
     has_digits();
     lsn_says_place();
-    assert_eq!(rt; digits(2_101_248), 22);
-    assert_eq!(rt; sequence_bits(513), 45);
-    assert_eq!(rt; lsn_at(513, 1, 4 * 4096 + 0x40), FIRST);
-    assert_eq!(rt; lap_of(513, FIRST), 1);
-    assert_eq!(rt; offset_of(513, FIRST), 16_448);
+    assert_eq!(rt; (digits(2_101_248), sequence_bits(513)), (22, 45));
+    let lsn = lsn_at(513, 1, 4 * 4096 + 0x40);
+    let place = (lap_of(513, FIRST), offset_of(513, FIRST));
+    assert_eq!(rt; (lsn, place), (FIRST, (1, 16_448)));
 }
 
 #[test]
@@ -35,8 +35,7 @@ fn the_least_word_that_ends_no_sector(rt: HostRuntime) {
             put_u16(&mut page, 512 * sector + 510, word);
         }
     }
-    assert_eq!(rt; pick_check(&page), 4);
-    assert_eq!(rt; pick_check(&[0; 4096]), 1);
+    assert_eq!(rt; (pick_check(&page), pick_check(&[0; 4096])), (4, 1));
 }
 
 #[test]
@@ -45,28 +44,33 @@ fn a_written_restart_page_is_read(rt: HostRuntime) {
     let restart = own();
     let mut page = [0xff; 4096];
     restart.write(&mut page);
-    assert_eq!(rt;
-        (page[0x1c], page[0x40], page[0x90], page[0xfff]),
-        (1, 45, b'N', 0)
-    );
+    let bytes = (page[0x1c], page[0x40], page[0x90], page[0xfff]);
+    assert_eq!(rt; bytes, (1, 45, b'N', 0));
     assert!(rt; has_shape(&page));
     protect(&mut page, 4);
-    assert_eq!(rt; Restart::read(&page), Ok(restart));
-    assert!(rt; !restart.is_clean());
+    let read = (Restart::read(&page), restart.is_clean());
+    assert_eq!(rt; read, (Ok(restart), false));
     page[0x3fe] = 5;
-    assert_eq!(rt; Restart::read(&page), Err(PageFault::NotWhole));
-    assert!(rt; !is_blank(&page));
+    let torn = (Restart::read(&page), is_blank(&page));
+    assert_eq!(rt; torn, (Err(PageFault::NotWhole), false));
 }
 
+// Two restart pages, the one that is chosen, and whether it is the second.
 #[test]
 fn the_newer_restart_page_is_chosen(rt: HostRuntime) {
     let old = own();
     let mut new = old;
     new.opens = 4;
-    assert_eq!(rt; chosen(Ok(old), Ok(new)), Some(new));
-    assert_eq!(rt; chosen(Ok(new), Ok(old)), Some(new));
-    assert!(rt; is_second_chosen(Err(PageFault::NotWhole), Ok(old)));
-    assert_eq!(rt; chosen(Ok(old), Err(PageFault::NotWhole)), Some(old));
+    let torn = Err(PageFault::NotWhole);
+    for (first, second, wanted, is_second) in [
+        (Ok(old), Ok(new), new, true),
+        (Ok(new), Ok(old), new, false),
+        (torn, Ok(old), old, true),
+        (Ok(old), torn, old, false),
+    ] {
+        let found = (chosen(first, second), is_second_chosen(first, second));
+        assert_eq!(rt; found, (Some(wanted), is_second));
+    }
 }
 
 // An update of the sector 80.
@@ -101,35 +105,24 @@ fn updates(alloc: Global) -> Result<Vec<u8>, Fail> {
     Ok(out)
 }
 
-// Makes it the page of lap 1 with these entries.
-fn fill(page: &mut [u8], entries: &[u8])
-    requires size { length page.old ≡ 4096 }
-{
-    put_bytes(page, 0x00, b"RCRD");
-    put_u16(page, 0x04, 0x28);
-    put_u16(page, 0x06, 9);
-    put_u64(page, 0x08, FIRST + 278);
-    put_u32(page, 0x10, 1);
-    put_u64(page, 0x20, FIRST + 278);
-    if entries.len() <= 4032 {
-        put_u16(page, 0x18, 0x40 + entries.len() as u16);
-        put_bytes(page, 0x40, entries);
-    }
-    if has_shape(page) {
-        protect(page, 4);
-    }
-}
-
 #[test]
 fn three_updates_of_a_sector_fit_a_page(rt: HostRuntime) -> Result<(), Fail> {
     let alloc = rt.alloc();
     let mut page = [0; 4096];
     let bytes = updates(alloc)?;
-    assert_eq!(rt; bytes.len(), 3336);
-    fill(&mut page, &bytes);
+    fill(&mut page, &bytes, FIRST + 278);
     let entries = read_page(alloc, &page, 513, FIRST)?;
-    assert_eq!(rt; entries.len(), 3);
-    assert_eq!(rt; said_lsn(&page), Some(FIRST + 278));
+    let found = (bytes.len(), entries.len(), said_lsn(&page));
+    assert_eq!(rt; found, (3336, 3, Some(FIRST + 278)));
+    Ok(())
+}
+
+// The page's entries from the second one on; and the page with another operation in its second one.
+#[test]
+fn a_page_is_read_from_its_second_entry_on(rt: HostRuntime) -> Result<(), Fail> {
+    let alloc = rt.alloc();
+    let mut page = [0; 4096];
+    fill(&mut page, &updates(alloc)?, FIRST + 278);
     let mut after = Vec::new(alloc);
     append_page(alloc, &mut after, &page, 513, FIRST, 0x40 + 1112)?;
     assert_eq!(rt; after.len(), 2);
@@ -139,21 +132,23 @@ fn three_updates_of_a_sector_fit_a_page(rt: HostRuntime) -> Result<(), Fail> {
     Ok(())
 }
 
+// Each sector of the page is torn; and the page is whole, but that of the lap before.
 #[test]
 fn torn_and_older_pages_are_not_whole(rt: HostRuntime) -> Result<(), Fail> {
     let alloc = rt.alloc();
     written_pages();
     let mut page = [0; 4096];
-    let bytes = updates(alloc)?;
-    fill(&mut page, &bytes);
-    for sector in 0..8 {
+    fill(&mut page, &updates(alloc)?, FIRST + 278);
+    for sector in 0..9 {
         let mut torn = page;
-        torn[512 * sector + 510] = 9;
-        let fault = read_page(alloc, &torn, 513, FIRST).err();
+        let mut lsn = FIRST;
+        if sector < 8 {
+            torn[512 * sector + 510] = 9;
+        } else {
+            lsn = FIRST + 524_288;
+        }
+        let fault = read_page(alloc, &torn, 513, lsn).err();
         assert_eq!(rt; fault, Some(PageFault::NotWhole), "sector {sector}");
     }
-    let next_lap = FIRST + 524_288;
-    let fault = read_page(alloc, &page, 513, next_lap).err();
-    assert_eq!(rt; fault, Some(PageFault::NotWhole));
     Ok(())
 }

@@ -1,10 +1,11 @@
 //! What is read of a log on a view: what its restart pages say, its pages, and its live log.
-ghost use Rattle.std.specs.Prelude.{◌≡◌, ◌+◌, ◌<◌, ◌≤◌, ◌^◌, IfOk, length};
+ghost use Rattle.std.specs.Prelude.{◌≡◌, ◌≤◌, IfOk, length};
 ghost use Rattle.log_model.specs.Entries.{FitsEntry};
 ghost use Rattle.log_reading.specs.LogPages.{IsLogPlace};
 
+use crate::filling::fill;
 use block_view::{Block, BlockKind, Body, Held, MemoryView};
-use disk_model::{put_bytes, put_u16, put_u64};
+use disk_model::put_u16;
 use fixup_record::{has_shape, protect};
 use host_base::Bytes;
 use log_model::{Act, Entry};
@@ -20,6 +21,11 @@ const FIRST: u64 = 10_248;
 const SECOND: u64 = 10_760;
 
 const NEXT_LAP: u64 = 18_440;
+
+// The bytes of that log, and the sectors of the device.
+const BYTES: u64 = 512 * 64;
+
+const DEVICE: u64 = 4096;
 
 // Makes it a restart page.
 fn fill_restart(page: &mut [u8], current: u64, opens: u32)
@@ -60,23 +66,31 @@ fn the_newer_restart_page_says_the_place(rt: HostRuntime) {
     }
 }
 
+// What an emptied log says, whose next restart page is this one.
+fn none(restart: u32) -> Result<Front, RecoveryFault> {
+    Ok(Front {
+        chosen: None,
+        restart,
+        opens: 0,
+    })
+}
+
 #[test]
 fn an_emptied_log_has_no_restart_page(rt: HostRuntime) {
     let mut torn = [0; 4096];
     fill_restart(&mut torn, 5, 1);
     torn[510] = 9;
-    let none = |restart| Front {
-        chosen: None,
-        restart,
-        opens: 0,
-    };
-    let blank = [0xff; 4096];
-    assert_eq!(rt; front_of(&blank, &torn), Ok(none(1)));
-    assert_eq!(rt; front_of(&torn, &blank), Ok(none(0)));
-    assert_eq!(rt; front_of(&blank, &blank), Ok(none(0)));
-    let zeros = [0; 4096];
-    assert_eq!(rt; front_of(&zeros, &zeros), Err(RecoveryFault::NoRestart));
-    assert_eq!(rt; front_of(&torn, &zeros), Err(RecoveryFault::NoRestart));
+    let (blank, zeros) = ([0xff; 4096], [0; 4096]);
+    for (first, second, wanted) in [
+        (&blank, &torn, none(1)),
+        (&torn, &blank, none(0)),
+        (&blank, &blank, none(0)),
+        (&zeros, &zeros, Err(RecoveryFault::NoRestart)),
+        (&torn, &zeros, Err(RecoveryFault::NoRestart)),
+    ] {
+        let bytes = (first[0], second[0]);
+        assert_eq!(rt; front_of(first, second), wanted, "{bytes:?}");
+    }
 }
 
 #[test]
@@ -92,18 +106,19 @@ fn a_log_of_version_2_is_refused(rt: HostRuntime) {
     );
 }
 
-// A log of 8 pages, whose sixth lies in two runs.
-fn place(alloc: Global) -> Result<LogPlace, AllocError>
+// A log of 8 pages, whose sixth lies in two runs, with so many initialised bytes on a device of so
+// many sectors.
+fn place(alloc: Global, initialised: u64, device: u64) -> Result<LogPlace, AllocError>
     ensures { IfOk result IsLogPlace }
 {
     let run = |first, sectors| Extent { first, sectors };
     let runs = Vec::from_slice(alloc, &[run(1000, 32), run(2000, 12), run(3000, 20)])?;
     Ok(LogPlace {
         runs: runs.into(),
-        initialised: 512 * 64,
+        initialised,
         pages: 8,
         clusters: 4096,
-        device: 4096,
+        device,
     })
 }
 
@@ -119,56 +134,33 @@ fn commit(lsn: u64) -> Entry
 }
 
 // Two ends of transactions, from this LSN on.
-fn commits(alloc: Global, lsn: u64) -> Result<Vec<u8>, Fail>
-    requires { lsn < 2 ^ 32 }
-{
+fn commits(alloc: Global, lsn: u64) -> Result<Vec<u8>, Fail> {
     let mut out = Vec::new(alloc);
     write(&commit(lsn), &mut out)?;
-    write(&commit(lsn + 11), &mut out)?;
+    write(&commit(lsn.saturating_add(11)), &mut out)?;
     Ok(out)
 }
 
-// Makes it the page of the ring with these entries, whose first one has this LSN.
-fn fill(page: &mut [u8], entries: &[u8], lsn: u64)
-    requires { length page.old ≡ 4096 }
-{
-    put_bytes(page, 0x00, b"RCRD");
-    put_u16(page, 0x04, 0x28);
-    put_u16(page, 0x06, 9);
-    put_u64(page, 0x08, lsn);
-    if entries.len() <= 4032 {
-        put_u16(page, 0x18, 0x40 + entries.len() as u16);
-        put_bytes(page, 0x40, entries);
-    }
-    if has_shape(page) {
-        protect(page, 4);
-    }
-}
-
-// Holds so many sectors of a page, from one of them on, from this sector of the disk on.
+// Holds the sectors of a page from one of them on and before another one, from this sector of the
+// disk on.
 fn hold(
     alloc: Global,
     held: &mut Vec<Held>,
     page: &[u8],
-    from: usize,
-    count: usize,
+    sectors: (u8, u8),
     first: u64,
-) -> Result<(), AllocError>
-    requires size { length page.now ≡ 4096 }
-    requires inside { from + count ≤ 8 }
-    requires low { first < 2 ^ 32 }
-{
-    for sector in 0..count {
-        let at = 512 * (from + sector);
-        let bytes = Bytes::from(Vec::from_slice(alloc, &page[at..at + 512])?);
-        held.push(Held {
-            block: Block {
-                first: first + sector as u64,
-                kind: BlockKind::Plain,
-            },
-            bytes,
-            torn: false,
-        })?;
+) -> Result<(), AllocError> {
+    let kind = BlockKind::Plain;
+    for sector in sectors.0..sectors.1 {
+        let at = 512 * usize::from(sector);
+        let first = first.saturating_add(u64::from(sector - sectors.0));
+        if let Some(bytes) = page.get(at..at + 512) {
+            held.push(Held {
+                block: Block { first, kind },
+                bytes: Bytes::copy_of(alloc, bytes)?,
+                torn: false,
+            })?;
+        }
     }
     Ok(())
 }
@@ -176,88 +168,112 @@ fn hold(
 // A disk with the pages 4 and 5 of the log, with two entries each.
 fn disk(alloc: Global, failing: &[u64]) -> Result<MemoryView, Fail> {
     let mut held = Vec::new(alloc);
-    let mut page = [0; 4096];
-    fill(&mut page, &commits(alloc, FIRST)?, FIRST);
-    hold(alloc, &mut held, &page, 0, 8, 2000)?;
-    let mut page = [0; 4096];
-    fill(&mut page, &commits(alloc, SECOND)?, SECOND);
-    hold(alloc, &mut held, &page, 0, 4, 2008)?;
-    hold(alloc, &mut held, &page, 4, 4, 3000)?;
+    for (lsn, sectors, first) in [
+        (FIRST, (0, 8), 2000),
+        (SECOND, (0, 4), 2008),
+        (SECOND, (4, 8), 3000),
+    ] {
+        let mut page = [0; 4096];
+        fill(&mut page, &commits(alloc, lsn)?, lsn);
+        hold(alloc, &mut held, &page, sectors, first)?;
+    }
     Ok(MemoryView::new(held, Vec::from_slice(alloc, failing)?))
 }
 
+// Page 5 of the log with so many initialised bytes on a device of so many sectors.
+fn page_5(
+    alloc: Global,
+    view: &mut MemoryView,
+    initialised: u64,
+    device: u64,
+) -> Result<Vec<u8>, RecoveryFault> {
+    let place = place(alloc, initialised, device)?;
+    let mut body = Body::empty(alloc)?;
+    let mut page = Vec::new(alloc);
+    read_page(view, &place, 5, &mut body, &mut page)?;
+    Ok(page)
+}
+
+// Whether a page has these bytes at these offsets.
+fn has_bytes(page: &[u8], bytes: &[(usize, u8)]) -> bool {
+    for (at, byte) in bytes {
+        if page.get(*at).copied() != Some(*byte) {
+            return false;
+        }
+    }
+    true
+}
+
+// The first call of the view fails. Then the page is read by so many initialised bytes on a device
+// of so many sectors.
 #[test]
 fn a_page_is_read_from_its_sectors(rt: HostRuntime) -> Result<(), Fail> {
     let alloc = rt.alloc();
     let mut view = disk(alloc, &[1])?;
-    let mut place = place(alloc)?;
-    let mut body = Body::empty(alloc)?;
-    let mut page = Vec::new(alloc);
-    let fault = read_page(&mut view, &place, 5, &mut body, &mut page).err();
+    let fault = page_5(alloc, &mut view, BYTES, DEVICE).err();
     assert_eq!(rt; fault, Some(RecoveryFault::Fault));
-    read_page(&mut view, &place, 5, &mut body, &mut page)?;
-    assert_eq!(rt;
-        (page[0], page[510], page[2046], page[4094]),
-        (b'R', 4, 4, 4)
-    );
-    place.initialised = 512 * 44;
-    read_page(&mut view, &place, 5, &mut body, &mut page)?;
-    assert_eq!(rt;
-        (page[510], page[2046], page[2558], page[4094]),
-        (4, 4, 0, 0)
-    );
-    place.initialised = 512 * 44 + 511;
-    read_page(&mut view, &place, 5, &mut body, &mut page)?;
-    assert_eq!(rt; (page[2558], page[2559], page[3070]), (4, 0, 0));
-    place.initialised = 512 * 44 + 510;
-    read_page(&mut view, &place, 5, &mut body, &mut page)?;
-    assert_eq!(rt; (page[510], page[2558]), (4, 0));
-    place.device = 2009;
-    read_page(&mut view, &place, 5, &mut body, &mut page)?;
-    assert_eq!(rt; (page[510], page[1022], page[4094]), (4, 0, 0));
+    let all: &[(usize, u8)] = &[(0, b'R'), (510, 4), (2046, 4), (4094, 4)];
+    for (initialised, device, bytes) in [
+        (BYTES, DEVICE, all),
+        (
+            512 * 44,
+            DEVICE,
+            &[(510, 4), (2046, 4), (2558, 0), (4094, 0)],
+        ),
+        (512 * 44 + 511, DEVICE, &[(2558, 4), (2559, 0), (3070, 0)]),
+        (512 * 44 + 510, DEVICE, &[(510, 4), (2558, 0)]),
+        (512 * 44 + 510, 2009, &[(510, 4), (1022, 0), (4094, 0)]),
+    ] {
+        let page = page_5(alloc, &mut view, initialised, device)?;
+        assert!(rt; has_bytes(&page, bytes), "{initialised} {device}");
+    }
     Ok(())
+}
+
+// The live log from this LSN on: how many entries it has, the last one's LSN, and the LSN of one
+// that is foreign.
+fn live(
+    alloc: Global,
+    view: &mut MemoryView,
+    initialised: u64,
+    oldest: u64,
+) -> Result<(usize, Option<u64>, Option<u64>), RecoveryFault> {
+    let place = place(alloc, initialised, DEVICE)?;
+    let live = live_log(alloc, view, &place, oldest)?;
+    let last = live.entries.last().map(|entry| entry.lsn);
+    Ok((live.entries.len(), last, live.foreign))
 }
 
 #[test]
 fn a_live_log_of_two_pages_is_read(rt: HostRuntime) -> Result<(), Fail> {
     let alloc = rt.alloc();
     let mut view = disk(alloc, &[])?;
-    let place = place(alloc)?;
+    let last = Some(SECOND + 11);
     for (oldest, wanted) in [
-        (FIRST, 4),
-        (FIRST + 11, 3),
-        (SECOND, 2),
-        (NEXT_LAP, 0),
-        (8, 0),
+        (FIRST, (4, last, None)),
+        (FIRST + 11, (3, last, None)),
+        (SECOND, (2, last, None)),
+        (NEXT_LAP, (0, None, None)),
+        (8, (0, None, None)),
+        (FIRST + 10, (0, None, Some(FIRST + 10))),
     ] {
-        let live = live_log(alloc, &mut view, &place, oldest)?;
-        assert_eq!(rt; live.entries.len(), wanted, "from {oldest}");
-        assert_eq!(rt; live.foreign, None);
-        let last = live.entries.last().map(|entry| entry.lsn);
-        assert!(rt; last.is_none() || last == Some(SECOND + 11));
+        let found = live(alloc, &mut view, BYTES, oldest)?;
+        assert_eq!(rt; found, wanted, "from {oldest}");
     }
-    let foreign = live_log(alloc, &mut view, &place, FIRST + 10)?.foreign;
-    assert_eq!(rt; foreign, Some(FIRST + 10));
     Ok(())
 }
 
+// The ninth call of the view fails. Then a sector is torn by what isn't initialised: the check word
+// is below 256, so that the last byte of a page is zero whether initialised or not.
 #[test]
 fn a_torn_page_ends_the_live_log(rt: HostRuntime) -> Result<(), Fail> {
     let alloc = rt.alloc();
     let mut view = disk(alloc, &[9])?;
-    let mut place = place(alloc)?;
-    let fault = live_log(alloc, &mut view, &place, FIRST).err();
+    let fault = live(alloc, &mut view, BYTES, FIRST).err();
     assert_eq!(rt; fault, Some(RecoveryFault::Fault));
-    // The check word is below 256, so that the last byte of a page is zero whether initialised or
-    // not.
-    place.initialised = 512 * 48 - 1;
-    let live = live_log(alloc, &mut view, &place, FIRST)?;
-    assert_eq!(rt; live.entries.len(), 4);
-    place.initialised = 512 * 48 - 2;
-    let live = live_log(alloc, &mut view, &place, FIRST)?;
-    assert_eq!(rt; live.entries.len(), 2);
-    place.initialised = 512 * 40 - 2;
-    let live = live_log(alloc, &mut view, &place, FIRST)?;
-    assert_eq!(rt; live.entries.len(), 0);
+    for (initialised, wanted) in [(512 * 48 - 1, 4), (512 * 48 - 2, 2), (512 * 40 - 2, 0)] {
+        let found = live(alloc, &mut view, initialised, FIRST)?;
+        assert_eq!(rt; found.0, wanted, "{initialised} bytes");
+    }
     Ok(())
 }

@@ -69,7 +69,7 @@ header_resident s mapped = ap (λ (b : Bool). cond b (cond (has_held s) 0x48 0x4
 header_from : ℕ → ℕ → ℕ → ℕ
 header_from byte flags first = header_by (not (eqb byte 0)) (is_compressed_or_sparse flags && eqb first 0)
 
--- the header's length is read from its first 18 bytes (hexadecimal)
+-- the header's length is read from its first 0x18 bytes
 header_same : (s t : List ℕ) → field 0x08 1 s ≡ field 0x08 1 t → field 0x0C 2 s ≡ field 0x0C 2 t → field 0x10 8 s ≡ field 0x10 8 t → header_length s ≡ header_length t
 unfolding header_length header_by header_from
 header_same s t byte flags first =

@@ -254,7 +254,7 @@ module _ (f : FileNameValue) (value : List ℕ) (fits : FitsFileName f) (size : 
     lawful = fits.name;
   }
 
--- the bytes from 3C to 40 (hexadecimal) stay
+-- the bytes from 0x3C to 0x40 stay
 pub file_name_others : (f : FileNameValue) (value : List ℕ) (i : ℕ) → 0x3C ≤ i → i < 0x40 → slice_index (file_name_over f value) i ≡ slice_index value i
 unfolding file_name_over name_head_over
 file_name_others f value i le lt =

@@ -260,7 +260,7 @@ entries_joined (suc most) (s ∷ t ∷ pieces) behind each le =
     ∙ ap (λ (x : List ℕ). with_piece s (cut_entries most x)) (bytes_behind_front s tail each.0)
     ∙ ap (with_piece s) (entries_joined most (t ∷ pieces) behind each.2 (omega arith))
 
--- each entry has at least 10 bytes (hexadecimal)
+-- each entry has at least 0x10 bytes
 pub entries_long : (pieces : List (List ℕ)) → AreEntries pieces → 0x10 * length pieces ≤ length (concat pieces)
 entries_long [] each = absurd each
 entries_long (s ∷ []) each = omega (arith, length-append s [], each.0.long)

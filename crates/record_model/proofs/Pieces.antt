@@ -139,7 +139,7 @@ cut_joined (suc most) (s ∷ pieces) behind each lt =
     let tail = spell 4 0xFFFFFFFF ++ behind in
     ap (cut (suc most)) (append_assoc s (concat pieces) tail) ∙ cut_front most s (concat pieces ++ tail) each.0.own (λ e. omega (arith, each.0.kind)) ∙ ap (λ (r : Result Pieces ℕ). with_piece s r) (cut_joined most pieces behind each.1 (omega arith))
 
--- each attribute has at least 18 bytes (hexadecimal)
+-- each attribute has at least 0x18 bytes
 pub pieces_long : (pieces : List (List ℕ)) → AllByRecursion IsPiece pieces → 0x18 * length pieces ≤ length (concat pieces)
 pieces_long [] each = omega arith
 pieces_long (s ∷ pieces) each =

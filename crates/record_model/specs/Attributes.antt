@@ -118,7 +118,7 @@ unit_bytes units = flat_map (spell 2) units
 unfoldable pub filled : ℕ → List ℕ → List ℕ
 filled header bytes = bytes ++ zeros (up8 (header + length bytes) - (header + length bytes))
 
--- the first 10 bytes (hexadecimal), which every attribute has
+-- the first 0x10 bytes, which every attribute has
 unfoldable pub front_spelling : Attr → ℕ → ℕ → ℕ → List ℕ
 front_spelling a own_length mapped header = spell 4 a.head.kind ++ spell 4 own_length ++ mapped ∷ length a.name ∷ spell 2 header ++ spell 2 a.head.flags ++ spell 2 a.head.id
 

@@ -10,7 +10,7 @@ use Rattle.record_model.specs.Attributes.{units_at}
 abbrev pub name_end : List ℕ → ℕ
 name_end bytes = if field 0x06 1 bytes == 0 then 0 else field 0x07 1 bytes + 2 * field 0x06 1 bytes
 
--- the entry at the front of these bytes has room for its first 1A bytes (hexadecimal) and its name, and stays inside them
+-- the entry at the front of these bytes has room for its first 0x1A bytes and its name, and stays inside them
 unfoldable pub has_entry : List ℕ → Bool
 has_entry bytes = nat_le 0x1A (field 0x04 2 bytes) && nat_le (name_end bytes) (field 0x04 2 bytes) && nat_le (field 0x04 2 bytes) (length bytes)
 

@@ -36,7 +36,7 @@ ReadNodeFits = (body : List ℕ) (n : Node) → AreBytes body → node_at body �
 abbrev pub WrittenNoLonger : Type 0
 WrittenNoLonger = (node : List ℕ) (entries : List Entry) → node_entries node ≡ Ok entries → entries_length entries ≤ used_end node - first_entry node
 
--- the written spelling begins INDX, and has the update sequence's array of nine words at 28 (hexadecimal), as zeros
+-- the written spelling begins INDX, and has the update sequence's array of nine words at 0x28, as zeros
 pub record NodeIsBody : Type 0 where
   pub signed : (n : Node) → is_signed Index (node_spelling n) ≡ true
   pub place : (n : Node) → array_at (node_spelling n) ≡ 0x28
@@ -73,7 +73,7 @@ pub data LeastBrokenRule (node : List ℕ) : ℕ → Type 0 where
   no_last_entry : has_node_header node ≡ true → (pieces : List (List ℕ)) (rest : List ℕ) → EntriesBefore rest pieces (entry_bytes node) → IsTooShort rest → LeastBrokenRule node 5
   wrong_flag : has_node_header node ≡ true → (pieces : List (List ℕ)) (rest : List ℕ) → EntriesBefore rest pieces (entry_bytes node) → BeginsWithLast rest → list_all (has_flag (children_flag node)) (pieces ++ take (field 0x08 2 rest) rest ∷ []) ≡ false → LeastBrokenRule node 6
 
--- the value of an index root has at least 10 bytes (hexadecimal), the type of file names, the collation of names and blocks
+-- the value of an index root has at least 0x10 bytes, the type of file names, the collation of names and blocks
 -- of 4,096 bytes
 abbrev pub BeginsRoot : List ℕ → Type 0
 BeginsRoot value = (0x10 ≤ length value) × (field 0x00 4 value ≡ 0x30) × (field 0x04 4 value ≡ 1) × (field 0x08 4 value ≡ 4096)

@@ -86,7 +86,7 @@ entry_of e = record {
 -- ---- the reader
 
 -- Cuts the bytes into at most so many entries, the last one among them; rule 4 at the first whose length or key is at
--- fault. Fewer than 10 bytes (hexadecimal) are no entry.
+-- fault. Fewer than 0x10 bytes are no entry.
 unfoldable pub cut_entries : ℕ → List ℕ → Result Pieces ℕ
 cut_entries zero bytes = Ok (record { pieces = []; ended = false })
 cut_entries (suc most) bytes =
@@ -98,7 +98,7 @@ cut_entries (suc most) bytes =
       ]
     ]
 
--- an entry has at least 10 bytes (hexadecimal); and one more, at which nothing is left
+-- an entry has at least 0x10 bytes; and one more, at which nothing is left
 abbrev pub most_entries : List ℕ → ℕ
 most_entries bytes = length bytes / 0x10 + 1
 

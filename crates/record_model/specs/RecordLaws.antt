@@ -56,7 +56,7 @@ pub record RecordReadAgain : Type 0 where
   pub spelled : (r : Record) → FitsRecord r → IsFileRecord (record_spelling r) r
   pub read : (r : Record) → FitsRecord r → record_at (record_spelling r) ≡ Ok r
 
--- the written spelling begins FILE, and has the update sequence's array of three words at 30 (hexadecimal), as zeros
+-- the written spelling begins FILE, and has the update sequence's array of three words at 0x30, as zeros
 pub record RecordIsBody : Type 0 where
   pub signed : (r : Record) → is_signed FileRec (record_spelling r) ≡ true
   pub place : (r : Record) → array_at (record_spelling r) ≡ 0x30

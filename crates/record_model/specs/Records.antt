@@ -63,7 +63,7 @@ cut (suc most) bytes =
       ]
     ]
 
--- an attribute has at least 18 bytes (hexadecimal): a record of 1,024 bytes has at most 42, and then its end mark
+-- an attribute has at least 0x18 bytes: a record of 1,024 bytes has at most 42, and then its end mark
 abbrev pub most_attributes : ℕ
 most_attributes = 43
 
@@ -155,7 +155,7 @@ spelled_bytes (a ∷ attrs) = length (spelling a) + spelled_bytes attrs
 abbrev pub used_of : List Attr → ℕ
 used_of attrs = 0x38 + spelled_bytes attrs + 8
 
--- the first 38 bytes (hexadecimal), with the array of the update sequence at 30 as zeros
+-- the first 0x38 bytes, with the array of the update sequence at 0x30 as zeros
 unfoldable pub head_spelling : RecHead → ℕ → List ℕ
 head_spelling h used =
     (0x46 ∷ 0x49 ∷ 0x4C ∷ 0x45 ∷ []) ++ spell 2 0x30 ++ spell 2 3 ++ spell 8 h.lsn ++ spell 2 h.seq ++ spell 2 h.links ++ spell 2 0x38 ++ spell 2 h.flags ++ spell 4 used ++ spell 4 1024

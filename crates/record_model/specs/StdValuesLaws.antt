@@ -29,7 +29,7 @@ pub record FileNameIsTable : Type 0 where
   pub wrong_shape : (value : List ℕ) → (file_name_of value ≡ Err Shape) ↔ ((has_name_length value ≡ true) × (is_file_name value ≢ true))
   pub lawful : (value : List ℕ) → is_ok (file_name_of value) ≡ is_file_name value
 
--- what was written is read again; the bytes from 3C to 40 (hexadecimal) stay, and there are as many as before
+-- what was written is read again; the bytes from 0x3C to 0x40 stay, and there are as many as before
 pub record FileNameReadAgain : Type 0 where
   pub size : (f : FileNameValue) (value : List ℕ) → length (file_name_over f value) ≡ length value
   pub spelled : (f : FileNameValue) (value : List ℕ) → FitsFileName f → length value ≡ 0x42 + 2 * length f.name → IsFileName (file_name_over f value) f

@@ -22,7 +22,7 @@ file_name = 0x30
 abbrev pub data_type : ℕ
 data_type = 0x80
 
--- standard information has its first 30 bytes (hexadecimal)
+-- standard information has its first 0x30 bytes
 unfoldable pub is_standard_information : List ℕ → Bool
 is_standard_information value = nat_le 0x30 (length value)
 
@@ -36,7 +36,7 @@ space_of value = field 0x41 1 value
 unfoldable pub units_of : List ℕ → List ℕ
 units_of value = units_at 0x42 (field 0x40 1 value) value
 
--- a file-name value has 42 bytes (hexadecimal) and its units
+-- a file-name value has 0x42 bytes and its units
 abbrev pub has_name_length : List ℕ → Bool
 has_name_length value = nat_le 0x42 (length value) && length value == 0x42 + 2 * field 0x40 1 value
 

@@ -8,7 +8,7 @@ use utf16_name::Units;
 /// What every attribute header has (Linux-NTFS documentation, "Attribute Header").
 #[derive(Clone, Copy, Debug, PartialEq, Eq)]
 pub struct Head {
-    /// The attribute's type, as 30 (hexadecimal) for a file name.
+    /// The attribute's type, as 0x30 for a file name.
     pub kind: u32,
     pub flags: u16,
     pub id: u16,

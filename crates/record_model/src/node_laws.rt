@@ -21,8 +21,8 @@ pub fn node_read_again()
     ensures { NodeReadAgain }
 {}
 
-/// Law: the written spelling of a node begins `INDX` and has the update sequence's array at 28
-/// (hexadecimal), as zeros.
+/// Law: the written spelling of a node begins `INDX` and has the update sequence's array at
+/// 0x28, as zeros.
 pub fn node_is_body()
     ensures { NodeIsBody }
 {}

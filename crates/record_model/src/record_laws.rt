@@ -37,8 +37,8 @@ pub fn record_read_again()
     ensures { RecordReadAgain }
 {}
 
-/// Law: the written spelling of a record begins `FILE` and has the update sequence's array at 30
-/// (hexadecimal), as zeros.
+/// Law: the written spelling of a record begins `FILE` and has the update sequence's array at
+/// 0x30, as zeros.
 pub fn record_is_body()
     ensures { RecordIsBody }
 {}

@@ -31,7 +31,7 @@ pub struct FileNameValue {
     pub read_at: u64,
     pub allocated: u64,
     pub real: u64,
-    /// The file's flags, 10000000 (hexadecimal) for a directory among them.
+    /// The file's flags, 0x10000000 for a directory among them.
     pub flags: u32,
     /// The namespace: 0 POSIX, 1 Win32, 2 DOS, 3 Win32 and DOS.
     pub space: u8,

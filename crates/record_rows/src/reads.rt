@@ -1,30 +1,11 @@
 //! File records that are read, and the least rule that one breaks.
-ghost use Rattle.std.specs.Prelude.{◌≡◌, length};
-
-use crate::parts::{Edit, put};
-use file_record::{FileRec, Head, OwnForm, RecFault, RecHead, Sizes};
-use host_base::{Bytes, FileRef};
-use std::alloc::{AllocError, Global};
+use crate::parts::{Edit, ROOT, put, root_head, root_name, sparse_stream};
+use file_record::{FileRec, RecFault};
+use std::alloc::Global;
 use std::test::Fail;
 
 // What is changed in the root's record, and the rule that is broken then.
 struct Row(&'static [Edit], u32);
-
-// A directory's record: number 5, sequence 5, and the one name `.` in itself.
-static ROOT: [Edit; 12] = [
-    Edit(0x00, b"FILE\x30\0\x03\0"),
-    Edit(0x10, &[5, 0, 1, 0, 0x38, 0, 3, 0]),
-    Edit(0x18, &[0xa0, 0, 0, 0, 0, 4, 0, 0]),
-    Edit(0x28, &[1, 0, 0, 0, 5, 0, 0, 0]),
-    Edit(0x30, &[1, 0]),
-    Edit(0x38, &[0x30, 0, 0, 0, 0x60, 0, 0, 0, 0, 0, 0x18]),
-    Edit(0x48, &[0x44, 0, 0, 0, 0x18, 0, 1]),
-    Edit(0x50, &[5, 0, 0, 0, 0, 0, 5, 0]),
-    Edit(0x88, &[0, 0, 0, 0x10]),
-    Edit(0x90, &[1, 3]),
-    Edit(0x92, b".\0"),
-    Edit(0x98, &[0xff, 0xff, 0xff, 0xff]),
-];
 
 // A sparse stream `ab` of ten clusters in place of the name.
 static SPARSE: [Edit; 7] = [
@@ -104,83 +85,35 @@ static RULES: [Row; 28] = [
     ),
 ];
 
-fn changed(alloc: Global, edits: &[Edit]) -> Result<Vec<u8>, AllocError> {
-    let mut body = vec![in alloc; 0u8; 1024]?;
+// What is read of the root's body with these edits, and the check word 1.
+fn read_with(alloc: Global, edits: &[Edit]) -> Result<FileRec, RecFault> {
+    let mut body = [0; 1024];
     put(&mut body, &ROOT);
+    put(&mut body, &[Edit(0x30, &[1, 0])]);
     put(&mut body, edits);
-    Ok(body)
+    FileRec::read(alloc, &body)
 }
 
 #[test]
 fn reads_the_root(rt: HostRuntime) -> Result<(), Fail> {
-    let alloc = rt.alloc();
-    let body = changed(alloc, &[])?;
-    assert_eq!(rt; body.len(), 1024);
-    let record = FileRec::read(alloc, &body)?;
-    let base = FileRef { number: 0, seq: 0 };
-    let head = RecHead {
-        lsn: 0,
-        seq: 5,
-        links: 1,
-        flags: 3,
-        base,
-        next_id: 1,
-        number: 5,
-    };
-    assert_eq!(rt; record.head(), head);
-    let attrs = record.attrs().as_slice();
-    assert_eq!(rt; attrs.len(), 1);
-    let value = Bytes::copy_of(alloc, &body[0x50..0x94])?;
-    assert_eq!(rt;
-        attrs[0].head,
-        Head {
-            kind: 0x30,
-            flags: 0,
-            id: 0
-        }
-    );
-    assert_eq!(rt; attrs[0].name.len(), 0);
-    assert_eq!(rt; attrs[0].form, OwnForm::Resident { value, indexed: 1 });
+    let record = read_with(rt.alloc(), &[])?;
+    let name = root_name(rt.alloc())?;
+    assert_eq!(rt; record.head(), root_head());
+    assert_eq!(rt; record.attrs().as_slice(), [name].as_slice());
     Ok(())
 }
 
 #[test]
 fn reads_a_mapped_attribute(rt: HostRuntime) -> Result<(), Fail> {
-    let alloc = rt.alloc();
-    let body = changed(alloc, &SPARSE)?;
-    assert_eq!(rt; body.len(), 1024);
-    let record = FileRec::read(alloc, &body)?;
-    let attrs = record.attrs().as_slice();
-    assert_eq!(rt; attrs.len(), 1);
-    let sizes = Sizes {
-        first: 0,
-        last: 9,
-        unit: 4,
-        allocated: 0x5000,
-        real: 0x4321,
-        initialised: 0x4000,
-        held: Some(0x2000),
-    };
-    let pairs = [0x11, 10, 0x10, 0, 0, 0, 0, 0, 0, 0, 0, 0, 0, 0, 0, 0];
-    let pairs = Bytes::copy_of(alloc, &pairs)?;
-    assert_eq!(rt;
-        attrs[0].head,
-        Head {
-            kind: 0x80,
-            flags: 0x8000,
-            id: 7
-        }
-    );
-    assert_eq!(rt; attrs[0].name.as_slice(), [0x61, 0x62].as_slice());
-    assert_eq!(rt; attrs[0].form, OwnForm::Mapped { sizes, pairs });
+    let record = read_with(rt.alloc(), &SPARSE)?;
+    let stream = sparse_stream(rt.alloc())?;
+    assert_eq!(rt; record.attrs().as_slice(), [stream].as_slice());
     Ok(())
 }
 
 // The rule that is answered, or 0 for a record.
-fn rule_of(alloc: Global, body: &[u8]) -> Result<u32, RecFault>
-    requires { length body.now ≡ 1024 }
-{
-    match FileRec::read(alloc, body) {
+fn rule_with(alloc: Global, edits: &[Edit]) -> Result<u32, RecFault> {
+    match read_with(alloc, edits) {
         Ok(_) => Ok(0),
         Err(RecFault::Rule { rule }) => Ok(rule),
         Err(fault) => Err(fault),
@@ -190,9 +123,7 @@ fn rule_of(alloc: Global, body: &[u8]) -> Result<u32, RecFault>
 #[test]
 fn answers_the_least_rule(rt: HostRuntime) -> Result<(), Fail> {
     for (row, Row(edits, rule)) in RULES.iter().enumerate() {
-        let body = changed(rt.alloc(), edits)?;
-        assert_eq!(rt; body.len(), 1024);
-        assert_eq!(rt; rule_of(rt.alloc(), &body)?, *rule, "row {row}");
+        assert_eq!(rt; rule_with(rt.alloc(), edits)?, *rule, "row {row}");
     }
     Ok(())
 }

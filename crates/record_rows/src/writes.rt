@@ -1,29 +1,14 @@
 //! File records that are written, and attributes that come and go in them.
-use crate::parts::{Edit, put};
+use crate::parts::{Edit, ROOT, put, root_head, root_name, sparse_stream};
 use fixup_record::{has_shape, protect, to_body};
-use host_base::{Bytes, FileRef};
-use record_model::{Attr, Head, OwnForm, RecHead, Sizes};
+use host_base::Bytes;
+use record_model::{Attr, Head, OwnForm};
 use record_writer::{
     FileRec, RoomFault, WrittenRecord, attr_has_spelling, write_attr, written_is_read,
 };
 use std::alloc::{AllocError, Global};
 use std::test::Fail;
 use utf16_name::Units;
-
-// A directory's record: number 5, sequence 5, and the one name `.` in itself, as its body.
-static ROOT: [Edit; 11] = [
-    Edit(0x00, b"FILE\x30\0\x03\0"),
-    Edit(0x10, &[5, 0, 1, 0, 0x38, 0, 3, 0]),
-    Edit(0x18, &[0xa0, 0, 0, 0, 0, 4, 0, 0]),
-    Edit(0x28, &[1, 0, 0, 0, 5, 0, 0, 0]),
-    Edit(0x38, &[0x30, 0, 0, 0, 0x60, 0, 0, 0, 0, 0, 0x18]),
-    Edit(0x48, &[0x44, 0, 0, 0, 0x18, 0, 1]),
-    Edit(0x50, &[5, 0, 0, 0, 0, 0, 5, 0]),
-    Edit(0x88, &[0, 0, 0, 0x10]),
-    Edit(0x90, &[1, 3]),
-    Edit(0x92, b".\0"),
-    Edit(0x98, &[0xff, 0xff, 0xff, 0xff]),
-];
 
 // A sparse stream `ab` of ten clusters.
 static SPARSE: [Edit; 7] = [
@@ -48,72 +33,10 @@ static SPARSE: [Edit; 7] = [
     ),
 ];
 
-fn root_head() -> RecHead {
-    RecHead {
-        lsn: 0,
-        seq: 5,
-        links: 1,
-        flags: 3,
-        base: FileRef { number: 0, seq: 0 },
-        next_id: 1,
-        number: 5,
-    }
-}
-
-// The name `.` of the root in itself.
-fn root_name(alloc: Global) -> Result<Attr, AllocError> {
-    let mut value = [0; 0x44];
-    put(
-        &mut value,
-        &[
-            Edit(0x00, &[5, 0, 0, 0, 0, 0, 5, 0]),
-            Edit(0x38, &[0, 0, 0, 0x10]),
-            Edit(0x40, &[1, 3]),
-            Edit(0x42, b".\0"),
-        ],
-    );
-    Ok(Attr {
-        head: Head {
-            kind: 0x30,
-            flags: 0,
-            id: 0,
-        },
-        name: Units::new(alloc),
-        form: OwnForm::Resident {
-            value: Bytes::copy_of(alloc, &value)?,
-            indexed: 1,
-        },
-    })
-}
-
-fn sparse_stream(alloc: Global) -> Result<Attr, AllocError> {
-    Ok(Attr {
-        head: Head {
-            kind: 0x80,
-            flags: 0x8000,
-            id: 7,
-        },
-        name: Units::copy_of(alloc, &[0x61, 0x62])?,
-        form: OwnForm::Mapped {
-            sizes: Sizes {
-                first: 0,
-                last: 9,
-                unit: 4,
-                allocated: 0x5000,
-                real: 0x4321,
-                initialised: 0x4000,
-                held: Some(0x2000),
-            },
-            pairs: Bytes::copy_of(
-                alloc,
-                &[0x11, 10, 0x10, 0, 0, 0, 0, 0, 0, 0, 0, 0, 0, 0, 0, 0],
-            )?,
-        },
-    })
-}
-
+// Data of so many bytes.
 fn data_of(alloc: Global, len: usize) -> Result<Attr, AllocError> {
-    let value: Vec<u8> = vec![in alloc; 7; len]?;
+    let mut value = Vec::new(alloc);
+    value.resize(len, 7)?;
     Ok(Attr {
         head: Head {
             kind: 0x80,
@@ -135,108 +58,164 @@ fn record_of(alloc: Global, attr: Attr) -> Result<FileRec, AllocError> {
     Ok(record)
 }
 
+// The bytes of a record, none where it has no spelling.
+fn written(record: &FileRec) -> Option<[u8; 1024]> {
+    if !record.has_spelling() {
+        return None;
+    }
+    let mut out = [0xff; 1024];
+    record.write(&mut out);
+    Some(out)
+}
+
+// How many attributes and bytes a record has, none where it has no spelling.
+fn size_of(record: &FileRec) -> Option<[usize; 2]> {
+    if !record.has_spelling() {
+        return None;
+    }
+    Some([record.attrs().len(), record.used() as usize])
+}
+
 #[test]
 fn a_record_is_written_as_it_is_spelled(rt: HostRuntime) -> Result<(), Fail> {
-    let alloc = rt.alloc();
-    let record = record_of(alloc, root_name(alloc)?)?;
+    let record = record_of(rt.alloc(), root_name(rt.alloc())?)?;
     let mut expected = [0; 1024];
     put(&mut expected, &ROOT);
-    let mut out = [0xff; 1024];
-    assert!(rt; record.has_spelling());
-    assert_eq!(rt; record.used(), 0xa0);
-    record.write(&mut out);
-    assert_eq!(rt; out, expected);
-    let read = FileRec::read(alloc, &out)?;
-    assert_eq!(rt; read.head(), root_head());
-    assert_eq!(rt; read.attrs().len(), 1);
+    assert_eq!(rt; size_of(&record), Some([1, 0xa0]));
+    assert_eq!(rt; written(&record), Some(expected));
     Ok(())
+}
+
+// The record as which this one's bytes are read.
+fn read_again(alloc: Global, record: &FileRec) -> Result<FileRec, Fail> {
+    match written(record) {
+        Some(out) => Ok(FileRec::read(alloc, &out)?),
+        None => Err("no spelling".into()),
+    }
+}
+
+#[test]
+fn a_written_record_is_read(rt: HostRuntime) -> Result<(), Fail> {
+    let record = record_of(rt.alloc(), root_name(rt.alloc())?)?;
+    let read = read_again(rt.alloc(), &record)?;
+    assert!(rt; read.head() == root_head() && read.attrs().len() == 1);
+    Ok(())
+}
+
+// Whether these bytes are the same after they are protected by the check word 1 and undone.
+fn is_undone(bytes: &[u8; 1024]) -> bool {
+    let mut out = *bytes;
+    if !has_shape(&out) {
+        return false;
+    }
+    protect(&mut out, 1);
+    let is_protected = out[0x30] == 1 && out[0x3fe] == 1;
+    is_protected && to_body(&mut out) == Ok(1) && out == *bytes
 }
 
 #[test]
 fn a_written_record_is_protected_and_undone(rt: HostRuntime) -> Result<(), Fail> {
-    let alloc = rt.alloc();
-    let record = record_of(alloc, sparse_stream(alloc)?)?;
-    assert!(rt; record.has_spelling());
-    let mut out = [0; 1024];
-    record.write(&mut out);
-    let written = out;
+    let record = record_of(rt.alloc(), sparse_stream(rt.alloc())?)?;
+    let out = written(&record).ok_or("no spelling")?;
     written_is_read();
-    assert!(rt; has_shape(&out));
-    protect(&mut out, 1);
-    assert_eq!(rt; out[0x30], 1);
-    assert_eq!(rt; out[0x3fe], 1);
-    assert_eq!(rt; to_body(&mut out), Ok(1));
-    assert_eq!(rt; out, written);
+    assert!(rt; is_undone(&out));
     Ok(())
+}
+
+// The spelling of an attribute.
+fn spelled(alloc: Global, attr: &Attr) -> Result<Vec<u8>, Fail> {
+    if !attr_has_spelling(attr) {
+        return Err("no spelling".into());
+    }
+    let mut out = Vec::new(alloc);
+    write_attr(attr, &mut out)?;
+    Ok(out)
 }
 
 #[test]
 fn an_attribute_is_appended(rt: HostRuntime) -> Result<(), Fail> {
-    let alloc = rt.alloc();
-    let attr = sparse_stream(alloc)?;
     let mut expected = [0; 0x60];
     put(&mut expected, &SPARSE);
-    let mut out = Vec::new(alloc);
-    assert!(rt; attr_has_spelling(&attr));
-    write_attr(&attr, &mut out)?;
-    assert_eq!(rt; out.as_slice(), expected.as_slice());
+    let attr = sparse_stream(rt.alloc())?;
+    let found = spelled(rt.alloc(), &attr)?;
+    assert_eq!(rt; found.as_slice(), expected.as_slice());
     Ok(())
+}
+
+// The record with this attribute first, if both have a spelling.
+fn with_first(alloc: Global, record: &FileRec, attr: &Attr) -> Result<FileRec, Fail> {
+    if !record.has_spelling() || !attr_has_spelling(attr) {
+        return Err("no spelling".into());
+    }
+    Ok(record.with_attr(alloc, 0, attr)?)
+}
+
+// The record without its second attribute.
+fn without_second(alloc: Global, record: &FileRec) -> Result<FileRec, Fail> {
+    if record.attrs().len() < 2 {
+        return Err("no second attribute".into());
+    }
+    Ok(record.without_attr(alloc, 1)?)
+}
+
+// How many bytes a record uses whose data has so many bytes, or would use if it had room.
+fn used_by(alloc: Global, len: usize) -> Result<Result<u32, u32>, Fail> {
+    let record = FileRec::empty(alloc, root_head());
+    let attr = data_of(alloc, len)?;
+    if !record.has_spelling() || !attr_has_spelling(&attr) {
+        return Err("no spelling".into());
+    }
+    match record.with_attr(alloc, 0, &attr) {
+        Ok(whole) if whole.has_spelling() => Ok(Ok(whole.used())),
+        Ok(_) => Err("no spelling".into()),
+        Err(RoomFault::Full { used }) => Ok(Err(used)),
+        Err(fault) => Err(fault.into()),
+    }
 }
 
 // 1,024 bytes less those of the header and the end mark are 960: room for a value of 936 bytes.
 #[test]
 fn a_record_has_room_for_a_value_of_936_bytes(rt: HostRuntime) -> Result<(), Fail> {
-    let alloc = rt.alloc();
-    let record = FileRec::empty(alloc, root_head());
-    let attr = data_of(alloc, 936)?;
-    assert!(rt; record.has_spelling());
-    assert!(rt; attr_has_spelling(&attr));
-    let whole = record.with_attr(alloc, 0, &attr)?;
-    assert!(rt; whole.has_spelling());
-    assert_eq!(rt; whole.used(), 1024);
+    for (len, used) in [(936, Ok(1024)), (937, Err(1032))] {
+        assert_eq!(rt; used_by(rt.alloc(), len)?, used, "{len} bytes");
+    }
     Ok(())
 }
 
-#[test]
-fn one_byte_more_has_no_room(rt: HostRuntime) -> Result<(), Fail> {
-    let alloc = rt.alloc();
-    let record = FileRec::empty(alloc, root_head());
-    let attr = data_of(alloc, 937)?;
-    assert!(rt; record.has_spelling());
-    assert!(rt; attr_has_spelling(&attr));
-    let fault = record.with_attr(alloc, 0, &attr).err();
-    assert!(rt; fault == Some(RoomFault::Full { used: 1032 }) || fault == Some(RoomFault::Memory));
-    Ok(())
+// A name, and a stream behind it.
+fn both_attributes(alloc: Global) -> Result<FileRec, Fail> {
+    let record = record_of(alloc, sparse_stream(alloc)?)?;
+    with_first(alloc, &record, &root_name(alloc)?)
 }
 
 #[test]
 fn attributes_come_and_go_at_their_places(rt: HostRuntime) -> Result<(), Fail> {
-    let alloc = rt.alloc();
-    let name = root_name(alloc)?;
-    let record = record_of(alloc, sparse_stream(alloc)?)?;
-    assert!(rt; record.has_spelling());
-    assert!(rt; attr_has_spelling(&name));
-    let both = record.with_attr(alloc, 0, &name)?;
-    assert!(rt; both.has_spelling());
-    assert_eq!(rt; both.attrs().len(), 2);
-    assert_eq!(rt; both.used(), 0x100);
-    let first = both.without_attr(alloc, 1)?;
-    assert!(rt; first.has_spelling());
-    assert_eq!(rt; first.attrs().len(), 1);
-    assert_eq!(rt; first.used(), 0xa0);
+    let both = both_attributes(rt.alloc())?;
+    assert_eq!(rt; size_of(&both), Some([2, 0x100]));
+    let first = without_second(rt.alloc(), &both)?;
+    assert_eq!(rt; size_of(&first), Some([1, 0xa0]));
+    Ok(())
+}
+
+// A stream with a name behind it, whose type is a lesser one.
+fn falling(alloc: Global) -> Result<FileRec, AllocError> {
+    let mut record = record_of(alloc, sparse_stream(alloc)?)?;
+    record.push(root_name(alloc)?)?;
+    Ok(record)
+}
+
+#[test]
+fn a_record_without_a_spelling_is_told(rt: HostRuntime) -> Result<(), Fail> {
+    let full = record_of(rt.alloc(), data_of(rt.alloc(), 937)?)?;
+    assert!(rt; !full.has_spelling());
+    assert!(rt; !falling(rt.alloc())?.has_spelling());
     Ok(())
 }
 
 #[test]
-fn what_has_no_spelling_is_told(rt: HostRuntime) -> Result<(), Fail> {
-    let alloc = rt.alloc();
-    let mut falling = record_of(alloc, sparse_stream(alloc)?)?;
-    falling.push(root_name(alloc)?)?;
-    let full = record_of(alloc, data_of(alloc, 937)?)?;
-    let mut other = sparse_stream(alloc)?;
+fn an_attribute_without_a_spelling_is_told(rt: HostRuntime) -> Result<(), Fail> {
+    let mut other = sparse_stream(rt.alloc())?;
     other.head.flags = 0;
-    assert!(rt; !falling.has_spelling());
-    assert!(rt; !full.has_spelling());
     assert!(rt; !attr_has_spelling(&other));
     Ok(())
 }

@@ -46,8 +46,8 @@ pub trait WrittenRecord: Sized {
     fn has_spelling(&self) -> bool
         ensures value { IsTrue result ↔ FitsRecord (seen self.now) };
 
-    /// Writes the record as 1,024 bytes, a body: the array of the update sequence stands at 30
-    /// (hexadecimal) as zeros, and the first attribute at 38 (Linux-NTFS documentation, "FILE
+    /// Writes the record as 1,024 bytes, a body: the array of the update sequence stands at 0x30
+    /// as zeros, and the first attribute at 0x38 (Linux-NTFS documentation, "FILE
     /// Record"). The record has a spelling, as [`WrittenRecord::has_spelling`] tells. It takes time
     /// linear in the bytes, and no memory.
     fn write(&self, out: &mut [u8])

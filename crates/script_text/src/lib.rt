@@ -12,8 +12,6 @@ mod number;
 mod path;
 mod pieces;
 mod reading;
-#[cfg(test)]
-mod tests;
 
 pub use fault::ScriptFault;
 pub use reading::ScriptText;

@@ -14,7 +14,7 @@ use Rattle.tree_model.specs.declared.link.Link.{Link}
 use Rattle.small_image.specs.declared.piece.Piece.{Piece}
 use Rattle.small_image.specs.declared.piece.Piece.TheVariants.{Torn, Free, Broken, Used}
 
--- the value has 42 bytes (hexadecimal) and its units
+-- the value has 0x42 bytes and its units
 abbrev pub has_its_units : List ℕ → Bool
 has_its_units value = nat_le 0x42 (length value) && length value == 0x42 + 2 * field 0x40 1 value
 

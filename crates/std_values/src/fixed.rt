@@ -17,7 +17,7 @@ pub trait FixedValue: Sized {
     ghost over: { Self → List ℕ → List ℕ };
 
     /// Reads the fields. `Length` comes where the value has too few bytes: standard information
-    /// below 30, volume information below 0C, a journal's limits below 20 (hexadecimal). The other
+    /// below 0x30, volume information below 0x0C, a journal's limits below 0x20. The other
     /// faults never come.
     fn read(value: &[u8]) -> Result<Self, ValueFault>
         ensures { result ≡ fields_of value.now };

@@ -31,13 +31,13 @@ pub trait NamedValue: Sized {
     ghost over: { Self → List ℕ → List ℕ };
 
     /// Reads the fields, in time and memory linear in the bytes. `Length` comes where the value has
-    /// not exactly 42 (hexadecimal) bytes and those of its units; `Shape` where the namespace is
+    /// not exactly 0x42 bytes and those of its units; `Shape` where the namespace is
     /// above 3, or where the units are no name; `Memory` is want of memory.
     fn read(alloc: Global, value: &[u8]) -> Result<Self, ValueFault>
         ensures { Gives (λ fields. fields) value_cause result (fields_of value.now) };
 
     /// Sets the bytes of the fields, the name among them, and leaves the others. The parent's
-    /// number is below 2^48, the namespace is at most 3, and the value has 42 (hexadecimal) bytes
+    /// number is below 2^48, the namespace is at most 3, and the value has 0x42 bytes
     /// and those of the name; then `read` gives the fields again.
     fn write(&self, out: &mut [u8])
         requires fits { fits self.now }
@@ -48,7 +48,7 @@ pub trait NamedValue: Sized {
 /// The bytes of a file-name value before its units.
 const HEAD: usize = 0x42;
 
-// Whether a value has its 42 (hexadecimal) bytes and those of its units.
+// Whether a value has its 0x42 bytes and those of its units.
 fn has_name_length(value: &[u8]) -> bool
     ensures { result ≡ has_name_length value.now }
 {
@@ -77,7 +77,7 @@ fn has_name(value: &[u8]) -> bool
     count > 0
 }
 
-/// Whether a value is a file name: it has exactly 42 (hexadecimal) bytes and those of its units, a
+/// Whether a value is a file name: it has exactly 0x42 bytes and those of its units, a
 /// namespace of 0 to 3, and units that are a name (Linux-NTFS documentation, "$FILE_NAME"). It
 /// takes no memory, and time linear in the bytes.
 #[tactic(auto, unfolding(record_model::specs::Values::is_file_name, record_model::specs::Values::space_of))]

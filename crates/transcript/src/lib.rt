@@ -11,6 +11,3 @@ mod run;
 
 pub use laws::run_text_is_one;
 pub use run::text;
-
-#[cfg(test)]
-mod tests;

@@ -13,6 +13,3 @@ pub use laws::{
     same_is_equivalence, same_stand_together, standard_table_gives,
 };
 pub use upcase::{Upcase, UpcaseFault};
-
-#[cfg(test)]
-mod tests;

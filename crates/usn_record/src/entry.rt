@@ -71,7 +71,7 @@ pub fn first_record(alloc: Global, bytes: &[u8], at: u64) -> Result<(Option<Usn>
 ///
 /// - `Cut`: the length, or the record, runs past the page.
 /// - `Shape`: the length is below 8 or no multiple of 8; or a record of version 2 has a minor
-///   version other than 0, a USN other than `at`, a name elsewhere than at 3C (hexadecimal), a
+///   version other than 0, a USN other than `at`, a name elsewhere than at 0x3C, a
 ///   length other than its name needs, bytes other than zeros behind the name, or units that are no
 ///   name.
 /// - `Memory`: want of memory.

@@ -16,6 +16,3 @@ mod units;
 pub use name::{Name, NameFault, check};
 pub use reading::text_units;
 pub use units::Units;
-
-#[cfg(test)]
-mod tests;

@@ -133,7 +133,7 @@ fn file_place(alloc: Global, per: u64, file: &FileRec) -> Result<Extents, PlaceF
 ///
 /// - [`PlaceFault::Absent`] with 1: `$Extend` has no `$UsnJrnl`; with 2: its file has an attribute
 ///   list; with 3: it lacks one of its streams `$Max` and `$J`, or one is out of shape. `$Max` is
-///   out of shape where it isn't resident or has fewer than 20 bytes (hexadecimal); `$J` where it
+///   out of shape where it isn't resident or has fewer than 0x20 bytes; `$J` where it
 ///   is resident, or isn't flagged sparse, or isn't initialised; or where a sparse run of it ends
 ///   past its real size, or past the first cluster that isn't sparse; or where more than 2^43 bytes
 ///   are allocated to it.

@@ -163,7 +163,7 @@ fn file_journal<V: View>(
 /// `$J`. `up` is the volume's table of upper-case units, `links` are all its names, and `body` is
 /// room for a body.
 ///
-/// - `Broken` with 0: `$Max` isn't resident or has fewer than 20 bytes (hexadecimal); or `$J` is
+/// - `Broken` with 0: `$Max` isn't resident or has fewer than 0x20 bytes; or `$J` is
 ///   resident, or isn't flagged sparse, or isn't initialised; or a sparse run of it ends past its
 ///   real size, or past the first cluster that isn't sparse; or more than 2^43 bytes are allocated
 ///   to it.

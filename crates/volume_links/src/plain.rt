@@ -26,7 +26,7 @@ const END_MARK: u32 = 0xffff_ffff;
 
 const STANDARD_INFORMATION: u32 = 0x10;
 
-// An attribute has at least 18 bytes (hexadecimal): 1,024 bytes have at most 42, and the end mark.
+// An attribute has at least 0x18 bytes: 1,024 bytes have at most 42, and the end mark.
 const MOST_ATTRIBUTES: u32 = 43;
 
 // Whether the first attribute begins at a multiple of 8 inside the used bytes.

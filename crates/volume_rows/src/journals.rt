@@ -2,25 +2,22 @@
 ghost use Rattle.std.specs.Prelude.{IfOk};
 ghost use Rattle.volume_map.specs.Maps.{IsMap};
 
-use block_view::{Block, BlockKind, Held, MemoryView};
+use block_view::MemoryView;
 use disk_model::Body;
 use file_record::FileRec;
-use host_base::Bytes;
-use record_model::{Attr, Head, OwnForm, Runs, Sizes};
+use record_model::Runs;
 use record_rules::all_links;
 use state_model::Extents;
 use std::alloc::{AllocError, Global};
 use std::test::Fail;
 use tree_model::Journal;
 use upcase_order::Upcase;
-use utf16_name::Units;
+use volume_images::{DATA, Kept, Part, put_file, record, sectors_view};
 use volume_journal::{JournalFault, volume_journal};
 use volume_map::VolumeMap;
 
-// The types of file names and of data.
+// The type of file names.
 const FILE_NAME: u32 = 0x30;
-
-const DATA: u32 = 0x80;
 
 // The flag of sparse data.
 const SPARSE: u16 = 0x8000;
@@ -48,82 +45,31 @@ static LIMITS: [u8; 32] = [
     0,
 ];
 
-// A record without attributes.
-fn bare_record(alloc: Global) -> Result<FileRec, Fail> {
-    let mut body = [
-        0x46, 0x49, 0x4c, 0x45, 0x30, 0, 3, 0, 0, 0, 0, 0, 0, 0, 0, 0, 1, 0, 1, 0, 0x38, 0, 1, 0,
-        0x40, 0, 0, 0, 0, 4, 0, 0, 0, 0, 0, 0, 0, 0, 0, 0, 0, 0, 0, 0, 24, 0, 0, 0, 0, 0, 0, 0, 0,
-        0, 0, 0, 0xff, 0xff, 0xff, 0xff,
-    ]
-    .to_vec(alloc)?;
-    body.resize(1024, 0)?;
-    if body.len() != 1024 {
-        return Err("a record has 1,024 bytes".into());
-    }
-    Ok(FileRec::read(alloc, &body)?)
-}
+// The name `$UsnJrnl` in directory 11; its last unit stands at 0x50.
+static NAME: [u8; 0x52] = [
+    11, 0, 0, 0, 0, 0, 11, 0, 0, 0, 0, 0, 0, 0, 0, 0, 0, 0, 0, 0, 0, 0, 0, 0, 0, 0, 0, 0, 0, 0, 0,
+    0, 0, 0, 0, 0, 0, 0, 0, 0, 0, 0, 0, 0, 0, 0, 0, 0, 0, 0, 0, 0, 0, 0, 0, 0, 0, 0, 0, 0, 0, 0, 0,
+    0, 8, 3, b'$', 0, b'U', 0, b's', 0, b'n', 0, b'J', 0, b'r', 0, b'n', 0, b'l', 0,
+];
 
-fn attribute(kind: u32, flags: u16, name: Units, form: OwnForm) -> Attr {
-    Attr {
-        head: Head { kind, flags, id: 0 },
-        name,
-        form,
-    }
-}
-
-fn resident(alloc: Global, value: &[u8]) -> Result<OwnForm, AllocError> {
-    Ok(OwnForm::Resident {
-        value: Bytes::copy_of(alloc, value)?,
-        indexed: 0,
-    })
-}
-
-// So many bytes in the cluster 16.
-fn mapped(alloc: Global, real: u64) -> Result<OwnForm, AllocError> {
-    let sizes = Sizes {
-        first: 0,
-        last: 0,
-        unit: 0,
-        allocated: 512,
-        real,
-        initialised: real,
-        held: None,
-    };
-    Ok(OwnForm::Mapped {
-        sizes,
-        pairs: Bytes::copy_of(alloc, b"\x11\x01\x10\0")?,
-    })
-}
-
-// The name `$UsnJrn` and this unit in directory 11.
-fn name_value(alloc: Global, last: u8) -> Result<Vec<u8>, AllocError> {
-    let mut value = vec![in alloc; 11, 0, 0, 0, 0, 0, 11, 0]?;
-    value.resize(0x40, 0)?;
-    value.extend_from_slice(b"\x08\x03$\0U\0s\0n\0J\0r\0n\0")?;
-    value.extend_from_slice(&[last, 0])?;
-    Ok(value)
-}
-
-fn file_of(alloc: Global, row: &Row) -> Result<FileRec, Fail> {
-    let mut file = bare_record(alloc)?;
-    let name = resident(alloc, &name_value(alloc, row.0)?)?;
-    file.push(attribute(FILE_NAME, 0, Units::new(alloc), name))?;
-    let limits = Units::copy_of(alloc, &[0x24, 0x4d, 0x61, 0x78])?;
-    file.push(attribute(DATA, 0, limits, resident(alloc, &LIMITS)?))?;
-    let entries = Units::copy_of(alloc, &[0x24, 0x4a])?;
-    file.push(attribute(DATA, row.1, entries, mapped(alloc, row.3)?))?;
-    Ok(file)
+fn file_of(alloc: Global, row: &Row) -> Result<FileRec, AllocError> {
+    let mut name = NAME;
+    name[0x50] = row.0;
+    let entries = Kept::Pairs(0, (512, row.3, row.3), b"\x11\x01\x10\0");
+    let parts = [
+        Part(FILE_NAME, 0, &[], Kept::Value(&name)),
+        Part(DATA, 0, &[0x24, 0x4d, 0x61, 0x78], Kept::Value(&LIMITS)),
+        Part(DATA, row.1, &[0x24, 0x4a], entries),
+    ];
+    record(alloc, (24, 1, 1), &parts)
 }
 
 // 25 records, of which the last one is the file.
-fn map_of(alloc: Global, row: &Row) -> Result<VolumeMap, Fail>
+fn map_of(alloc: Global, row: &Row) -> Result<VolumeMap, AllocError>
     ensures { IfOk result IsMap }
 {
     let mut files = Vec::new(alloc);
-    for _ in 0..24u8 {
-        files.push(None)?;
-    }
-    files.push(Some(file_of(alloc, row)?))?;
+    put_file(&mut files, 24, file_of(alloc, row)?)?;
     let table = Extents {
         runs: Runs::new(alloc),
         allocated: 0,
@@ -141,19 +87,9 @@ fn map_of(alloc: Global, row: &Row) -> Result<VolumeMap, Fail>
 
 // The sector 16 with the records.
 fn view_of(alloc: Global, row: &Row) -> Result<MemoryView, AllocError> {
-    let mut bytes = vec![in alloc; 0u8; 512]?;
-    bytes[..128].copy_from_slice(&ENTRIES);
-    bytes[0x58] = row.2;
-    let mut held = Vec::new(alloc);
-    held.push(Held {
-        block: Block {
-            first: 16,
-            kind: BlockKind::Plain,
-        },
-        bytes: Bytes::from(bytes),
-        torn: false,
-    })?;
-    Ok(MemoryView::new(held, Vec::new(alloc)))
+    let mut entries = ENTRIES;
+    entries[0x58] = row.2;
+    sectors_view(alloc, &[(16, 0, &entries)], 0)
 }
 
 fn answer(alloc: Global, row: &Row) -> Result<Result<Option<Journal>, JournalFault>, Fail> {
@@ -171,19 +107,33 @@ fn a_journal_has_its_limits(rt: HostRuntime) -> Result<(), Fail> {
     assert_eq!(rt; (journal.max, journal.delta), (4096, 256));
     assert_eq!(rt; (journal.first, journal.next, journal.reach), (0, 128, 512));
     assert!(rt; journal.entries.as_slice().is_empty());
-    let same = answer(rt.alloc(), &Row(b'L', SPARSE, 64, 128))??;
-    assert!(rt; same.is_some(), "a name is the same in upper case");
     Ok(())
 }
 
+// Whether there is a journal, or its fault.
+fn is_found(alloc: Global, row: &Row) -> Result<Result<bool, JournalFault>, Fail> {
+    match answer(alloc, row)? {
+        Ok(journal) => Ok(Ok(journal.is_some())),
+        Err(fault) => Ok(Err(fault)),
+    }
+}
+
 #[test]
-fn a_journal_is_at_fault(rt: HostRuntime) -> Result<(), Fail> {
-    let record = answer(rt.alloc(), &Row(b'l', SPARSE, 65, 128))?;
-    assert_eq!(rt; record.err(), Some(JournalFault::Broken { at: 64 }));
-    let shape = answer(rt.alloc(), &Row(b'l', 0, 64, 128))?;
-    assert_eq!(rt; shape.err(), Some(JournalFault::Broken { at: 0 }));
-    let none = answer(rt.alloc(), &Row(b'm', SPARSE, 64, 128))??;
-    assert!(rt; none.is_none(), "no file has the name");
+fn a_journal_is_found_or_at_fault(rt: HostRuntime) -> Result<(), Fail> {
+    let rows = [
+        // a name is the same in upper case, and no file has the other one
+        (Row(b'L', SPARSE, 64, 128), Ok(true)),
+        (Row(b'm', SPARSE, 64, 128), Ok(false)),
+        // a record's place, and the flag of the data
+        (
+            Row(b'l', SPARSE, 65, 128),
+            Err(JournalFault::Broken { at: 64 }),
+        ),
+        (Row(b'l', 0, 64, 128), Err(JournalFault::Broken { at: 0 })),
+    ];
+    for (number, (row, want)) in rows.iter().enumerate() {
+        assert_eq!(rt; is_found(rt.alloc(), row)?, *want, "row {number}");
+    }
     Ok(())
 }
 

@@ -5,11 +5,12 @@ ghost use Rattle.volume_state.specs.Journals.{journal_first};
 
 use block_view::{Block, View, ViewFault};
 use disk_model::Body;
-use record_model::{Run, Runs};
+use record_model::Runs;
 use state_model::Extents;
 use std::alloc::{AllocError, Global};
 use std::test::Fail;
 use usn_journal::{PullFault, read_from};
+use volume_images::run;
 
 // File 26/1 in 25/1 with the name `f` was created and closed; its record stands at 0.
 static RECORD: [u8; 0x40] = [
@@ -48,6 +49,40 @@ impl View for Sectors {
     ghost sized = { λ _. tt };
 }
 
+// A pull: whether the journal's one run has clusters, from sector 16 on; its sectors and real size;
+// from which byte and for how many records at most; how many records come and where the last one
+// ends, or the refusal; and how many sectors are read.
+struct Row(
+    bool,
+    (u32, u64),
+    (u64, u32),
+    Result<(usize, u64), PullFault>,
+    Option<u64>,
+);
+
+static PULLS: [Row; 6] = [
+    Row(true, (8, 64), (0, 9), Ok((1, 64)), None),
+    Row(true, (8, 64), (1, 9), Ok((0, 64)), None),
+    // places outside the journal
+    Row(
+        true,
+        (8, 64),
+        (65, 9),
+        Err(PullFault::Ahead { next: 64 }),
+        None,
+    ),
+    Row(
+        false,
+        (8, 4096),
+        (0, 9),
+        Err(PullFault::Trimmed { first: 4096 }),
+        None,
+    ),
+    // pages that are not needed are not read
+    Row(true, (24, 12288), (0, 1), Ok((1, 64)), Some(8)),
+    Row(true, (24, 12288), (8192, 1), Ok((0, 12288)), Some(8)),
+];
+
 // A journal of so many sectors in one run.
 #[tactic(auto, using(usn_journal::proofs::Left::one_small), unfolding(volume_state::specs::Journals::journal_first))]
 fn journal_in(
@@ -61,11 +96,7 @@ fn journal_in(
     ensures left { IfOk result (λ e. journal_first 1 e ≤ e.real) }
 {
     let mut runs = Runs::new(alloc);
-    runs.push(Run {
-        vcn: 0,
-        lcn,
-        len: u64::from(sectors),
-    })?;
+    runs.push(run(0, lcn, u64::from(sectors)))?;
     Ok(Extents {
         runs,
         allocated: 512 * u64::from(sectors),
@@ -74,46 +105,22 @@ fn journal_in(
     })
 }
 
-#[test]
-fn a_record_is_read_from_its_place(rt: HostRuntime) -> Result<(), Fail> {
-    let alloc = rt.alloc();
+fn is_as_wanted(alloc: Global, row: &Row) -> Result<bool, AllocError> {
     let mut view = Sectors { read: 0 };
     let mut body = Body::empty(alloc)?;
-    let journal = journal_in(alloc, Some(16), 8, 64)?;
-    let pulled = read_from(alloc, &mut view, 1, &journal, 0, 9, &mut body)?;
-    assert_eq!(rt; pulled.entries.as_slice().len(), 1);
-    assert_eq!(rt; pulled.end, 64);
-    let none = read_from(alloc, &mut view, 1, &journal, 1, 9, &mut body)?;
-    assert_eq!(rt; none.entries.as_slice().len(), 0);
-    assert_eq!(rt; none.end, 64);
-    Ok(())
+    let lcn = if row.0 { Some(16) } else { None };
+    let journal = journal_in(alloc, lcn, row.1.0, row.1.1)?;
+    let found = match read_from(alloc, &mut view, 1, &journal, row.2.0, row.2.1, &mut body) {
+        Ok(pulled) => Ok((pulled.entries.as_slice().len(), pulled.end)),
+        Err(fault) => Err(fault),
+    };
+    Ok(found == row.3 && row.4.unwrap_or(view.read) == view.read)
 }
 
 #[test]
-fn places_outside_the_journal_are_refused(rt: HostRuntime) -> Result<(), Fail> {
-    let alloc = rt.alloc();
-    let mut view = Sectors { read: 0 };
-    let mut body = Body::empty(alloc)?;
-    let journal = journal_in(alloc, Some(16), 8, 64)?;
-    let ahead = read_from(alloc, &mut view, 1, &journal, 65, 9, &mut body).err();
-    assert_eq!(rt; ahead, Some(PullFault::Ahead { next: 64 }));
-    let sparse = journal_in(alloc, None, 8, 4096)?;
-    let trimmed = read_from(alloc, &mut view, 1, &sparse, 0, 9, &mut body).err();
-    assert_eq!(rt; trimmed, Some(PullFault::Trimmed { first: 4096 }));
-    Ok(())
-}
-
-#[test]
-fn pages_that_are_not_needed_are_not_read(rt: HostRuntime) -> Result<(), Fail> {
-    let alloc = rt.alloc();
-    let mut view = Sectors { read: 0 };
-    let mut body = Body::empty(alloc)?;
-    let journal = journal_in(alloc, Some(16), 24, 12288)?;
-    let one = read_from(alloc, &mut view, 1, &journal, 0, 1, &mut body)?;
-    assert_eq!(rt; one.end, 64);
-    assert_eq!(rt; view.read, 8);
-    let none = read_from(alloc, &mut view, 1, &journal, 8192, 1, &mut body)?;
-    assert_eq!(rt; none.end, 12288);
-    assert_eq!(rt; view.read, 16);
+fn records_are_pulled(rt: HostRuntime) -> Result<(), Fail> {
+    for (number, row) in PULLS.iter().enumerate() {
+        assert!(rt; is_as_wanted(rt.alloc(), row)?, "row {number}");
+    }
     Ok(())
 }

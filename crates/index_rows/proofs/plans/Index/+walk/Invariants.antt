@@ -1,4 +1,0 @@
-use Rattle.index_rows.proofs.plans.Index.+walk.Given as goal
-
-abbrev pub decreases-walk : goal.decreases-walk
-decreases-walk l = l.levels

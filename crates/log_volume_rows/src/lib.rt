@@ -1,0 +1,14 @@
+//! Rows of inputs and answers of a new volume with pages of its log: what recovery by it makes of
+//! the disk, what a scan then shows, and what refuses it. The crate has tests and no more.
+#![tactic(auto)]
+
+#[cfg(test)]
+mod fronts;
+#[cfg(test)]
+mod recovering;
+#[cfg(test)]
+mod scans;
+#[cfg(test)]
+mod steps;
+#[cfg(test)]
+mod volume;
