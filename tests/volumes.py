@@ -13,6 +13,13 @@ def run(*words, cwd=None):
     return subprocess.run([str(word) for word in words], cwd=cwd, capture_output=True)
 
 
+def put(image, place, data):
+    """Writes bytes into an image."""
+    with open(image, "r+b") as file:
+        file.seek(place)
+        file.write(data)
+
+
 def built():
     """The program as the gate left it in this checkout; None where it isn't there."""
     program = TOP / "crates" / "ntfshost" / "out" / "ntfshost"

@@ -42,11 +42,11 @@ def file_name(name, flags):
     return head + units
 
 
-def record(number, sequence, flags, attributes):
+def record(number, sequence, flags, attributes, base=0):
     body = b"".join(attributes) + struct.pack("<II", END, 0)
     used = 0x38 + len(body)
     head = b"FILE" + struct.pack(
-        "<HHQHHHHIIQHHI", 0x30, 3, 0, sequence, 1, 0x38, flags, used, 1024, 0, len(attributes), 0, number
+        "<HHQHHHHIIQHHI", 0x30, 3, 0, sequence, 1, 0x38, flags, used, 1024, base, len(attributes), 0, number
     )
     raw = bytearray((head + bytes(0x38 - len(head)) + body).ljust(1024, b"\0"))
     struct.pack_into("<H", raw, 0x30, CHECK)

@@ -1,0 +1,150 @@
+# Images that the rows of commands run on: the tiny image, one with an index, a small volume that breaks no rule, and their parts.
+"""The layouts are those of the Linux-NTFS documentation, "FILE Record", "Attribute Header" and the pages of the attributes, and of
+Microsoft's reference, "USN_RECORD_V2". Clusters have one sector; the file table stands at cluster 8. A file is given by its number and
+its sequence, and where only one number is given the sequence is the same."""
+import struct
+import sys
+from pathlib import Path
+
+sys.path.insert(0, str(Path(__file__).resolve().parent.parent / "tools"))
+from tiny_image import mapped, padded, record, resident, tiny
+
+SECTOR, RECORD, TABLE = 512, 1024, 4096
+PLAIN, WIN32, DOS, BOTH = 0, 1, 2, 3
+IN_USE, DIRECTORY = 1, 3
+
+
+def changed(image, *changes):
+    """The image with other bytes, each (place, bytes)."""
+    made = bytearray(image)
+    for at, data in changes:
+        made[at : at + len(data)] = data
+    return bytes(made)
+
+
+def with_records(image, *records):
+    """The image with these records, each of its number, its sequence, its flags and its attributes."""
+    return changed(image, *((TABLE + RECORD * number, record(number, *rest)) for number, *rest in records))
+
+
+# ---- attributes
+
+
+def name_value(parent, space, name, is_directory=False):
+    units = name.encode("utf-16-le")
+    return struct.pack("<QQQQQQQIIBB", parent | parent << 48, 0, 0, 0, 0, 0, 0, is_directory << 28, 0, len(name), space) + units
+
+
+def named(number, *value):
+    """A file name: its id, and its directory, its namespace and the name."""
+    return resident(0x30, number, name_value(*value), 1)
+
+
+def plain(kind, number, value):
+    """A resident attribute that isn't indexed."""
+    return resident(kind, number, value, 0)
+
+
+def information():
+    """Standard information with the times 1, 2, 3 and 4: made, modified, changed and read."""
+    return plain(0x10, 0, struct.pack("<QQQQ", 1, 2, 3, 4) + bytes(0x28))
+
+
+def named_data(number, name, value):
+    """A resident stream of data with a name."""
+    units = name.encode("utf-16-le")
+    place = 0x18 + len(padded(units))
+    length = place + len(padded(value))
+    head = struct.pack("<IIBBHHHIHH", 0x80, length, 0, len(name), 0x18, 0, number, len(value), place, 0)
+    return head + padded(units) + padded(value)
+
+
+def in_clusters(number, kind, name, first, clusters, real, pairs, is_sparse=False):
+    """A stream in clusters: its first VCN, how many there are, its size, which is initialised, and its mapping pairs."""
+    units, size = name.encode("utf-16-le"), SECTOR * clusters
+    total = struct.pack("<Q", size) if is_sparse else b""
+    place = 0x40 + len(total) + len(padded(units))
+    flags, names = 0x8000 if is_sparse else 0, 0x40 + len(total)
+    head = struct.pack("<IIBBHHHQQHHI", kind, place + 8, 1, len(name), names, flags, number, first, first + clusters - 1, place, 0, 0)
+    return head + struct.pack("<QQQ", size, real, real) + total + padded(units) + pairs.ljust(8, b"\0")
+
+
+def list_entry(kind, number, record, sequence):
+    """An entry of an attribute list for an attribute without a name, by its type, its id and its record."""
+    return struct.pack("<IHBBQQHxxxxxx", kind, 32, 0, 0x1A, 0, record | sequence << 48, number)
+
+
+def entry(number, sequence, *value):
+    """An entry of an index: a file and its name; or the last one, which has no name."""
+    key = name_value(*value) if value else b""
+    length = 0x10 + len(padded(key))
+    return struct.pack("<QHHHxx", number | sequence << 48, length, len(key), 0 if value else 2) + padded(key)
+
+
+LAST = entry(0, 0)
+
+
+def index_root(number, *entries):
+    """The index root of a directory with these entries."""
+    body = b"".join(entries)
+    value = struct.pack("<IIII", 0x30, 1, 4096, 8) + struct.pack("<IIII", 0x10, 0x10 + len(body), 0x10 + len(body), 0) + body
+    head = struct.pack("<IIBBHHHIHH", 0x90, 0x20 + len(value), 0, 4, 0x18, 0, number, len(value), 0x20, 0)
+    return head + "$I30".encode("utf-16-le") + value
+
+
+def directory(number, name, *entries):
+    """The record of a directory with this name and an index of these entries, the last one left out."""
+    return number, number, DIRECTORY, [named(0, *name), index_root(1, *entries, LAST)]
+
+
+# ---- whole images
+
+TINY = tiny()
+_FILES = [entry(2, 2, 5, BOTH, "$LogFile"), entry(0, 1, 5, BOTH, "$MFT"), entry(5, 5, 5, BOTH, ".", True)]
+# The tiny image whose root has an index of the three names.
+INDEXED = with_records(TINY, (5, 5, DIRECTORY, [named(0, 5, BOTH, ".", True), index_root(1, *_FILES, LAST)]))
+
+# A record of the change journal for the file of record 26, made and closed, whose name is `f`: 64 bytes, the first of the journal.
+JOURNAL_RECORD = struct.pack("<IHHQQQQIIIIHHHxx", 64, 2, 0, 26 | 1 << 48, 25 | 1 << 48, 0, 1002, 0x80000100, 0, 0, 0x20, 2, 60, 0x66)
+# The bits of the clusters in use: 0 to 87, 96 and 97.
+CLUSTERS = bytes([255] * 11 + [0, 3, 0, 0, 0])
+
+EXTEND_LINK = entry(11, 11, 5, BOTH, "$Extend")
+ROOT_LINK = entry(5, 5, 5, BOTH, ".")
+FOLDER_LINK = entry(24, 24, 5, BOTH, "d")
+FILE_LINK = entry(25, 1, 5, BOTH, "f")
+JOURNAL_LINK = entry(27, 1, 11, BOTH, "$UsnJrnl")
+LONG_LINK, SHORT_LINK = entry(26, 1, 24, WIN32, "Long"), entry(26, 1, 24, DOS, "LONG~1")
+
+
+def journal_file(size, *more):
+    """Record 27, whose $J has so many bytes in cluster 97; further attributes stand behind it."""
+    stream = in_clusters(2, 0x80, "$J", 0, 1, size, bytes([0x11, 1, 97, 0]), True)
+    return 27, 1, IN_USE, [information(), named(1, 11, BOTH, "$UsnJrnl"), stream, *more]
+
+
+JOURNAL_LIMITS = named_data(3, "$Max", bytes(32))
+
+
+def whole_volume():
+    """A volume of 128 clusters that breaks no rule, with a sector after it. In use are the records of the volume itself 0, 2, 3 and 6, which
+    have no names; the root; record 11, a directory with the change journal, record 27; a directory 24 with file 26, which has a long and a
+    short name; and file 25 in the root."""
+    made = TINY.ljust(129 * SECTOR, b"\0")
+    made = changed(made, (0x28, b"\x80"), (TABLE, bytes(32 * RECORD)), (72 * SECTOR, b"\xff" * 8192), (97 * SECTOR, JOURNAL_RECORD))
+    return with_records(
+        made,
+        (0, 1, IN_USE, [mapped(0, 64, bytes([0x11, 64, 8, 0])), plain(0xB0, 1, bytes([0x6D, 0x08, 0, 0x0F]))]),
+        (2, 2, IN_USE, [mapped(0, 16, bytes([0x11, 16, 72, 0]))]),
+        (3, 3, IN_USE, [plain(0x70, 0, bytes([0] * 8 + [3, 1, 0, 0]))]),
+        (6, 6, IN_USE, [plain(0x80, 0, CLUSTERS)]),
+        directory(5, (5, BOTH, "."), EXTEND_LINK, ROOT_LINK, FOLDER_LINK, FILE_LINK),
+        directory(11, (5, BOTH, "$Extend"), JOURNAL_LINK),
+        directory(24, (5, BOTH, "d"), LONG_LINK, SHORT_LINK),
+        (25, 1, IN_USE, [information(), named(1, 5, BOTH, "f"), mapped(2, 1, bytes([0x11, 1, 96, 0]))]),
+        (26, 1, IN_USE, [information(), named(1, 24, WIN32, "Long"), named(2, 24, DOS, "LONG~1"), plain(0x80, 3, b"hello")]),
+        journal_file(64, JOURNAL_LIMITS),
+    )
+
+
+WHOLE = whole_volume()
