@@ -1,5 +1,7 @@
 pub mod Bitwise
 pub mod Members
+pub mod Merging
 pub mod Places
-pub mod Runs
+pub mod Searches
+pub mod Trees
 pub mod Views

@@ -36,12 +36,27 @@ pub record PutsRun (old new : List Bool) (first len : ℕ) (value : Bool) : Type
   pub inside : (i : ℕ) → first ≤ i → i < first + len → bit new i ≡ value
   pub others : (i : ℕ) → (i < first) ⊎ (first + len ≤ i) → bit new i ≡ bit old i
 
--- the next run of clear bits from this place on, and its end; where no bit is clear, both are the end of the bits
-pub record IsNextRun (bits : List Bool) (at first end : ℕ) : Type 0 where
-  pub behind : at ≤ first
-  pub order : first ≤ end
-  pub inside : end ≤ length bits
-  pub set_before : (i : ℕ) → at ≤ i → i < first → bit bits i ≡ true
-  pub clear : (i : ℕ) → first ≤ i → i < end → bit bits i ≡ false
-  pub stops : end < length bits → bit bits end ≡ true
-  pub some : at < length bits → at < end
+-- the lowest run of so many clear bits from this place on, below end
+pub record IsFirstRunIn (bits : List Bool) (len from end first : ℕ) : Type 0 where
+  pub behind : from ≤ first
+  pub inside : first + len ≤ end
+  pub run : IsClearRun bits first len
+  pub lowest : (i : ℕ) → from ≤ i → i + len ≤ end → IsClearRun bits i len → first ≤ i
+
+-- from this place on, below end, no clear run is longer, and of those as long it is the lowest
+pub record IsLongestRunIn (bits : List Bool) (from end first len : ℕ) : Type 0 where
+  pub behind : from ≤ first
+  pub inside : first + len ≤ end
+  pub run : IsClearRun bits first len
+  pub some : 0 < len
+  pub longest : (i n : ℕ) → from ≤ i → i + n ≤ end → IsClearRun bits i n → n ≤ len
+  pub lowest : (i : ℕ) → from ≤ i → i + len ≤ end → IsClearRun bits i len → first ≤ i
+
+-- a clear run of the range: the first of so many bits if it is as long, and else the longest, the lowest of equal ones
+pub record IsFound (bits : List Bool) (from end len first m : ℕ) : Type 0 where
+  pub behind : from ≤ first
+  pub inside : first + m ≤ end
+  pub run : IsClearRun bits first m
+  pub soonest : len ≤ m → (i : ℕ) → from ≤ i → IsClearRun bits i len → first ≤ i
+  pub longest : m < len → (i n : ℕ) → from ≤ i → i + n ≤ end → IsClearRun bits i n → n ≤ m
+  pub lowest : m < len → (i : ℕ) → 0 < m → from ≤ i → i + m ≤ end → IsClearRun bits i m → first ≤ i

@@ -1,3 +1,5 @@
 pub mod Bits
 pub mod Sets
+pub mod Summaries
+pub mod Trees
 pub mod Words

@@ -8,6 +8,8 @@
 
 mod laws;
 mod set;
+mod summary;
+mod tree;
 mod words;
 
 pub use laws::{clearing_takes_away, members_are_set_bits, same_members_same_bits, setting_unites};

@@ -1,8 +1,10 @@
 ghost use Rattle.std.specs.Prelude.{◌≡◌, ℕ, ◌+◌, ◌<◌, ◌≤◌, ◌≢◌, not, true, false, if◌then◌else◌, List, length, count_by, IfOk, MatchOption};
-ghost use Rattle.bit_set.specs.Bits.{bit, IsClearRun, IsFirstRun, IsLongestRun, IsLowestClear, IsNextRun, PutsRun};
+ghost use Rattle.bit_set.specs.Bits.{bit, IsClearRun, IsFirstRun, IsFirstRunIn, IsLongestRun, IsLongestRunIn, IsLowestClear, IsFound, PutsRun};
 ghost use Rattle.bit_set.specs.Words.{bits_of_bytes};
 
-use crate::words::{WORD_BITS, clear_between, fill, is_set, run_end, words_of};
+use crate::summary::{Run, Summary, Wanted};
+use crate::tree::{BLOCK_BITS, levels_over, mend_run, search, tree_over};
+use crate::words::{WORD_BITS, clear_between, fill, is_set, words_of};
 use host_base::Memory;
 use std::alloc::Global;
 use std::marker::Model;
@@ -13,17 +15,20 @@ pub struct BitSet {
     words: Vec<u64>,
     bits: u64,
     clear: u64,
+    levels: u32,
+    tree: Vec<Summary>,
 }
 
 impl Model for BitSet {
     ghost use Rattle.std.specs.Prelude.{Bool, List};
-    ghost use Rattle.bit_set.specs.Words.{bits_of, IsCounted};
+    ghost use Rattle.bit_set.specs.Words.{bits_of};
+    ghost use Rattle.bit_set.specs.Trees.{IsKept};
 
     ghost Value = { List Bool };
 
     ghost view = { λ s. bits_of s.words.items s.bits };
 
-    ghost invariant = { λ s. IsCounted s.words.items s.bits s.clear };
+    ghost invariant = { λ s. IsKept s.words.items s.bits s.clear s.levels s.tree.items };
 }
 
 // How many bits of so many are clear where all have this value.
@@ -41,7 +46,16 @@ impl BitSet {
     {
         let words = words_of(alloc, bytes, bits.div_ceil(WORD_BITS) as usize)?;
         let clear = clear_between(&words, 0, bits);
-        Ok(BitSet { words, bits, clear })
+        let blocks = bits / BLOCK_BITS;
+        let levels = levels_over(blocks);
+        let tree = tree_over(alloc, &words, blocks, levels)?;
+        Ok(BitSet {
+            words,
+            bits,
+            clear,
+            levels,
+            tree,
+        })
     }
 
     /// How many bits there are.
@@ -65,7 +79,7 @@ impl BitSet {
         self.clear
     }
 
-    /// Sets `len` bits from `first` on, in time linear in the run's words.
+    /// Sets `len` bits from `first` on, in O(words of the run + log bits).
     pub fn set_run(&mut self, first: u64, len: u64)
         requires { first + len ≤ length self.old }
         ensures { PutsRun self.old self.new first len true }
@@ -73,7 +87,7 @@ impl BitSet {
         self.put_run(first, len, true);
     }
 
-    /// Clears `len` bits from `first` on, in time linear in the run's words.
+    /// Clears `len` bits from `first` on, in O(words of the run + log bits).
     pub fn clear_run(&mut self, first: u64, len: u64)
         requires { first + len ≤ length self.old }
         ensures { PutsRun self.old self.new first len false }
@@ -88,88 +102,87 @@ impl BitSet {
     {
         let was_clear = clear_between(&self.words, first, first + len);
         fill(&mut self.words, first, first + len, value);
+        mend_run(&self.words, &mut self.tree, self.levels, first, first + len);
         self.clear = self.clear - was_clear + clear_of(len, value);
     }
 
-    // The end of the run of bits with this value that begins at `at`.
-    fn end_of(&self, at: u64, value: bool) -> u64
-        requires { at ≤ length self.now }
-        ensures order { at ≤ result }
-        ensures within { result ≤ length self.now }
-        ensures same { (i : ℕ) → at ≤ i → i < result → bit self.now i ≡ value }
-        ensures other { result < length self.now → bit self.now result ≢ value }
+    // A clear run of the range: the first of so many bits, or else the longest.
+    fn search(&self, from: u64, want: Wanted) -> Run
+        requires order { from ≤ want.end }
+        requires within { want.end ≤ length self.now }
+        ensures { IsFound self.now from want.end want.len result.first result.len }
     {
-        run_end(&self.words, at, self.bits, value)
+        search(&self.words, &self.tree, self.levels, from, want)
     }
 
-    // Where the next run of clear bits begins and ends, from `at` on.
-    fn next_run(&self, at: u64) -> (u64, u64)
-        requires { at ≤ length self.now }
-        ensures { IsNextRun self.now at result.0 result.1 }
+    /// The first bit of the lowest run of `len` clear bits that begins at `from` or behind it and
+    /// ends at `end` or before it, or None where there is no such run. It takes O(log bits).
+    pub fn first_run_in(&self, len: u64, from: u64, end: u64) -> Option<u64>
+        ensures { MatchOption result
+            ((first : ℕ) → from ≤ first → first + len ≤ end → IsClearRun self.now first len → ⊥)
+            (λ first. IsFirstRunIn self.now len from end first) }
     {
-        let first = self.end_of(at, true);
-        (first, self.end_of(first, false))
+        let last = end.min(self.bits());
+        if last < from {
+            return None;
+        }
+        let run = self.search(from, Wanted { len, end: last });
+        if run.len < len {
+            return None;
+        }
+        Some(run.first)
     }
 
-    /// The first bit of the lowest run of `len` clear bits, or None where there is no such run.
-    /// It takes time linear in the words and in the runs that it passes.
+    /// The first bit and the length of the longest run of clear bits from `from` on, below `end`,
+    /// the lowest of equal ones, or None where no bit there is clear. It takes O(log bits).
+    pub fn longest_in(&self, from: u64, end: u64) -> Option<(u64, u64)>
+        ensures { MatchOption result
+            ((i : ℕ) → from ≤ i → i < end → i < length self.now → bit self.now i ≡ true)
+            (λ run. IsLongestRunIn self.now from end run.0 run.1) }
+    {
+        let last = end.min(self.bits());
+        if last <= from {
+            return None;
+        }
+        let run = self.search(
+            from,
+            Wanted {
+                len: last - from,
+                end: last,
+            },
+        );
+        if run.len == 0 {
+            return None;
+        }
+        Some((run.first, run.len))
+    }
+
+    /// The first bit of the lowest run of `len` clear bits, or None where there is no such run. It
+    /// takes O(log bits).
     pub fn first_run(&self, len: u64) -> Option<u64>
         ensures { MatchOption result
             ((first : ℕ) → IsClearRun self.now first len → ⊥)
             (λ first. IsFirstRun self.now len first) }
     {
-        if len == 0 {
-            return Some(0);
-        }
-        let bits = self.bits();
-        let mut at = 0;
-        while at < bits {
-            let (first, end) = self.next_run(at);
-            if end - first >= len {
-                return Some(first);
-            }
-            at = end;
-        }
-        None
+        self.first_run_in(len, 0, self.bits())
     }
 
     /// The first bit and the length of the longest run of clear bits, the lowest of equal ones, or
-    /// None where no bit is clear. It takes time linear in the words and the runs.
+    /// None where no bit is clear. It takes O(log bits).
     pub fn longest(&self) -> Option<(u64, u64)>
         ensures { MatchOption result
             ((i : ℕ) → i < length self.now → bit self.now i ≡ true)
             (λ run. IsLongestRun self.now run.0 run.1) }
     {
-        let bits = self.bits();
-        let mut best_first = 0;
-        let mut best_len = 0;
-        let mut at = 0;
-        while at < bits {
-            let (first, end) = self.next_run(at);
-            if end - first > best_len {
-                best_first = first;
-                best_len = end - first;
-            }
-            at = end;
-        }
-        if best_len == 0 {
-            return None;
-        }
-        Some((best_first, best_len))
+        self.longest_in(0, self.bits())
     }
 
-    /// The lowest clear bit from `from` on, or None where there is none. It takes time linear in
-    /// the words that it passes.
+    /// The lowest clear bit from `from` on, or None where there is none. It takes O(log bits).
     pub fn lowest(&self, from: u64) -> Option<u64>
         ensures { MatchOption result
             ((i : ℕ) → from ≤ i → i < length self.now → bit self.now i ≡ true)
             (λ at. IsLowestClear self.now from at) }
     {
-        let bits = self.bits();
-        if from >= bits {
-            return None;
-        }
-        let at = self.end_of(from, true);
-        if at < bits { Some(at) } else { None }
+        self.first_run_in(1, from, self.bits())
     }
 }
