@@ -1,2 +1,1 @@
-pub mod NameOrders
 pub mod Refusing

@@ -2,7 +2,7 @@
 use Rattle.std.proofs.Common.{◌≡◌, ap, refl}
 use Rattle.std.specs.Prelude.{◌≢◌, Some, Result}
 use Rattle.host_base.specs.Answers.{Explains}
-use Rattle.tree_model.specs.declared.node.Node.{Node}
+use Rattle.file_tree.specs.declared.node.Node.{Node}
 use Rattle.tree_model.specs.declared.reply.Reply.{Reply}
 use Rattle.tree_model.specs.declared.reply.Reply.TheVariants.{Stat, Names, BadName, NotFound, NotDirectory, Fault, Memory}
 use Rattle.tree_model.specs.Steps.{refused_by, reply_cause}

@@ -1,4 +1,2 @@
-pub mod Names
-pub mod Trees
 pub mod Walks
 pub mod Steps

@@ -1,14 +1,14 @@
 -- One step of the file tree: what an operation answers, and what it leaves.
 use Rattle.std.specs.Prelude.{◌≡◌, ℕ, Bool, true, false, List, [], ◌∷◌, Option, Some, None, Result, Ok, Err, IsOkAnd, MatchBool}
 use Rattle.host_base.specs.Answers.{Cause, refused, no_memory, never}
-use Rattle.tree_model.specs.declared.node.Node.{Node}
-use Rattle.tree_model.specs.declared.link.Link.{Link}
-use Rattle.tree_model.specs.declared.tree.Tree.{Tree}
+use Rattle.file_tree.specs.declared.node.Node.{Node}
+use Rattle.file_tree.specs.declared.link.Link.{Link}
+use Rattle.file_tree.specs.declared.tree.Tree.{Tree}
 use Rattle.tree_model.specs.declared.script.Op.{Op}
 use Rattle.tree_model.specs.declared.script.Op.TheVariants as op
 use Rattle.tree_model.specs.declared.reply.Reply.{Reply}
 use Rattle.tree_model.specs.declared.reply.Reply.TheVariants.{Stat, Names, BadName, NotFound, NotDirectory, Fault, Memory}
-use Rattle.tree_model.specs.Trees.{long_names_of, IsListing}
+use Rattle.file_tree.specs.Trees.{long_names_of, IsListing}
 use Rattle.tree_model.specs.Walks.{reached, reached_directory, bad_name}
 
 -- ---- refused
@@ -61,13 +61,13 @@ Replies upper nodes links op reply = RepliesBy (refusal upper nodes links op) (D
 -- ---- the step
 
 -- what an operation that is done at this time leaves of the tree
-abbrev pub Leaves : Op → ℕ → Tree → Tree → Type 0
-Leaves (op.Stat path) stamp t t' = t' ≡ t
-Leaves (op.List path) stamp t t' = t' ≡ t
+abbrev pub LeavesTree : Op → ℕ → Tree → Tree → Type 0
+LeavesTree (op.Stat path) stamp t t' = t' ≡ t
+LeavesTree (op.List path) stamp t t' = t' ≡ t
 
 abbrev pub LeavesBy : Option Reply → Op → ℕ → Tree → Tree → Type 0
 LeavesBy (Some row) op stamp t t' = t' ≡ t
-LeavesBy None op stamp t t' = Leaves op stamp t t'
+LeavesBy None op stamp t t' = LeavesTree op stamp t t'
 
 -- the operation was given up, by a failed device or for want of memory
 abbrev pub is_given_up : Reply → Bool

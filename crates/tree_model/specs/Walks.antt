@@ -1,26 +1,16 @@
 -- The walk of a path from the root.
-use Rattle.std.specs.Prelude.{ℕ, ◌+◌, Bool, is_some, if◌then◌else◌, List, [], ◌∷◌, length, Option, Some, None, Result, Ok, Err}
-use Rattle.std.specs.List.{list_any}
-use Rattle.std.specs.Option.{option_map}
+use Rattle.std.specs.Prelude.{ℕ, ◌+◌, if◌then◌else◌, List, [], ◌∷◌, length, Option, Some, None, Result, Ok, Err}
 use Rattle.host_base.specs.Answers.{◌>>=◌, needs}
-use Rattle.utf16_name.specs.Names.{name_fault}
-use Rattle.tree_model.specs.declared.node.Node.{Node}
-use Rattle.tree_model.specs.declared.link.Link.{Link}
+use Rattle.file_tree.specs.declared.node.Node.{Node}
+use Rattle.file_tree.specs.declared.link.Link.{Link}
 use Rattle.tree_model.specs.declared.reply.Reply.{Reply}
 use Rattle.tree_model.specs.declared.reply.Reply.TheVariants.{BadName, NotFound, NotDirectory}
-use Rattle.tree_model.specs.Trees.{node_at, is_directory, is_directory_kind, look_up}
-
--- the root's number
-abbrev pub root : ℕ
-root = 5
+use Rattle.file_tree.specs.Trees.{node_at, is_directory, is_directory_kind}
+use Rattle.file_tree.specs.Walks.{root, child_in, has_bad_part}
 
 abbrev pub some_or : {A F : Type 0} → Option A → F → Result A F
 some_or None refusal = Err refusal
 some_or (Some x) refusal = Ok x
-
--- the number of the file that a part names in a directory
-unfoldable pub child_in : List ℕ → List Link → ℕ → List ℕ → Option ℕ
-child_in upper links directory part = option_map (λ (l : Link). l.child.number) (look_up upper links directory part)
 
 -- The number that a part leads to from the node that the part `at` before it named: that node must be a directory, and
 -- the part must be found.
@@ -39,13 +29,6 @@ reached upper nodes links path = walk upper nodes links 0 root path
 -- the directory that a path names
 unfoldable pub reached_directory : List ℕ → List Node → List Link → List (List ℕ) → Result Node Reply
 reached_directory upper nodes links path = reached upper nodes links path >>= λ node. needs (is_directory_kind node.kind) (NotDirectory (length path)) >>= λ _. Ok node
-
--- a part that no name is
-abbrev pub is_bad_part : List ℕ → Bool
-is_bad_part part = is_some (name_fault part)
-
-unfoldable pub has_bad_part : List (List ℕ) → Bool
-has_bad_part path = list_any is_bad_part path
 
 -- a path with such a part
 abbrev pub bad_name : List (List ℕ) → Option Reply

@@ -1,12 +1,12 @@
 ghost use Rattle.std.specs.Prelude.{◌≡◌, ℕ, List, IfOk};
 ghost use Rattle.std.specs.Option.{option_copied};
-ghost use Rattle.tree_model.specs.declared.node.Node.{Node as the_node};
-ghost use Rattle.tree_model.specs.declared.link.Link.{Link as the_link};
-ghost use Rattle.tree_model.specs.Trees.{node_at, long_names_of, IsListing};
-ghost use Rattle.tree_model.specs.Walks.{child_in};
+ghost use Rattle.file_tree.specs.declared.node.Node.{Node as the_node};
+ghost use Rattle.file_tree.specs.declared.link.Link.{Link as the_link};
+ghost use Rattle.file_tree.specs.Trees.{node_at, long_names_of, IsListing};
+ghost use Rattle.file_tree.specs.Walks.{child_in};
 
-use crate::node::Node;
 use crate::reply::NameList;
+use file_tree::Node;
 use std::alloc::{AllocError, Global};
 
 /// A tree as something that is asked for its nodes and names. Each call names its cost.

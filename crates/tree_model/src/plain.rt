@@ -1,21 +1,12 @@
-ghost use Rattle.std.specs.Prelude.{◌≡◌, IfOk, OnOk, OnErr, find, map};
-ghost use Rattle.std.specs.List.Sorted.{IsPermutation, IsSortedBy};
-ghost use Rattle.std.specs.Option.{option_copied, option_map, option_or};
-ghost use Rattle.tree_model.specs.declared.link.Link.{Link as the_link};
-ghost use Rattle.tree_model.specs.Trees.{same_links, first_of_two, first_in_order, long_links_in, node_at, stands_before};
-ghost use Rattle.tree_model.specs.Names.{name_order, same_units};
+ghost use Rattle.std.specs.Prelude.{◌≡◌, IfOk, map};
+ghost use Rattle.std.specs.Option.{option_copied};
+ghost use Rattle.file_tree.specs.declared.link.Link.{Link as the_link};
+ghost use Rattle.file_tree.specs.Trees.{same_links, long_links_in, node_at};
 
-use crate::link::Link;
 use crate::looking::Lookup;
-use crate::node::Node;
-use crate::ordering::{compare_names, is_same_name};
 use crate::reply::NameList;
-use crate::tree::Tree;
+use file_tree::{Link, Node, SHORT, Tree, chosen, is_same_name, sort_links};
 use std::alloc::{AllocError, Global};
-use std::cmp::Ordering;
-
-// The namespace of short names.
-const SHORT: u8 = 2;
 
 // A tree whose lists are gone through from the front at each question.
 #[derive(Drop)]
@@ -24,7 +15,7 @@ pub struct Plain<'a> {
     pub tree: &'a Tree,
 }
 
-#[tactic(auto, unfolding(crate::specs::Trees::node_at))]
+#[tactic(auto, unfolding(file_tree::specs::Trees::node_at))]
 fn node_at(nodes: &[Node], number: u64) -> Option<&Node>
     ensures { option_copied result ≡ node_at nodes.now number }
 {
@@ -32,7 +23,7 @@ fn node_at(nodes: &[Node], number: u64) -> Option<&Node>
 }
 
 // The links of a directory whose name is the same.
-#[tactic(auto, unfolding(crate::specs::Trees::same_links))]
+#[tactic(auto, unfolding(file_tree::specs::Trees::same_links))]
 fn same_links(
     alloc: Global,
     upper: &[u16],
@@ -51,50 +42,8 @@ fn same_links(
     Ok(same)
 }
 
-// Of two links the one whose name comes first.
-fn first_of_two<'a>(upper: &[u16], link: &'a Link, other: Option<&'a Link>) -> &'a Link
-    ensures { result.now ≡ first_of_two upper.now link.now (option_copied other.entry) }
-{
-    match other {
-        Some(other)
-            if compare_names(upper, link.name.units(), other.name.units()) == Ordering::Greater => {
-            other
-        }
-        _ => link,
-    }
-}
-
-// The link whose name comes first in order, gone through from the end.
-fn first_in_order<'a>(upper: &[u16], links: &'a [Link]) -> Option<&'a Link>
-    ensures { option_copied result ≡ first_in_order upper.now links.now }
-{
-    let mut first = None;
-    for i in 0..links.len() {
-        first = Some(first_of_two(upper, &links[links.len() - 1 - i], first));
-    }
-    first
-}
-
-fn equal_link<'a>(links: &'a [Link], part: &[u16]) -> Option<&'a Link>
-    ensures { option_copied result ≡ find (λ l. same_units l.name part.now) links.now }
-{
-    links.iter().find(|link| link.name.units() == part)
-}
-
-/// The number of the file that this part names, where these are the links of the same name: that of
-/// the link whose units are equal, else of the first in order. It takes time linear in the links.
-pub fn chosen(upper: &[u16], same: &[Link], part: &[u16]) -> Option<u64>
-    ensures value { result ≡ option_map (λ (l : the_link). l.child.number) (option_or (find (λ l. same_units l.name part.now) same.now) (first_in_order upper.now same.now)) }
-{
-    if let Some(link) = equal_link(same, part) {
-        return Some(link.child.number);
-    }
-    let link = first_in_order(upper, same)?;
-    Some(link.child.number)
-}
-
 // The long links of a directory.
-#[tactic(auto, unfolding(crate::specs::Trees::long_links_in))]
+#[tactic(auto, unfolding(file_tree::specs::Trees::long_links_in))]
 fn long_links_in(alloc: Global, links: &[Link], directory: u64) -> Result<Vec<Link>, AllocError>
     ensures { IfOk result (λ long. long.items ≡ long_links_in links.now directory) }
 {
@@ -105,21 +54,6 @@ fn long_links_in(alloc: Global, links: &[Link], directory: u64) -> Result<Vec<Li
         }
     }
     Ok(long)
-}
-
-fn compare(upper: &[u16], a: &Link, b: &Link) -> Ordering
-    ensures { result ≡ name_order upper.now a.now.name b.now.name }
-{
-    compare_names(upper, a.name.units(), b.name.units())
-}
-
-/// Puts links into the order of their names, in near-linear time. The error is want of memory, and
-/// leaves the links.
-pub fn sort_links(upper: &[u16], links: &mut Vec<Link>) -> Result<(), AllocError>
-    ensures value { OnOk result (IsPermutation links.old.items links.new.items × IsSortedBy (stands_before upper.now) links.new.items) }
-    ensures err { OnErr result (links.new.items ≡ links.old.items) }
-{
-    links.sort_by(|a, b| compare(upper, a, b))
 }
 
 /// The names of these links, in their order. The error is want of memory. It takes time and memory
@@ -145,7 +79,7 @@ impl Lookup for Plain<'_> {
         node_at(self.tree.nodes.as_slice(), number)
     }
 
-    #[tactic(auto, unfolding(crate::specs::Walks::child_in, crate::specs::Trees::look_up))]
+    #[tactic(auto, unfolding(file_tree::specs::Walks::child_in, file_tree::specs::Trees::look_up))]
     fn child(
         &self,
         alloc: Global,
@@ -157,7 +91,7 @@ impl Lookup for Plain<'_> {
         Ok(chosen(self.upper, &same, part))
     }
 
-    #[tactic(auto, unfolding(crate::specs::Trees::long_names_of))]
+    #[tactic(auto, unfolding(file_tree::specs::Trees::long_names_of))]
     fn long_names_of(&self, number: u64) -> u64 {
         let links = self.tree.links.as_slice();
         let long = links

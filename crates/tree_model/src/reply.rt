@@ -1,6 +1,6 @@
 ghost use Rattle.std.specs.Prelude.{◌≡◌, [], ◌∷◌, ◌++◌, IfOk, OnOk, OnErr};
 
-use crate::node::Kind;
+use file_tree::Kind;
 use std::alloc::{AllocError, Global};
 use std::marker::Model;
 use utf16_name::Name;

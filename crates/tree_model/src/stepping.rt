@@ -1,17 +1,17 @@
 ghost use Rattle.std.specs.Prelude.{◌≡◌, ◌≢◌, ◌<◌, ◌^◌, ◌+◌, IfOk, length};
 ghost use Rattle.std.specs.List.{list_any};
 ghost use Rattle.host_base.specs.Answers.{Gives};
-ghost use Rattle.tree_model.specs.Trees.{is_directory, is_directory_kind};
-ghost use Rattle.tree_model.specs.Walks.{entered, reached, reached_directory, is_bad_part, has_bad_part};
+ghost use Rattle.file_tree.specs.Trees.{is_directory, is_directory_kind};
+ghost use Rattle.tree_model.specs.Walks.{entered, reached, reached_directory};
+ghost use Rattle.file_tree.specs.Walks.{is_bad_part, has_bad_part};
 ghost use Rattle.tree_model.specs.Steps.{stat_of, reply_cause, Lists, Replies, IsStep};
 
 use crate::looking::Lookup;
-use crate::node::{Kind, Node};
 use crate::path::Path;
 use crate::plain::Plain;
 use crate::reply::Reply;
 use crate::script::Op;
-use crate::tree::Tree;
+use file_tree::{Kind, Node, Tree};
 use host_base::Memory;
 use std::alloc::{AllocError, Global};
 use utf16_name::{Units, check};
@@ -36,7 +36,7 @@ fn is_directory_kind(kind: Kind) -> bool
     kind == Kind::Directory
 }
 
-#[tactic(auto, unfolding(crate::specs::Trees::is_directory))]
+#[tactic(auto, unfolding(file_tree::specs::Trees::is_directory))]
 fn is_directory<L: Lookup>(tree: &L, number: u64) -> bool
     ensures { result ≡ is_directory (L.nodes tree.now) number }
 {
@@ -103,7 +103,7 @@ fn reached_directory<'a, L: Lookup>(
 }
 
 // Whether a part of the path is no name.
-#[tactic(auto, unfolding(crate::specs::Walks::has_bad_part))]
+#[tactic(auto, unfolding(file_tree::specs::Walks::has_bad_part))]
 fn has_bad_part(path: &[Units]) -> bool
     ensures { result ≡ has_bad_part path.now }
 {

@@ -1,5 +1,5 @@
 use Rattle.std.proofs.Common.{◌≡◌, take}
-use Rattle.tree_model.specs.Trees.{long_links_in}
+use Rattle.file_tree.specs.Trees.{long_links_in}
 use Rattle.tree_model.proofs.plain.long_links_in.Given as goal
 
 -- those of the links so far

@@ -1,6 +1,0 @@
-use Rattle.std.proofs.Common.{◌≡◌, take}
-use Rattle.tree_model.proofs.node.NodeListClone.clone.Given as goal
-
--- the elements so far were copied
-abbrev pub invariant-loop-node : goal.invariant-loop-node
-invariant-loop-node l = l.copy ≡ take l.node-index l.self
