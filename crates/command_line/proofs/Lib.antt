@@ -1,4 +1,3 @@
-mod Decimals
 mod Lexing
 mod Rows
 mod Turns

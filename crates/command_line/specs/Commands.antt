@@ -3,11 +3,11 @@ use Rattle.std.specs.Prelude.{ℕ, ◌&&◌, Bool, false, not, nat_le, if◌then
 use Rattle.std.specs.Global.{Global}
 use Rattle.std.specs.Str.{bytes_eq}
 use Rattle.host_base.specs.Answers.{◌>>=◌}
+use Rattle.host_base.specs.Numbers.{number_of}
 use Rattle.command_line.specs.declared.command.Command.{Command}
 use Rattle.command_line.specs.declared.command.Command.TheVariants.{Scan, Dump, Check, Journal, Format, Enable, Run, Gen}
 use Rattle.command_line.specs.declared.fault.LineFault.{LineFault}
 use Rattle.command_line.specs.declared.fault.LineFault.TheVariants.{NoLine}
-use Rattle.command_line.specs.Numbers.{number_of}
 use Rattle.command_line.specs.Texts.{Texts, texts_of}
 
 -- the command of this name, with what it takes

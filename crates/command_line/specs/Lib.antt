@@ -2,5 +2,4 @@ pub mod Commands
 pub mod Faults
 pub mod Grammar
 pub mod Lines
-pub mod Numbers
 pub mod Texts

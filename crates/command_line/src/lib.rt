@@ -8,7 +8,6 @@
 mod command;
 mod fault;
 mod matching;
-mod number;
 mod reading;
 
 pub use command::Command;

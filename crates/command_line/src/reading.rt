@@ -1,15 +1,15 @@
 ghost use Rattle.std.specs.Prelude.{◌≡◌, map, string_bytes, option_and_then};
 ghost use Rattle.host_base.specs.Answers.{Gives};
+ghost use Rattle.host_base.specs.Numbers.{number_of};
 ghost use Rattle.command_line.specs.Faults.{line_cause};
-ghost use Rattle.command_line.specs.Numbers.{number_of};
 ghost use Rattle.command_line.specs.Lines.{found_texts};
 ghost use Rattle.command_line.specs.Commands.{command_in, command_named, is_first, line_of, number_in, size_of};
 
 use crate::command::Command;
 use crate::fault::LineFault;
 use crate::matching::matches;
-use crate::number::number;
 use clap::ArgMatches;
+use host_base::decimal_number;
 use std::alloc::Global;
 
 // The command of this name, with what it takes.
@@ -35,7 +35,7 @@ fn command_named(name: &str, time: u64, seed: u64, max: u64) -> Option<Command>
 fn size(text: &str) -> Option<u64>
     ensures { result ≡ size_of text.now }
 {
-    let max = number(text)?;
+    let max = decimal_number(text)?;
     if 8192 <= max && max <= 1073741824 {
         Some(max)
     } else {
@@ -62,8 +62,8 @@ fn command_in(matches: &ArgMatches<'_>, words: &[String]) -> Option<Command>
     if !is_first(image, words) {
         return None;
     }
-    let time = number(matches.get_str("time")?)?;
-    let seed = number(matches.get_str("seed")?)?;
+    let time = decimal_number(matches.get_str("time")?)?;
+    let seed = decimal_number(matches.get_str("seed")?)?;
     let max = size(matches.get_str("journal")?)?;
     command_named(matches.get_str("command")?, time, seed, max)
 }

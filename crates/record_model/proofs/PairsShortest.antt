@@ -7,7 +7,7 @@ use Rattle.byteorder.specs.Endian.{little_number}
 use Rattle.byteorder.specs.Numbers.{little_from-lt}
 use Rattle.byteorder.proofs.Bytes.{pow256, sign_bit}
 use Rattle.record_model.specs.declared.runs.Run.{Run}
-use Rattle.record_model.specs.Pairs.{signed, is_held, signed_bytes, signed_width, delta_bytes, pair_of, pairs_from, pairs_of, IsPair, SpellsLcn, SpellsRuns}
+use Rattle.record_model.specs.Pairs.{signed, fits_bytes, signed_bytes, signed_width, delta_bytes, pair_of, pairs_from, pairs_of, IsPair, SpellsLcn, SpellsRuns}
 use Rattle.record_model.proofs.PairsSigned.{length-signed_bytes, signed_width-least}
 
 -- each is a byte
@@ -26,12 +26,12 @@ front_bytes [] bytes each i = omega arith
 front_bytes (b ∷ front) bytes each zero = each zero
 front_bytes (b ∷ front) bytes each (suc i) = front_bytes front bytes (tail_bytes b (front ++ bytes) each) i
 
-held_between : (n : ℕ) (z : ℤ) → (z +ℤ pos 1) ≤ℤ pos (2 ^ (8 * n - 1)) → pos 0 ≤ℤ (z +ℤ pos (2 ^ (8 * n - 1))) → is_held n z ≡ true
+held_between : (n : ℕ) (z : ℤ) → (z +ℤ pos 1) ≤ℤ pos (2 ^ (8 * n - 1)) → pos 0 ≤ℤ (z +ℤ pos (2 ^ (8 * n - 1))) → fits_bytes n z ≡ true
 held_between n (pos v) high low = lt-ltb v (2 ^ (8 * n - 1)) (omega (arith, ints))
 held_between n (negsuc v) high low = le-leb (suc v) (2 ^ (8 * n - 1)) (omega (arith, ints))
 
 -- bytes hold the number that they spell
-signed_held : (bytes : List ℕ) → 1 ≤ length bytes → length bytes ≤ 8 → AreBytes bytes → is_held (length bytes) (signed bytes) ≡ true
+signed_held : (bytes : List ℕ) → 1 ≤ length bytes → length bytes ≤ 8 → AreBytes bytes → fits_bytes (length bytes) (signed bytes) ≡ true
 unfolding signed
 signed_held bytes some few each =
     let n = length bytes in
@@ -42,14 +42,14 @@ signed_held bytes some few each =
     let twice : p ≡ 2 * half = sym (pow256 n) ∙ (sign_bit n some few).2 in
     let whole : 256 ^ n ≡ p = pow256 n in
     elim (cases_lt x half) [
-      | inl low ↦ ap (λ (b : Bool). is_held n (cond b (pos x) (pos x -ℤ pos p))) (lt-ltb x half low) ∙ lt-ltb x half low
-      | inr high ↦ ap (λ (b : Bool). is_held n (cond b (pos x) (pos x -ℤ pos p))) (le-ltb x half high) ∙ held_between n (pos x -ℤ pos p) (omega (arith, ints)) (omega (arith, ints))
+      | inl low ↦ ap (λ (b : Bool). fits_bytes n (cond b (pos x) (pos x -ℤ pos p))) (lt-ltb x half low) ∙ lt-ltb x half low
+      | inr high ↦ ap (λ (b : Bool). fits_bytes n (cond b (pos x) (pos x -ℤ pos p))) (le-ltb x half high) ∙ held_between n (pos x -ℤ pos p) (omega (arith, ints)) (omega (arith, ints))
     ]
 
 -- no bytes that spell a number are fewer
 number_shortest : (z : ℤ) (bytes : List ℕ) → 1 ≤ length bytes → length bytes ≤ 8 → AreBytes bytes → signed bytes ≡ z → length (signed_bytes z) ≤ length bytes
 number_shortest z bytes some few each is =
-    let least : signed_width z ≤ length bytes = signed_width-least (length bytes) z some (ap (is_held (length bytes)) (sym is) ∙ signed_held bytes some few each) in
+    let least : signed_width z ≤ length bytes = signed_width-least (length bytes) z some (ap (fits_bytes (length bytes)) (sym is) ∙ signed_held bytes some few each) in
     omega (arith, length-signed_bytes z)
 
 delta_shortest : (before : ℕ) (lcn : Option ℕ) (bytes : List ℕ) → length bytes ≤ 8 → AreBytes bytes → SpellsLcn before lcn bytes → length (delta_bytes before lcn) ≤ length bytes

@@ -8,7 +8,7 @@ use Rattle.std.proofs.lemmas.Nat.{mod-mul-add, pow-add}
 use Rattle.byteorder.specs.Endian.{little_number, little_bytes, low_bytes, twos_complement}
 use Rattle.byteorder.specs.Numbers.{length-bytes_low_first, little_number-reads_back}
 use Rattle.byteorder.proofs.Bytes.{pow256, sign_bit}
-use Rattle.record_model.specs.Pairs.{signed, is_held, least_width, signed_width, signed_bytes}
+use Rattle.record_model.specs.Pairs.{signed, fits_bytes, least_width, signed_width, signed_bytes}
 
 pub length-signed_bytes : (z : ℤ) → length (signed_bytes z) ≡ signed_width z
 unfolding signed_bytes
@@ -34,37 +34,37 @@ unfolding least_width
 least_width-ge zero n z = omega arith
 least_width-ge (suc more) n z =
     let later : suc n ≤ least_width more (suc n) z = least_width-ge more (suc n) z in
-    elim (is_held n z) as (λ b. n ≤ cond b n (least_width more (suc n) z)) [ true ↦ omega arith | false ↦ omega arith ]
+    elim (fits_bytes n z) as (λ b. n ≤ cond b n (least_width more (suc n) z)) [ true ↦ omega arith | false ↦ omega arith ]
 
 least_width-le : (more n : ℕ) (z : ℤ) → least_width more n z ≤ n + more
 unfolding least_width
 least_width-le zero n z = omega arith
 least_width-le (suc more) n z =
     let later : least_width more (suc n) z ≤ suc n + more = least_width-le more (suc n) z in
-    elim (is_held n z) as (λ b. cond b n (least_width more (suc n) z) ≤ n + suc more) [ true ↦ omega arith | false ↦ omega arith ]
+    elim (fits_bytes n z) as (λ b. cond b n (least_width more (suc n) z) ≤ n + suc more) [ true ↦ omega arith | false ↦ omega arith ]
 
-least_width-holds : (more n : ℕ) (z : ℤ) → is_held (n + more) z ≡ true → is_held (least_width more n z) z ≡ true
+least_width-holds : (more n : ℕ) (z : ℤ) → fits_bytes (n + more) z ≡ true → fits_bytes (least_width more n z) z ≡ true
 unfolding least_width
-least_width-holds zero n z held = let same : n ≡ n + 0 = omega arith in ap (λ (k : ℕ). is_held k z) same ∙ held
+least_width-holds zero n z held = let same : n ≡ n + 0 = omega arith in ap (λ (k : ℕ). fits_bytes k z) same ∙ held
 least_width-holds (suc more) n z held =
     let later = least_width more (suc n) z in
     let same : suc n + more ≡ n + suc more = omega arith in
-    elim (true_or_false (is_held n z)) [
-      | inl fits ↦ ap (λ (b : Bool). is_held (cond b n later) z) fits ∙ fits
-      | inr short ↦ ap (λ (b : Bool). is_held (cond b n later) z) short ∙ least_width-holds more (suc n) z (ap (λ (k : ℕ). is_held k z) same ∙ held)
+    elim (true_or_false (fits_bytes n z)) [
+      | inl fits ↦ ap (λ (b : Bool). fits_bytes (cond b n later) z) fits ∙ fits
+      | inr short ↦ ap (λ (b : Bool). fits_bytes (cond b n later) z) short ∙ least_width-holds more (suc n) z (ap (λ (k : ℕ). fits_bytes k z) same ∙ held)
     ]
 
-least_width-least : (more n m : ℕ) (z : ℤ) → n ≤ m → is_held m z ≡ true → least_width more n z ≤ m
+least_width-least : (more n m : ℕ) (z : ℤ) → n ≤ m → fits_bytes m z ≡ true → least_width more n z ≤ m
 unfolding least_width
 least_width-least zero n m z le held = le
 least_width-least (suc more) n m z le held =
-    elim (true_or_false (is_held n z)) as (λ _. cond (is_held n z) n (least_width more (suc n) z) ≤ m) [
-      | inl fits ↦ (let found : cond (is_held n z) n (least_width more (suc n) z) ≡ n = ap (λ (b : Bool). cond b n (least_width more (suc n) z)) fits in omega arith)
+    elim (true_or_false (fits_bytes n z)) as (λ _. cond (fits_bytes n z) n (least_width more (suc n) z) ≤ m) [
+      | inl fits ↦ (let found : cond (fits_bytes n z) n (least_width more (suc n) z) ≡ n = ap (λ (b : Bool). cond b n (least_width more (suc n) z)) fits in omega arith)
       | inr short ↦
-          (let apart : n ≡ m → ⊥ = λ e. false≢true (sym short ∙ ap (λ (k : ℕ). is_held k z) e ∙ held) in
+          (let apart : n ≡ m → ⊥ = λ e. false≢true (sym short ∙ ap (λ (k : ℕ). fits_bytes k z) e ∙ held) in
           let above : suc n ≤ m = omega arith in
           let later : least_width more (suc n) z ≤ m = least_width-least more (suc n) m z above held in
-          let passed : cond (is_held n z) n (least_width more (suc n) z) ≡ least_width more (suc n) z = ap (λ (b : Bool). cond b n (least_width more (suc n) z)) short in
+          let passed : cond (fits_bytes n z) n (least_width more (suc n) z) ≡ least_width more (suc n) z = ap (λ (b : Bool). cond b n (least_width more (suc n) z)) short in
           omega arith)
     ]
 
@@ -76,12 +76,12 @@ pub signed_width-le : (z : ℤ) → signed_width z ≤ 8
 unfolding signed_width
 signed_width-le z = least_width-le 7 1 z
 
-pub signed_width-holds : (z : ℤ) → is_held 8 z ≡ true → is_held (signed_width z) z ≡ true
+pub signed_width-holds : (z : ℤ) → fits_bytes 8 z ≡ true → fits_bytes (signed_width z) z ≡ true
 unfolding signed_width
 signed_width-holds z held = least_width-holds 7 1 z held
 
 -- no fewer bytes hold it
-pub signed_width-least : (m : ℕ) (z : ℤ) → 1 ≤ m → is_held m z ≡ true → signed_width z ≤ m
+pub signed_width-least : (m : ℕ) (z : ℤ) → 1 ≤ m → fits_bytes m z ≡ true → signed_width z ≤ m
 unfolding signed_width
 signed_width-least m z some held = least_width-least 7 1 m z some held
 
@@ -104,7 +104,7 @@ whole_words n high =
     (q - 1, all ∙ ap (λ (m : ℕ). m * 2 ^ (8 * n)) next)
 
 -- a number that n bytes hold is read from its lowest n bytes
-twos-low : (n : ℕ) (z : ℤ) → 1 ≤ n → n ≤ 8 → is_held n z ≡ true → twos_complement n (low_bytes w64 n z) ≡ z
+twos-low : (n : ℕ) (z : ℤ) → 1 ≤ n → n ≤ 8 → fits_bytes n z ≡ true → twos_complement n (low_bytes w64 n z) ≡ z
 twos-low n (pos v) low high held =
     let p = 2 ^ (8 * n) in
     let half = 2 ^ (8 * n - 1) in
@@ -131,7 +131,7 @@ low-lt n z =
     omega (arith, pow256 n)
 
 -- a signed number of 64 bits is read again
-pub signed-signed_bytes : (z : ℤ) → is_held 8 z ≡ true → signed (signed_bytes z) ≡ z
+pub signed-signed_bytes : (z : ℤ) → fits_bytes 8 z ≡ true → signed (signed_bytes z) ≡ z
 unfolding signed signed_bytes
 signed-signed_bytes z held =
     let n = signed_width z in

@@ -4,14 +4,14 @@ use Rattle.std.proofs.lemmas.Bool.{lt-ltb, le-leb}
 use Rattle.std.proofs.lemmas.Int.{ints}
 use Rattle.std.proofs.lemmas.List.{append_assoc}
 use Rattle.record_model.specs.declared.runs.Run.{Run}
-use Rattle.record_model.specs.Pairs.{cluster_limit, is_held, signed_bytes, signed_width, delta_bytes, pair_of, pairs_from, pairs_of, Follow, IsNext, HasSpelling, IsPair, SpellsLcn, SpellsRuns}
+use Rattle.record_model.specs.Pairs.{cluster_limit, fits_bytes, signed_bytes, signed_width, delta_bytes, pair_of, pairs_from, pairs_of, Follow, IsNext, HasSpelling, IsPair, SpellsLcn, SpellsRuns}
 use Rattle.record_model.proofs.PairsSigned.{length-signed_bytes, signed-signed_bytes, signed_width-ge, signed_width-le}
 
 -- the difference of two places below the limit has 64 bits
-delta_held : (before lcn : ℕ) → before < cluster_limit → lcn < cluster_limit → is_held 8 (pos lcn -ℤ pos before) ≡ true
+delta_held : (before lcn : ℕ) → before < cluster_limit → lcn < cluster_limit → fits_bytes 8 (pos lcn -ℤ pos before) ≡ true
 delta_held before lcn low below = held (pos lcn -ℤ pos before) (omega (arith, ints)) (omega (arith, ints))
   where
-    held : (z : ℤ) → z ≤ℤ pos cluster_limit → pos 0 ≤ℤ (z +ℤ pos cluster_limit) → is_held 8 z ≡ true
+    held : (z : ℤ) → z ≤ℤ pos cluster_limit → pos 0 ≤ℤ (z +ℤ pos cluster_limit) → fits_bytes 8 z ≡ true
     held (pos n) high low = lt-ltb n (2 ^ 63) (omega (arith, ints))
     held (negsuc n) high low = le-leb (suc n) (2 ^ 63) (omega (arith, ints))
 
@@ -39,7 +39,7 @@ pair_spelled first clusters before r rest low next =
     let delta = delta_bytes before r.lcn in
     let len_is : length len ≡ signed_width (pos r.len) = length-signed_bytes (pos r.len) in
     let short : length len ≤ 8 = omega (arith, signed_width-le (pos r.len)) in
-    let held : is_held 8 (pos r.len) ≡ true = lt-ltb r.len (2 ^ 63) (omega (arith, next.within)) in
+    let held : fits_bytes 8 (pos r.len) ≡ true = lt-ltb r.len (2 ^ 63) (omega (arith, next.within)) in
     record {
       header = length len + 16 * length delta;
       len = len;

@@ -1,3 +1,4 @@
+pub mod Constants
 pub mod Attributes
 pub mod Values
 pub mod Records

@@ -72,6 +72,10 @@ has_entry bytes = has_entry_length bytes && has_key bytes
 abbrev pub no_file : FileRef
 no_file = record { number = 0; seq = 0 }
 
+-- a last entry, with this child behind the other entries
+abbrev pub last_entry : Option ℕ → Entry
+last_entry down = record { child = no_file; key = []; down = down }
+
 unfoldable pub down_of : List ℕ → Option ℕ
 down_of e = if child_flag e == 1 then Some (field (length e - 8) 8 e) else None
 

@@ -100,14 +100,14 @@ pairs_cause Memory = no_memory
 -- ---- the spelling that is written
 
 -- so many bytes hold this signed number
-abbrev pub is_held : ℕ → ℤ → Bool
-is_held bytes (pos n) = nat_lt n (2 ^ (8 * bytes - 1))
-is_held bytes (negsuc n) = nat_le (suc n) (2 ^ (8 * bytes - 1))
+abbrev pub fits_bytes : ℕ → ℤ → Bool
+fits_bytes bytes (pos n) = nat_lt n (2 ^ (8 * bytes - 1))
+fits_bytes bytes (negsuc n) = nat_le (suc n) (2 ^ (8 * bytes - 1))
 
 -- the least number of bytes, from this one on and at most so many more, that holds a number
 unfoldable pub least_width : ℕ → ℕ → ℤ → ℕ
 least_width zero bytes z = bytes
-least_width (suc more) bytes z = if is_held bytes z then bytes else least_width more (suc bytes) z
+least_width (suc more) bytes z = if fits_bytes bytes z then bytes else least_width more (suc bytes) z
 
 -- the fewest bytes that hold a signed number of 64 bits, at least one
 unfoldable pub signed_width : ℤ → ℕ

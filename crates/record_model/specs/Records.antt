@@ -9,6 +9,7 @@ use Rattle.record_model.specs.declared.record.RecHead.{RecHead}
 use Rattle.record_model.specs.declared.attribute.Attr.{Attr}
 use Rattle.record_model.specs.Attributes.{has_length, is_inside, attr_of, spelling, SpellsAttr, FitsAttr}
 use Rattle.record_model.specs.Values.{has_lawful_value}
+use Rattle.record_model.specs.Constants.{end_mark}
 
 -- a record without the bytes of its file
 pub record Record : Type 0 where
@@ -39,9 +40,8 @@ has_size body = nat_le (used_bytes body) (allocated_bytes body) && allocated_byt
 unfoldable pub attribute_bytes : List ℕ → List ℕ
 attribute_bytes body = part (first_at body) (used_bytes body - first_at body) body
 
--- FFFFFFFF
 unfoldable pub is_end_mark : List ℕ → Bool
-is_end_mark bytes = field 0 4 bytes == 0xFFFFFFFF
+is_end_mark bytes = field 0 4 bytes == end_mark
 
 -- the attributes' own bytes up to the end mark, and whether there is one
 pub record Pieces : Type 0 where
@@ -138,9 +138,9 @@ pub record IsFileRecord (body : List ℕ) (r : Record) : Type 0 where
   pub head : rec_head_of body ≡ r.head
   pub spellings : List (List ℕ)
   pub behind : List ℕ
-  pub placed : attribute_bytes body ≡ concat spellings ++ (spell 4 0xFFFFFFFF ++ behind)
+  pub placed : attribute_bytes body ≡ concat spellings ++ (spell 4 end_mark ++ behind)
   pub spelled : SpellEach spellings r.attrs
-  pub kinds : All (λ a. a.head.kind < 0xFFFFFFFF) r.attrs
+  pub kinds : All (λ a. a.head.kind < end_mark) r.attrs
   pub rise : TypesRise r.attrs
   pub lawful : All (λ a. IsTrue (has_lawful_value a)) r.attrs
 
@@ -162,7 +162,7 @@ head_spelling h used =
     ++ spell 8 (packed h.base) ++ spell 2 h.next_id ++ zeros 2 ++ spell 4 h.number ++ zeros 8
 
 unfoldable pub record_spelling : Record → List ℕ
-record_spelling r = head_spelling r.head (used_of r.attrs) ++ flat_map spelling r.attrs ++ spell 4 0xFFFFFFFF ++ zeros 4 ++ zeros (1024 - used_of r.attrs)
+record_spelling r = head_spelling r.head (used_of r.attrs) ++ flat_map spelling r.attrs ++ spell 4 end_mark ++ zeros 4 ++ zeros (1024 - used_of r.attrs)
 
 pub record FitsHead (h : RecHead) : Type 0 where
   pub lsn : h.lsn < 2 ^ 64
@@ -178,7 +178,7 @@ pub record FitsHead (h : RecHead) : Type 0 where
 pub record FitsRecord (r : Record) : Type 0 where
   pub head : FitsHead r.head
   pub attrs : All FitsAttr r.attrs
-  pub kinds : All (λ a. a.head.kind < 0xFFFFFFFF) r.attrs
+  pub kinds : All (λ a. a.head.kind < end_mark) r.attrs
   pub rise : TypesRise r.attrs
   pub lawful : All (λ a. IsTrue (has_lawful_value a)) r.attrs
   pub used : used_of r.attrs ≤ 1024

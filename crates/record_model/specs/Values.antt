@@ -8,19 +8,7 @@ use Rattle.record_model.specs.declared.attribute.OwnForm.{OwnForm}
 use Rattle.record_model.specs.declared.attribute.OwnForm.TheVariants.{Resident, Mapped}
 use Rattle.record_model.specs.declared.attribute.Attr.{Attr}
 use Rattle.record_model.specs.Attributes.{units_at}
-
--- the types of attributes
-abbrev pub standard_information : ℕ
-standard_information = 0x10
-
-abbrev pub attribute_list : ℕ
-attribute_list = 0x20
-
-abbrev pub file_name : ℕ
-file_name = 0x30
-
-abbrev pub data_type : ℕ
-data_type = 0x80
+use Rattle.record_model.specs.Constants.{standard_information, file_name}
 
 -- standard information has its first 0x30 bytes
 unfoldable pub is_standard_information : List ℕ → Bool

@@ -1,4 +1,5 @@
 ghost use Rattle.std.specs.Prelude.{◌≡◌, ◌<◌, ◌≤◌, [], ◌∷◌, ◌++◌, OnOk, OnErr, IfOk, insert, remove, set, slice_get, take, drop, length};
+ghost use Rattle.record_model.specs.Nodes.{last_entry};
 
 use host_base::{Bytes, FileRef};
 use std::alloc::{AllocError, Global};
@@ -24,6 +25,18 @@ impl Clone for Entry {
             key: self.key.clone()?,
             down: self.down,
         })
+    }
+}
+
+/// The last entry of an index node, with this child behind the other entries (Linux-NTFS
+/// documentation, "Index Entry").
+pub fn last_entry(alloc: Global, down: Option<u64>) -> Entry
+    ensures { result ≡ last_entry down }
+{
+    Entry {
+        child: FileRef { number: 0, seq: 0 },
+        key: Bytes::new(alloc),
+        down,
     }
 }
 

@@ -8,6 +8,7 @@
 #![tactic(auto)]
 
 mod attribute;
+mod constants;
 mod entry;
 mod flags;
 mod list_entry;
@@ -21,7 +22,12 @@ mod value_laws;
 mod values;
 
 pub use attribute::{Attr, AttrList, Head, OwnForm, Sizes};
-pub use entry::{Entry, EntryList};
+pub use constants::{
+    ATTRIBUTE_LIST, BITMAP_TYPE, DATA, END_MARK, FILE_NAME, INDEX_ALLOCATION, INDEX_ROOT,
+    MOST_ATTRIBUTES, NAMES_INDEX, OBJECT_ID, REPARSE_POINT, STANDARD_INFORMATION,
+    VOLUME_INFORMATION, VOLUME_NAME,
+};
+pub use entry::{Entry, EntryList, last_entry};
 pub use flags::{AttributeFlags, EntryFlags, FileFlags, NodeFlags, RecordFlags, VolumeFlags};
 pub use list_entry::ListEntry;
 pub use node_laws::{

@@ -1,6 +1,5 @@
 pub mod Commands
 pub mod Faults
 pub mod Lines
-pub mod Numbers
 pub mod Paths
 pub mod Scripts

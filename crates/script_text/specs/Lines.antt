@@ -2,11 +2,11 @@
 use Rattle.std.specs.Prelude.{ℕ, ◌<◌, ◌≤◌, Bool, ◌||◌, ◌==◌, nat_lt, not, if◌then◌else◌, List, [], ◌∷◌, length, slice_index, Option, Some, None, Result, Ok, Err}
 use Rattle.std.specs.List.{slice_split, list_any}
 use Rattle.std.specs.Str.{is_utf8}
+use Rattle.host_base.specs.Numbers.{number_of}
 use Rattle.tree_model.specs.declared.script.What.{What}
 use Rattle.script_text.specs.declared.fault.ScriptFault.{ScriptFault}
 use Rattle.script_text.specs.declared.fault.ScriptFault.TheVariants.{Line, TooManyClients}
 use Rattle.script_text.specs.declared.line.Request.{Request}
-use Rattle.script_text.specs.Numbers.{number_of}
 use Rattle.script_text.specs.Commands.{what_of}
 
 -- the clients of a script are 1 to this one, so far

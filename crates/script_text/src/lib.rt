@@ -8,7 +8,6 @@
 mod command;
 mod fault;
 mod line;
-mod number;
 mod path;
 mod pieces;
 mod reading;

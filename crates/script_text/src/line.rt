@@ -2,14 +2,14 @@ ghost use Rattle.std.specs.Prelude.{◌≡◌, ◌==◌, true, false, ◌<◌, l
 ghost use Rattle.std.specs.List.{list_any};
 ghost use Rattle.std.specs.Str.{is_utf8};
 ghost use Rattle.host_base.specs.Answers.{Gives};
+ghost use Rattle.host_base.specs.Numbers.{number_of};
 ghost use Rattle.script_text.specs.Faults.{script_cause};
 ghost use Rattle.script_text.specs.Lines.{IsWithin, is_passed_over, client_in, asked_by, request_by, request_in, request_of};
-ghost use Rattle.script_text.specs.Numbers.{number_of};
 
 use crate::command::what;
 use crate::fault::{LineFault, ScriptFault};
-use crate::number::number;
 use crate::pieces::pieces;
+use host_base::decimal_number;
 use std::alloc::Global;
 use tree_model::What;
 
@@ -36,7 +36,7 @@ fn client(word: &str) -> Option<u64>
     ensures value { result ≡ client_in (number_of word.now) }
     ensures some { IfSome result (λ client. 0 < client) }
 {
-    match number(word) {
+    match decimal_number(word) {
         Some(0) => None,
         client => client,
     }

@@ -1,7 +1,7 @@
 ghost use Rattle.std.specs.Prelude.{◌≡◌, true};
 ghost use Rattle.std.specs.List.{list_all};
 ghost use Rattle.std.specs.Char.{is_ascii_digit};
-ghost use Rattle.script_text.specs.Numbers.{is_decimal, decimal_behind, number_of, number_below};
+ghost use Rattle.host_base.specs.Numbers.{is_decimal, decimal_behind, number_of, number_below};
 
 // Whether each byte is a decimal digit.
 fn all_digits(word: &[u8]) -> bool
@@ -35,10 +35,10 @@ fn decimal(digits: &[u8]) -> Option<u64>
     Some(number as u64)
 }
 
+/// The number of a word of a script or of a command line: `0`, or decimal digits without a leading
+/// 0, below 2^62. It takes time linear in the word.
 #[tactic(auto, unfolding(crate::specs::Numbers::number_of))]
-/// The number of a word: `0`, or decimal digits without a leading 0, below 2^62. It takes time
-/// linear in the word.
-pub fn number(word: &str) -> Option<u64>
+pub fn decimal_number(word: &str) -> Option<u64>
     ensures { result ≡ number_of word.now }
 {
     let digits = word.as_bytes();

@@ -1,6 +1,6 @@
 use Rattle.std.proofs.Common.{◌≡◌, ◌<◌, ◌^◌, drop}
-use Rattle.command_line.specs.Numbers.{decimal_behind}
-use Rattle.command_line.proofs.number.decimal.Given as goal
+use Rattle.host_base.specs.Numbers.{decimal_behind}
+use Rattle.host_base.proofs.number.decimal.Given as goal
 
 abbrev pub invariant-loop-digit : goal.invariant-loop-digit
 invariant-loop-digit l = record {

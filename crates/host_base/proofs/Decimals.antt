@@ -2,7 +2,7 @@
 use Rattle.std.proofs.Common.{◌≡◌, ℕ, ◌+◌, ◌-◌, ◌*◌, ◌^◌, ◌<◌, ◌≤◌, List, [], ◌∷◌, length, get_or, drop, None, sym, ◌∙◌, arith}
 use Rattle.std.proofs.lemmas.List.{at_drop_more}
 use Rattle.std.proofs.lemmas.Bool.Decides.{nat_tests}
-use Rattle.command_line.specs.Numbers.{decimal_behind, number_below}
+use Rattle.host_base.specs.Numbers.{decimal_behind, number_below}
 
 -- digits behind a number make no smaller one
 least : (front : ℕ) (digits : List ℕ) → front ≤ decimal_behind front digits

@@ -1,9 +1,0 @@
-use Rattle.std.proofs.Common.{◌≡◌, ◌<◌, ◌^◌, drop}
-use Rattle.script_text.specs.Numbers.{decimal_behind}
-use Rattle.script_text.proofs.number.decimal.Given as goal
-
-abbrev pub invariant-loop-digit : goal.invariant-loop-digit
-invariant-loop-digit l = record {
-  below : l.number < 2 ^ 62;
-  read : decimal_behind l.number (drop l.digit-index l.digits) ≡ decimal_behind 0 l.digits;
-}
