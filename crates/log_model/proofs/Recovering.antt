@@ -15,7 +15,7 @@ use Rattle.disk_model.proofs.Frames.{byte_after, length-bytes_after}
 use Rattle.log_model.specs.declared.entry.Entry.{Entry}
 use Rattle.log_model.specs.declared.entry.Act.{Act}
 use Rattle.log_model.specs.declared.entry.Act.TheVariants.{Update, Commit}
-use Rattle.log_model.specs.Logs.{block_at, covers, redo_byte, undo_byte, AreLevel, IsLevel, is_ended, last_redo, first_undo, told, recovered_byte, is_shadowed, redo_of, undo_of, redos, undos_back, recovery_of, recovered, is_covered_whole}
+use Rattle.log_model.specs.Logs.{block_of_kind, covers, redo_byte, undo_byte, AreLevel, IsLevel, is_ended, last_redo, first_undo, told, recovered_byte, is_shadowed, redo_of, undo_of, redos, undos_back, recovery_of, recovered, is_covered_whole}
 
 -- ---- what the last of two lists puts
 
@@ -41,7 +41,7 @@ abbrev undo_put : Act → Block → ℕ → Option ℕ
 undo_put act b i = if covers b i act then Some (undo_byte act i) else None
 
 undo_is : (act : Act) (b : Block) (i : ℕ) → AreLevel act → last_put (undo_of act) b i ≡ undo_put act b i
-undo_is (Update first kind at redo undo) b i level = ap (λ (n : ℕ). if same_block b (block_at first kind) && nat_le at i && nat_lt i (at + n) then Some (slice_index undo (i - at)) else None) level
+undo_is (Update first kind at redo undo) b i level = ap (λ (n : ℕ). if same_block b (block_of_kind first kind) && nat_le at i && nat_lt i (at + n) then Some (slice_index undo (i - at)) else None) level
 undo_is Commit b i level = refl
 
 first_of : (c : Bool) (x : ℕ) (o : Option ℕ) → later (if c then Some x else None) o ≡ (if c then Some x else o)
@@ -129,7 +129,7 @@ touches log b i = list_any (λ (e : Entry). covers b i e.act) log
 
 undo_covers : (act : Act) (b : Block) (i : ℕ) → AreLevel act → list_any (write_covers b i) (undo_of act) ≡ covers b i act
 undo_covers (Update first kind at redo undo) b i level =
-    or_false (same_block b (block_at first kind) && nat_le at i && nat_lt i (at + length undo)) ∙ ap (λ (n : ℕ). same_block b (block_at first kind) && nat_le at i && nat_lt i (at + n)) level
+    or_false (same_block b (block_of_kind first kind) && nat_le at i && nat_lt i (at + length undo)) ∙ ap (λ (n : ℕ). same_block b (block_of_kind first kind) && nat_le at i && nat_lt i (at + n)) level
 undo_covers Commit b i level = refl
 
 undos_cover : (log : List Entry) (b : Block) (i : ℕ) → AllByRecursion IsLevel log → list_any (write_covers b i) (undos_back log) ≡ touches log b i

@@ -1,5 +1,5 @@
 -- The log as a list of entries: what recovery makes of a content by it, which blocks are shadowed, and which entry is refused.
-use Rattle.std.specs.Prelude.{ℕ, ◌+◌, ◌-◌, ◌*◌, ◌/◌, ◌≡◌, ◌==◌, ◌&&◌, ◌||◌, not, nat_le, nat_lt, nat_eq, Bool, true, false, if◌then◌else◌, List, [], ◌∷◌, ◌++◌, length, slice_index, find, Option, Some, None, unwrap_or}
+use Rattle.std.specs.Prelude.{ℕ, ◌+◌, ◌-◌, ◌*◌, ◌/◌, ◌%◌, ◌≡◌, ◌==◌, ◌&&◌, ◌||◌, not, nat_le, nat_lt, nat_eq, Bool, true, false, if◌then◌else◌, List, [], ◌∷◌, ◌++◌, length, slice_index, find, Option, Some, None, unwrap_or}
 use Rattle.std.specs.List.{list_any, list_all, range_with_len}
 use Rattle.std.specs.Option.{option_or, option_map}
 use Rattle.std.specs.Cmp.Lexicographic.{pointwise}
@@ -19,22 +19,32 @@ use Rattle.log_model.specs.declared.entry.Act.TheVariants.{Update, Commit}
 abbrev pub kind_of : ℕ → BlockKind
 kind_of kind = if kind == 1 then FileRec else (if kind == 2 then Index else Plain)
 
-abbrev pub block_at : ℕ → ℕ → Block
-block_at first kind = record { first = first; kind = kind_of kind }
+abbrev pub block_of_kind : ℕ → ℕ → Block
+block_of_kind first kind = record { first = first; kind = kind_of kind }
+
+-- a block of this kind may begin in this sector: a file record in an even one, an index block in the first of eight
+abbrev pub may_begin : BlockKind → ℕ → Bool
+may_begin Plain first = true
+may_begin FileRec first = first % 2 == 0
+may_begin Index first = first % 8 == 0
+
+-- a block that an entry may update
+abbrev pub is_in_grid : Block → Bool
+is_in_grid b = may_begin b.kind b.first
 
 -- it is an update of this block
 abbrev pub updates : Block → Act → Bool
-updates b (Update first kind at redo undo) = same_block b (block_at first kind)
+updates b (Update first kind at redo undo) = same_block b (block_of_kind first kind)
 updates b Commit = false
 
 -- it is an update of another kind of block that shares a sector with this one
 abbrev pub updates_rival : Block → Act → Bool
-updates_rival b (Update first kind at redo undo) = are_rivals b (block_at first kind)
+updates_rival b (Update first kind at redo undo) = are_rivals b (block_of_kind first kind)
 updates_rival b Commit = false
 
 -- the update covers this byte of this block
 abbrev pub covers : Block → ℕ → Act → Bool
-covers b i (Update first kind at redo undo) = same_block b (block_at first kind) && nat_le at i && nat_lt i (at + length redo)
+covers b i (Update first kind at redo undo) = same_block b (block_of_kind first kind) && nat_le at i && nat_lt i (at + length redo)
 covers b i Commit = false
 
 abbrev pub redo_byte : Act → ℕ → ℕ
@@ -103,12 +113,12 @@ first_rival log b = option_map (λ (e : Entry). e.lsn) (find (λ e. updates_riva
 -- ---- the recovered content
 
 abbrev pub redo_of : Bool → Act → List Write
-redo_of true (Update first kind at redo undo) = record { block = block_at first kind; at = at; bytes = redo } ∷ []
+redo_of true (Update first kind at redo undo) = record { block = block_of_kind first kind; at = at; bytes = redo } ∷ []
 redo_of true Commit = []
 redo_of false act = []
 
 abbrev pub undo_of : Act → List Write
-undo_of (Update first kind at redo undo) = record { block = block_at first kind; at = at; bytes = undo } ∷ []
+undo_of (Update first kind at redo undo) = record { block = block_of_kind first kind; at = at; bytes = undo } ∷ []
 undo_of Commit = []
 
 -- the redo writes of these transactions, in order
@@ -161,7 +171,7 @@ is_partial disk log b = not (same_kind b.kind Plain) && not (is_shadowed log b) 
 
 -- it is an update of such a block
 abbrev pub updates_partial : Content → List Entry → Act → Bool
-updates_partial disk log (Update first kind at redo undo) = is_partial disk log (block_at first kind)
+updates_partial disk log (Update first kind at redo undo) = is_partial disk log (block_of_kind first kind)
 updates_partial disk log Commit = false
 
 -- the LSN of the first such update

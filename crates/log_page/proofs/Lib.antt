@@ -6,3 +6,4 @@ pub mod ReadAgain
 pub mod Readings
 pub mod Walking
 pub mod Mixed
+pub mod PageAgain

@@ -24,7 +24,7 @@ use Rattle.log_page.proofs.Spelled.{length-restart_spelling, length-restart_fron
 -- ---- parts of two lists
 
 -- parts whose bytes are equal are equal
-part_same : (at n : ℕ) (xs ys : List ℕ) → at + n ≤ length xs → at + n ≤ length ys → ((k : ℕ) → k < n → slice_index xs (at + k) ≡ slice_index ys (at + k)) → part at n xs ≡ part at n ys
+pub part_same : (at n : ℕ) (xs ys : List ℕ) → at + n ≤ length xs → at + n ≤ length ys → ((k : ℕ) → k < n → slice_index xs (at + k) ≡ slice_index ys (at + k)) → part at n xs ≡ part at n ys
 part_same at n xs ys fits fits' same =
     let size : length (part at n xs) ≡ n = length-take n (drop at xs) ∙ omega (arith, length-drop at xs) in
     let size' : length (part at n ys) ≡ n = length-take n (drop at ys) ∙ omega (arith, length-drop at ys) in

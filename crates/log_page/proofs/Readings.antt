@@ -40,11 +40,11 @@ one_more_fits (Some x) e entries grown is fits made all =
 
 -- ---- one step
 
-step : (most : ℕ) (page : List ℕ) (first at : ℕ) → goes_on page at ≡ true → entries_from (suc most) page first at ≡ entry_or_foreign (entry_in page first at) (lsn_of first at) (λ e. entries_from most page first (at + entry_size e))
+pub step : (most : ℕ) (page : List ℕ) (first at : ℕ) → goes_on page at ≡ true → entries_from (suc most) page first at ≡ entry_or_foreign (entry_in page first at) (lsn_of first at) (λ e. entries_from most page first (at + entry_size e))
 unfolding entries_from
 step most page first at more = rw more refl
 
-stop : (most : ℕ) (page : List ℕ) (first at : ℕ) → goes_on page at ≡ false → entries_from most page first at ≡ no_reading
+pub stop : (most : ℕ) (page : List ℕ) (first at : ℕ) → goes_on page at ≡ false → entries_from most page first at ≡ no_reading
 unfolding entries_from
 stop zero page first at less = refl
 stop (suc most) page first at less = rw less refl

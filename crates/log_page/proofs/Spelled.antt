@@ -34,7 +34,7 @@ length-restart_spelling r =
 
 -- ---- numbers at a place
 
-field_here : (at n value : ℕ) (s rest : List ℕ) → drop at s ≡ spell n value ++ rest → value < 256 ^ n → field at n s ≡ value
+pub field_here : (at n value : ℕ) (s rest : List ℕ) → drop at s ≡ spell n value ++ rest → value < 256 ^ n → field at n s ≡ value
 field_here at n value s rest e small =
     let place : at ≡ at + 0 = omega arith in
     ap (λ (x : ℕ). field x n s) place ∙ sym (field-drop 0 n at s) ∙ ap (field 0 n) e ∙ field-spell 0 n value [] rest refl small

@@ -5,4 +5,5 @@ pub mod RestartLaws
 pub mod CheckWords
 pub mod RecordPages
 pub mod LiveLogs
+pub mod PageSpellings
 pub mod PageLaws

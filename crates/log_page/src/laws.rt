@@ -2,6 +2,7 @@
 ghost use Rattle.log_page.specs.PlaceLaws.{HasDigits, LsnSaysPlace};
 ghost use Rattle.log_page.specs.RestartLaws.{RestartReadAgain};
 ghost use Rattle.log_page.specs.PageLaws.{WrittenPages};
+ghost use Rattle.log_page.specs.PageSpellings.{PageReadAgain};
 
 /// Law: a number has as many binary digits as its highest power of 2 says.
 pub fn has_digits()
@@ -24,4 +25,10 @@ pub fn restart_read_again()
 /// sector isn't whole at its new LSN. A page is whole at one LSN at most.
 pub fn written_pages()
     ensures { WrittenPages }
+{}
+
+/// Law: a record page that is spelled by its entries is whole at its LSN and gives these entries,
+/// by whatever check word its update sequence is made.
+pub fn page_read_again()
+    ensures { PageReadAgain }
 {}

@@ -12,15 +12,17 @@ mod laws;
 mod places;
 mod record;
 mod restart;
+mod sealing;
 
 pub use check::pick_check;
 pub use entries::{append_at, append_page, read_page};
 pub use fault::PageFault;
-pub use laws::{has_digits, lsn_says_place, restart_read_again, written_pages};
+pub use laws::{has_digits, lsn_says_place, page_read_again, restart_read_again, written_pages};
 pub use log_model::Entry;
 pub use places::{
-    Extent, Extents, LogPlace, digits, is_in_ring, lap_of, lsn_at, offset_of, page_lsn,
+    Extent, LogPlace, LogRuns, digits, is_in_ring, lap_of, lsn_at, offset_of, page_lsn,
     sequence_bits,
 };
 pub use record::{is_blank, said_lsn};
 pub use restart::{Restart, chosen, is_emptied, is_second_chosen};
+pub use sealing::seal_page;

@@ -14,11 +14,11 @@ pub struct Extent {
 
 /// Runs of sectors one after the other, which contracts see as a list.
 #[derive(Debug, Drop)]
-pub struct Extents {
+pub struct LogRuns {
     items: Vec<Extent>,
 }
 
-impl Model for Extents {
+impl Model for LogRuns {
     ghost use Rattle.std.specs.Prelude.{List};
     ghost use Rattle.log_page.specs.declared.places.Extent.{Extent};
 
@@ -27,15 +27,15 @@ impl Model for Extents {
     ghost view = { λ e. e.items.items };
 }
 
-impl From<Vec<Extent>> for Extents {
+impl From<Vec<Extent>> for LogRuns {
     ghost from_gives = { λ items extents. extents ≡ items.items };
 
     fn from(items: Vec<Extent>) -> Self {
-        Extents { items }
+        LogRuns { items }
     }
 }
 
-impl Extents {
+impl LogRuns {
     /// The runs as a slice.
     pub fn as_slice(&self) -> &[Extent]
         ensures { result.now ≡ self.now }
@@ -48,7 +48,7 @@ impl Extents {
 #[derive(Debug, Drop)]
 pub struct LogPlace {
     /// The sectors of its pages, in the order of the log.
-    pub runs: Extents,
+    pub runs: LogRuns,
     /// How many bytes at its front are initialised; those after them are zeros.
     pub initialised: u64,
     /// Its pages of 4,096 bytes.

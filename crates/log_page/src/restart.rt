@@ -188,8 +188,9 @@ fn put_client(restart: &Restart, out: &mut [u8])
     put_bytes(out, 0x90, &OWN_NAME);
 }
 
+/// Makes all bytes zeros.
 #[tactic(auto, unfolding(disk_model::specs::Bytes::zeros))]
-fn clear(out: &mut [u8])
+pub fn clear(out: &mut [u8])
     ensures { out.new ≡ zeros (length out.old) }
 {
     out.fill(0);

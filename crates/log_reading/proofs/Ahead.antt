@@ -12,13 +12,13 @@ use Rattle.log_reading.specs.Laps.{is_read, NoneBetween, IsNext, IsBehind}
 -- ---- sectors
 
 -- a sector after a run
-passed : (run : Extent) (runs : List Extent) (n m : ℕ) → n ≡ run.sectors + m → sector_in (run ∷ runs) n ≡ sector_in runs m
+pub passed : (run : Extent) (runs : List Extent) (n m : ℕ) → n ≡ run.sectors + m → sector_in (run ∷ runs) n ≡ sector_in runs m
 passed run runs n m e =
     let rest : n - run.sectors ≡ m = omega arith in
     ap (λ (b : Bool). if b then Some (run.first + n) else sector_in runs (n - run.sectors)) (le-ltb n run.sectors (omega arith)) ∙ ap (sector_in runs) rest
 
 -- one of a run
-inside : (run : Extent) (runs : List Extent) (n : ℕ) → n < run.sectors → sector_in (run ∷ runs) n ≡ Some (run.first + n)
+pub inside : (run : Extent) (runs : List Extent) (n : ℕ) → n < run.sectors → sector_in (run ∷ runs) n ≡ Some (run.first + n)
 inside run runs n lt = ap (λ (b : Bool). if b then Some (run.first + n) else sector_in runs (n - run.sectors)) (lt-ltb n run.sectors lt)
 
 above : (device s : ℕ) → sector_below device (Some s) ≡ None → device ≤ s

@@ -3,3 +3,7 @@ pub mod Bytes
 pub mod Said
 pub mod Paging
 pub mod Walks
+pub mod FrontRuns
+pub mod PageRows
+pub mod SharedSectors
+pub mod RingPlaces

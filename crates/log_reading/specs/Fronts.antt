@@ -5,7 +5,7 @@ use Rattle.log_page.specs.declared.restart.Restart.{Restart}
 use Rattle.log_page.specs.Restarts.{restart_of, chosen, is_second_chosen, is_blank, is_emptied}
 use Rattle.log_reading.specs.declared.fault.RecoveryFault.{RecoveryFault}
 use Rattle.log_reading.specs.declared.fault.RecoveryFault.TheVariants.{LogVersion, NoRestart}
-use Rattle.log_reading.specs.declared.front.Front.{Front}
+use Rattle.log_reading.specs.declared.front.RestartFront.{RestartFront}
 
 -- the chosen one of the restart pages that stand on the disk like this
 abbrev pub chosen_in : List ℕ → List ℕ → Option Restart
@@ -29,7 +29,7 @@ is_readable (Some r) first second = needs (r.major == 1) (LogVersion r.major r.m
 is_readable None first second = needs (is_emptied first second) NoRestart
 
 -- What the first two pages of a log say, or the refusal of its version, or of a log that has no restart page and isn't emptied.
-unfoldable pub front_in : List ℕ → List ℕ → Result Front RecoveryFault
+unfoldable pub front_in : List ℕ → List ℕ → Result RestartFront RecoveryFault
 front_in first second =
     is_readable (chosen_in first second) first second
     >>= λ _. Ok (record { chosen = chosen_in first second; restart = next_restart first second; opens = next_opens (chosen_in first second) })

@@ -8,7 +8,7 @@ use log_page::{Restart, chosen, is_blank, is_emptied, is_second_chosen};
 
 /// What the restart pages of a log say.
 #[derive(Clone, Copy, Debug, PartialEq, Eq)]
-pub struct Front {
+pub struct RestartFront {
     /// The chosen restart page; none in an emptied log.
     pub chosen: Option<Restart>,
     /// Where the next restart page goes, 0 or 1.
@@ -79,14 +79,14 @@ fn check_readable(chosen: Option<Restart>, first: &[u8], second: &[u8]) -> Resul
 /// - [`RecoveryFault::LogVersion`]: the chosen page is of another major version than 1.
 /// - [`RecoveryFault::NoRestart`]: neither page is a whole restart page, and none is all FF.
 #[tactic(auto, unfolding(crate::specs::Fronts::front_in))]
-pub fn front_of(first: &[u8], second: &[u8]) -> Result<Front, RecoveryFault>
+pub fn front_of(first: &[u8], second: &[u8]) -> Result<RestartFront, RecoveryFault>
     requires first { length first.now ≡ 4096 }
     requires second { length second.now ≡ 4096 }
     ensures value { result ≡ front_in first.now second.now }
 {
     let chosen = chosen(Restart::read(first), Restart::read(second));
     check_readable(chosen, first, second)?;
-    Ok(Front {
+    Ok(RestartFront {
         chosen,
         restart: next_restart(first, second),
         opens: next_opens(chosen),

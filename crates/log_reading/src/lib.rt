@@ -1,5 +1,5 @@
 //! The log of a volume on a view of its disk: its pages, what its two restart pages say, the
-//! entries of the live log, and its greatest LSN.
+//! entries of the live log, its greatest LSN, and whether its pages may be written.
 //!
 //! The layouts are those of the Linux-NTFS documentation, "$LogFile".
 #![tactic(auto)]
@@ -9,10 +9,12 @@ mod front;
 mod laps;
 mod live;
 mod pages;
+mod ring;
 
 pub use fault::RecoveryFault;
-pub use front::{Front, front_of};
+pub use front::{RestartFront, front_of};
 pub use laps::greatest_lsn;
 pub use live::{LiveLog, live_log};
 pub use log_page::LogPlace;
 pub use pages::read_page;
+pub use ring::is_ring_place;

@@ -8,9 +8,9 @@ use host_base::Memory;
 use log_model::{Act, Entry};
 use std::alloc::{AllocError, Global};
 
-// The first 0x30 bytes.
+/// The first 0x30 bytes.
 #[tactic(auto, unfolding(log_model::specs::Entries::front_spelling, disk_model::specs::Numbers::spell, disk_model::specs::Bytes::zeros))]
-fn front(entry: &Entry) -> [u8; 0x30]
+pub fn front(entry: &Entry) -> [u8; 0x30]
     requires { FitsEntry entry.now }
     ensures { result ≡ front_spelling entry.now }
 {
@@ -25,9 +25,9 @@ fn front(entry: &Entry) -> [u8; 0x30]
     bytes
 }
 
-// The next 28 of an update whose redo has n bytes.
+/// The next 0x28 of an update whose redo has n bytes.
 #[tactic(auto, unfolding(log_model::specs::Entries::update_spelling, disk_model::specs::Numbers::spell))]
-fn update_fields(first: u64, kind: u16, at: u16, n: usize) -> [u8; 0x28]
+pub fn update_fields(first: u64, kind: u16, at: u16, n: usize) -> [u8; 0x28]
     requires { n ≤ most_bytes }
     ensures { result ≡ update_spelling first kind at n }
 {
@@ -46,9 +46,9 @@ fn update_fields(first: u64, kind: u16, at: u16, n: usize) -> [u8; 0x28]
     bytes
 }
 
-// And of a commit.
+/// And of a commit.
 #[tactic(auto, unfolding(log_model::specs::Entries::commit_spelling, disk_model::specs::Numbers::spell, disk_model::specs::Bytes::zeros))]
-fn commit_fields() -> [u8; 0x28]
+pub fn commit_fields() -> [u8; 0x28]
     ensures { result ≡ commit_spelling }
 {
     let mut bytes = [0; 0x28];

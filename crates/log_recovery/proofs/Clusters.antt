@@ -18,11 +18,12 @@ use Rattle.disk_model.specs.declared.block.BlockKind.{BlockKind}
 use Rattle.disk_model.specs.declared.block.BlockKind.TheVariants.{Plain, FileRec, Index}
 use Rattle.disk_model.specs.Sectors.{same_block, same_kind}
 use Rattle.disk_model.proofs.Frames.{same_block-is}
+use Rattle.log_model.specs.Logs.{is_in_grid}
 use Rattle.log_model.specs.declared.entry.Entry.{Entry}
 use Rattle.log_recovery.specs.declared.found.Shadow.{Shadow}
 use Rattle.log_recovery.specs.Blocks.{shadowed_by}
 use Rattle.log_recovery.specs.Groups.{held_group}
-use Rattle.log_recovery.specs.Recovering.{is_in_grid, held_lsn, shadow_block}
+use Rattle.log_recovery.specs.Recovering.{held_lsn, shadow_block}
 use Rattle.log_recovery.specs.Shadows.{shadow_by, shadow_in, AddsShadows}
 use Rattle.log_recovery.proofs.Walking.{number_equal}
 use Rattle.log_recovery.proofs.Steps.{same_self_block, distinct_none, held-push, pushed_once}

@@ -20,12 +20,12 @@ use Rattle.disk_model.proofs.Frames.{same_block-is, bytes_after-append}
 use Rattle.log_model.specs.declared.entry.Entry.{Entry}
 use Rattle.log_model.specs.declared.entry.Act.{Act}
 use Rattle.log_model.specs.declared.entry.Act.TheVariants.{Update, Commit}
-use Rattle.log_model.specs.Logs.{is_ended, block_at, updates, updates_rival, covers, act_says, last_said, first_rival, undo_of, redo_of, undos_back, redos, is_covered_whole}
+use Rattle.log_model.specs.Logs.{is_ended, block_of_kind, updates, is_in_grid, updates_rival, covers, act_says, last_said, first_rival, undo_of, redo_of, undos_back, redos, is_covered_whole}
 use Rattle.log_recovery.specs.declared.found.Judged.{Judged}
 use Rattle.log_recovery.specs.declared.found.Judged.TheVariants.{Shadowed, Partial, Kept, Made}
 use Rattle.log_recovery.specs.Blocks.{shadowed_by, bytes_by, other_by, partial_by, made_by, body_by, Judges, IsSeen, Lies}
 use Rattle.log_recovery.specs.Groups.{first_cluster, last_cluster, reaches, touches, group_of, lent, LentLies, HasGroups}
-use Rattle.log_recovery.specs.Recovering.{is_in_grid, shadow_lsn}
+use Rattle.log_recovery.specs.Recovering.{shadow_lsn}
 use Rattle.log_recovery.specs.Shadows.{shadow_by, shadow_in}
 use Rattle.log_recovery.proofs.Saying.{shadowed-is}
 
@@ -98,7 +98,7 @@ record IsSilent (b : Block) (act : Act) : Type 0 where
 
 silent : (b : Block) (act : Act) → touches (b.first / 8) act ≡ false → IsSilent b act
 silent b (Update first kind at redo undo) e =
-    let d = block_at first kind in
+    let d = block_of_kind first kind in
     record {
       own = other b d e;
       rival = ap (λ (t : Bool). not (same_kind b.kind d.kind) && t) (apart b d e) ∙ and_false (not (same_kind b.kind d.kind));

@@ -17,14 +17,14 @@ use Rattle.log_page.specs.Places.{sequence_bits}
 use Rattle.log_page.specs.Restarts.{is_emptied}
 use Rattle.log_reading.specs.declared.fault.RecoveryFault.{RecoveryFault}
 use Rattle.log_reading.specs.declared.fault.RecoveryFault.TheVariants.{LogVersion, NoRestart, ForeignLog, Fault, Memory}
-use Rattle.log_reading.specs.declared.front.Front.{Front}
+use Rattle.log_reading.specs.declared.front.RestartFront.{RestartFront}
 use Rattle.log_reading.specs.Views.{recovery_cause}
 use Rattle.log_reading.specs.LogPages.{page_in}
 use Rattle.log_reading.specs.Fronts.{chosen_in, is_readable, front_in}
 use Rattle.log_recovery.specs.declared.found.RecoveredBlocks.{RecoveredBlocks}
 use Rattle.log_recovery.specs.declared.whole.Recovered.{Recovered}
 use Rattle.log_recovery.specs.Recovering.{foreign_entry, Recovers}
-use Rattle.log_recovery.specs.LogStates.{all_or_refused, entries_in, whole_entries, has_lap, lap_in, LogState, recovery_in, RecoversLog}
+use Rattle.log_recovery.specs.LogStates.{all_or_refused, live_entries_in, whole_entries, has_lap, lap_in, FoundLog, log_in, LogState, recovery_in, RecoversLog}
 
 -- ---- causes
 
@@ -49,11 +49,11 @@ then_on known x f g P first second = both known _ _ _ (λ c e h. subst (λ (r : 
 
 -- ---- the front
 
-abbrev okay : Front → Result Front RecoveryFault
+abbrev okay : RestartFront → Result RestartFront RecoveryFault
 okay front = Ok front
 
 -- it is no fault of the view
-readable_no_fault : (chosen : Option Restart) (first second : List ℕ) (front : Front) → IsErrOf (is_readable chosen first second >>= λ _. okay front) Fault → ⊥
+readable_no_fault : (chosen : Option Restart) (first second : List ℕ) (front : RestartFront) → IsErrOf (is_readable chosen first second >>= λ _. okay front) Fault → ⊥
 readable_no_fault (Some r) first second front h = by_test (r.major == 1) h
   where
     by_test : (b : Bool) → IsErrOf (needs b (LogVersion r.major r.minor) >>= λ _. okay front) Fault → ⊥
@@ -65,9 +65,9 @@ readable_no_fault None first second front h = by_test (is_emptied first second) 
     by_test true h = absurd cc
     by_test false h = absurd cc
 
-pub front_no_fault : (first second : List ℕ) (result : Result Front RecoveryFault) → result ≡ front_in first second → IsErrOf result Fault → ⊥
+pub front_no_fault : (first second : List ℕ) (result : Result RestartFront RecoveryFault) → result ≡ front_in first second → IsErrOf result Fault → ⊥
 unfolding front_in
-front_no_fault first second result is h = readable_no_fault (chosen_in first second) first second _ (subst (λ (r : Result Front RecoveryFault). IsErrOf r Fault) is h)
+front_no_fault first second result is h = readable_no_fault (chosen_in first second) first second _ (subst (λ (r : Result RestartFront RecoveryFault). IsErrOf r Fault) is h)
 
 -- ---- counts
 
@@ -110,68 +110,98 @@ same_entries known given entries clusters result is h = subst (λ (es : List Ent
 
 -- ---- all steps
 
-abbrev state_of : Front → List Entry → ℕ → LogState
+abbrev state_of : RestartFront → List Entry → ℕ → LogState
 state_of front log lap = record { log = log; next_lap = lap; restart = front.restart; opens = front.opens }
 
-abbrev with_lap : LogPlace → Front → Content → List Entry → Result LogState RecoveryFault
+abbrev with_lap : LogPlace → RestartFront → Content → List Entry → Result LogState RecoveryFault
 with_lap place front c log = lap_in c place front.chosen >>= λ lap. Ok (state_of front log lap)
 
-abbrev with_blocks : LogPlace → Front → Content → List Entry → Result LogState RecoveryFault
+abbrev with_blocks : LogPlace → RestartFront → Content → List Entry → Result LogState RecoveryFault
 with_blocks place front c entries = whole_entries c entries >>= with_lap place front c
 
-abbrev with_entries : LogPlace → Content → Front → Result LogState RecoveryFault
-with_entries place c front = entries_in c place front.chosen >>= with_blocks place front c
+abbrev with_entries : LogPlace → Content → RestartFront → Result LogState RecoveryFault
+with_entries place c front = live_entries_in c place front.chosen >>= with_blocks place front c
 
-abbrev fronts : LogPlace → Content → Result Front RecoveryFault
+abbrev fronts : LogPlace → Content → Result RestartFront RecoveryFault
 fronts place c = front_in (page_in c place 0) (page_in c place 1)
+
+-- the blocks, and what the front said
+abbrev found_log : RestartFront → List Entry → Result FoundLog RecoveryFault
+found_log front log = Ok (record { log = log; front = front })
+
+abbrev log_by : LogPlace → Content → RestartFront → Result FoundLog RecoveryFault
+log_by place c front = live_entries_in c place front.chosen >>= λ entries. whole_entries c entries >>= found_log front
+
+-- the lap after them
+abbrev state_by : LogPlace → Content → FoundLog → Result LogState RecoveryFault
+state_by place c found = with_lap place found.front c found.log
+
+after_whole : (c : Content) (place : LogPlace) (front : RestartFront) (r : Result (List Entry) RecoveryFault) → ((r >>= found_log front) >>= state_by place c) ≡ (r >>= with_lap place front c)
+after_whole c place front (Ok log) = refl
+after_whole c place front (Err e) = refl
+
+after_list : (c : Content) (place : LogPlace) (front : RestartFront) (r : Result (List Entry) RecoveryFault) → ((r >>= λ entries. whole_entries c entries >>= found_log front) >>= state_by place c) ≡ (r >>= with_blocks place front c)
+after_list c place front (Ok entries) = after_whole c place front (whole_entries c entries)
+after_list c place front (Err e) = refl
+
+after_pages : (c : Content) (place : LogPlace) (r : Result RestartFront RecoveryFault) → ((r >>= log_by place c) >>= state_by place c) ≡ (r >>= with_entries place c)
+after_pages c place (Ok front) = after_list c place front (live_entries_in c place front.chosen)
+after_pages c place (Err e) = refl
+
+-- the log and then its lap are these steps one after the other
+in_steps : (c : Content) (place : LogPlace) → recovery_in c place ≡ (fronts place c >>= with_entries place c)
+unfolding recovery_in log_in
+in_steps c place = after_pages c place (fronts place c)
+
+by_steps : (known : Option Content) (place : LogPlace) (result : Result Recovered RecoveryFault) → IfSome known (λ c. RecoversLog c (fronts place c >>= with_entries place c) result)
+    → IfSome known (λ c. RecoversLog c (recovery_in c place) result)
+by_steps known place result h = one known _ _ (λ c p. subst (λ (meant : Result LogState RecoveryFault). RecoversLog c meant result) (sym (in_steps c place)) p) h
 
 pub front_failed : (known : Option Content) (place : LogPlace) (e : RecoveryFault) → IfSome known (λ c. ExplainsOrFails (recovery_cause e) (front_in (page_in c place 0) (page_in c place 1)))
     → IfSome known (λ c. RecoversLog c (recovery_in c place) (Err e))
-unfolding recovery_in
-front_failed known place e h = first_failed known e (fronts place) (with_entries place) h
+front_failed known place e h = by_steps known place (Err e) (first_failed known e (fronts place) (with_entries place) h)
 
 -- after a front that was read
-after_front : (known : Option Content) (place : LogPlace) (front : Front) (result : Result Recovered RecoveryFault) → IfSome known (λ c. front_in (page_in c place 0) (page_in c place 1) ≡ Ok front)
+after_front : (known : Option Content) (place : LogPlace) (front : RestartFront) (result : Result Recovered RecoveryFault) → IfSome known (λ c. front_in (page_in c place 0) (page_in c place 1) ≡ Ok front)
     → IfSome known (λ c. RecoversLog c (with_entries place c front) result) → IfSome known (λ c. RecoversLog c (recovery_in c place) result)
-unfolding recovery_in
-after_front known place front result is h = then_on known front (fronts place) (with_entries place) (λ c meant. RecoversLog c meant result) is h
+after_front known place front result is h = by_steps known place result (then_on known front (fronts place) (with_entries place) (λ c meant. RecoversLog c meant result) is h)
 
-pub entries_failed : (known : Option Content) (place : LogPlace) (front : Front) (e : RecoveryFault) → IfSome known (λ c. front_in (page_in c place 0) (page_in c place 1) ≡ Ok front)
-    → IfSome known (λ c. ExplainsOrFails (recovery_cause e) (entries_in c place front.chosen)) → IfSome known (λ c. RecoversLog c (recovery_in c place) (Err e))
-entries_failed known place front e is h = after_front known place front (Err e) is (first_failed known e (λ c. entries_in c place front.chosen) (with_blocks place front) h)
+pub entries_failed : (known : Option Content) (place : LogPlace) (front : RestartFront) (e : RecoveryFault) → IfSome known (λ c. front_in (page_in c place 0) (page_in c place 1) ≡ Ok front)
+    → IfSome known (λ c. ExplainsOrFails (recovery_cause e) (live_entries_in c place front.chosen)) → IfSome known (λ c. RecoversLog c (recovery_in c place) (Err e))
+entries_failed known place front e is h = after_front known place front (Err e) is (first_failed known e (λ c. live_entries_in c place front.chosen) (with_blocks place front) h)
 
 -- what was read: the front and the entries, none of which is misplaced
-pub record WasRead (known : Option Content) (place : LogPlace) (front : Front) (entries : List Entry) : Type 0 where
+pub record WasRead (known : Option Content) (place : LogPlace) (front : RestartFront) (entries : List Entry) : Type 0 where
   pub front_is : IfSome known (λ c. front_in (page_in c place 0) (page_in c place 1) ≡ Ok front)
-  pub entries_are : IfSome known (λ c. entries_in c place front.chosen ≡ Ok entries)
+  pub entries_are : IfSome known (λ c. live_entries_in c place front.chosen ≡ Ok entries)
   pub placed : first_misplaced entries place.clusters ≡ None
 
-after_entries : (known : Option Content) (place : LogPlace) (front : Front) (entries : List Entry) (result : Result Recovered RecoveryFault) → WasRead known place front entries
+after_entries : (known : Option Content) (place : LogPlace) (front : RestartFront) (entries : List Entry) (result : Result Recovered RecoveryFault) → WasRead known place front entries
     → IfSome known (λ c. RecoversLog c (with_blocks place front c entries) result) → IfSome known (λ c. RecoversLog c (recovery_in c place) result)
 after_entries known place front entries result read h =
     after_front known place front result read.front_is
-    (then_on known entries (λ c. entries_in c place front.chosen) (with_blocks place front) (λ c meant. RecoversLog c meant result) read.entries_are h)
+    (then_on known entries (λ c. live_entries_in c place front.chosen) (with_blocks place front) (λ c meant. RecoversLog c meant result) read.entries_are h)
 
-pub blocks_failed : (known : Option Content) (place : LogPlace) (front : Front) (entries : List Entry) (e : RecoveryFault) → WasRead known place front entries
+pub blocks_failed : (known : Option Content) (place : LogPlace) (front : RestartFront) (entries : List Entry) (e : RecoveryFault) → WasRead known place front entries
     → IfSome known (λ c. Recovers c entries place.clusters (Err e)) → IfSome known (λ c. RecoversLog c (recovery_in c place) (Err e))
 blocks_failed known place front entries e read h =
     after_entries known place front entries (Err e) read
     (first_failed known e (λ c. whole_entries c entries) (with_lap place front) (in_part known entries place.clusters e read.placed h))
 
-after_blocks : (known : Option Content) (place : LogPlace) (front : Front) (entries : List Entry) (blocks : RecoveredBlocks) (result : Result Recovered RecoveryFault) → WasRead known place front entries
+after_blocks : (known : Option Content) (place : LogPlace) (front : RestartFront) (entries : List Entry) (blocks : RecoveredBlocks) (result : Result Recovered RecoveryFault) → WasRead known place front entries
     → IfSome known (λ c. Recovers c entries place.clusters (Ok blocks)) → IfSome known (λ c. RecoversLog c (with_lap place front c entries) result)
     → IfSome known (λ c. RecoversLog c (recovery_in c place) result)
 after_blocks known place front entries blocks result read found h =
     after_entries known place front entries result read
     (then_on known entries (λ c. whole_entries c entries) (with_lap place front) (λ c meant. RecoversLog c meant result) (all_whole known entries place.clusters blocks read.placed found) h)
 
-pub lap_failed : (known : Option Content) (place : LogPlace) (front : Front) (entries : List Entry) (blocks : RecoveredBlocks) (e : RecoveryFault) → WasRead known place front entries
+pub lap_failed : (known : Option Content) (place : LogPlace) (front : RestartFront) (entries : List Entry) (blocks : RecoveredBlocks) (e : RecoveryFault) → WasRead known place front entries
     → IfSome known (λ c. Recovers c entries place.clusters (Ok blocks)) → IfSome known (λ c. ExplainsOrFails (recovery_cause e) (lap_in c place front.chosen))
     → IfSome known (λ c. RecoversLog c (recovery_in c place) (Err e))
 lap_failed known place front entries blocks e read found h =
     after_blocks known place front entries blocks (Err e) read found (first_failed known e (λ c. lap_in c place front.chosen) (λ _ lap. Ok (state_of front entries lap)) h)
 
-pub recovered_whole : (known : Option Content) (place : LogPlace) (front : Front) (entries : List Entry) (blocks : RecoveredBlocks) (lap : ℕ) → WasRead known place front entries
+pub recovered_whole : (known : Option Content) (place : LogPlace) (front : RestartFront) (entries : List Entry) (blocks : RecoveredBlocks) (lap : ℕ) → WasRead known place front entries
     → IfSome known (λ c. Recovers c entries place.clusters (Ok blocks)) → IfSome known (λ c. lap_in c place front.chosen ≡ Ok lap)
     → IfSome known (λ c. RecoversLog c (recovery_in c place) (Ok (record { blocks = blocks; next_lap = lap; restart = front.restart; opens = front.opens })))
 recovered_whole known place front entries blocks lap read found lap_is =

@@ -7,7 +7,7 @@ use Rattle.disk_model.specs.Content.{Content}
 use Rattle.log_model.specs.declared.entry.Entry.{Entry}
 use Rattle.log_model.specs.declared.entry.Act.{Act}
 use Rattle.log_model.specs.declared.entry.Act.TheVariants.{Update, Commit}
-use Rattle.log_model.specs.Logs.{block_at, is_partial, updates_partial, first_partial}
+use Rattle.log_model.specs.Logs.{block_of_kind, is_partial, updates_partial, first_partial}
 use Rattle.log_recovery.specs.declared.found.RecoveredBlock.{RecoveredBlock}
 use Rattle.log_recovery.specs.declared.found.RecoveredBlocks.{RecoveredBlocks}
 use Rattle.log_recovery.specs.declared.found.Judged.{Judged}
@@ -43,7 +43,7 @@ pub record Found (c : Content) (log : List Entry) (k : ℕ) (bodies : List Recov
 
 -- the block of an update
 abbrev pub update_block : Act → Option Block
-update_block (Update first kind at redo undo) = Some (block_at first kind)
+update_block (Update first kind at redo undo) = Some (block_of_kind first kind)
 update_block Commit = None
 
 -- a body that was made has its block's size

@@ -9,7 +9,7 @@ use Rattle.disk_model.specs.Sectors.{sectors}
 use Rattle.log_model.specs.declared.entry.Entry.{Entry}
 use Rattle.log_model.specs.declared.entry.Act.{Act}
 use Rattle.log_model.specs.declared.entry.Act.TheVariants.{Update, Commit}
-use Rattle.log_model.specs.Logs.{block_at}
+use Rattle.log_model.specs.Logs.{block_of_kind}
 use Rattle.log_recovery.specs.Blocks.{Lies}
 
 -- the entries that are lent
@@ -32,7 +32,7 @@ reaches b cluster = nat_le (first_cluster b) cluster && nat_le cluster (last_clu
 
 -- an update of a block that reaches the cluster
 abbrev pub touches : ℕ → Act → Bool
-touches cluster (Update first kind at redo undo) = reaches (block_at first kind) cluster
+touches cluster (Update first kind at redo undo) = reaches (block_of_kind first kind) cluster
 touches cluster Commit = false
 
 -- the updates that touch the cluster, in order

@@ -14,6 +14,7 @@ use Rattle.log_page.specs.RecordPages.{Reading}
 use Rattle.log_page.specs.LiveLogs.{live_log, greatest_lsn, lap_above}
 use Rattle.log_reading.specs.declared.fault.RecoveryFault.{RecoveryFault}
 use Rattle.log_reading.specs.declared.fault.RecoveryFault.TheVariants.{ForeignLog}
+use Rattle.log_reading.specs.declared.front.RestartFront.{RestartFront}
 use Rattle.log_reading.specs.Views.{recovery_cause}
 use Rattle.log_reading.specs.LogPages.{page_in}
 use Rattle.log_reading.specs.Fronts.{front_in}
@@ -36,9 +37,9 @@ entries_by c place r =
     else (needs r.own (ForeignLog r.current) >>= λ _. own_entries (live_log place.pages (page_in c place) r.oldest) place.clusters)
 
 -- the same where none was chosen, as in an emptied log
-abbrev pub entries_in : Content → LogPlace → Option Restart → Result (List Entry) RecoveryFault
-entries_in c place (Some r) = entries_by c place r
-entries_in c place None = Ok []
+abbrev pub live_entries_in : Content → LogPlace → Option Restart → Result (List Entry) RecoveryFault
+live_entries_in c place (Some r) = entries_by c place r
+live_entries_in c place None = Ok []
 
 -- they are refused where a block is recovered in part
 abbrev pub whole_entries : Content → List Entry → Result (List Entry) RecoveryFault
@@ -55,7 +56,19 @@ lap_by pages greatest = needs (has_lap pages (lap_above pages greatest)) (Foreig
 unfoldable pub lap_in : Content → LogPlace → Option Restart → Result ℕ RecoveryFault
 lap_in c place chosen = lap_by place.pages (greatest_lsn place.pages (page_in c place) chosen)
 
--- a log that isn't refused: its entries, a new session's first lap, and where its next restart page goes, with its open count
+-- a log that isn't refused for its restart pages, its client, its entries or a block: the entries, and what the restart pages say
+pub record FoundLog : Type 0 where
+  pub log : List Entry
+  pub front : RestartFront
+
+unfoldable pub log_in : Content → LogPlace → Result FoundLog RecoveryFault
+log_in c place =
+    front_in (page_in c place 0) (page_in c place 1)
+    >>= λ front. live_entries_in c place front.chosen
+    >>= λ entries. whole_entries c entries
+    >>= λ log. Ok (record { log = log; front = front })
+
+-- one that isn't refused for its laps either: its entries, a new session's first lap, and where its next restart page goes, with its open count
 pub record LogState : Type 0 where
   pub log : List Entry
   pub next_lap : ℕ
@@ -64,11 +77,9 @@ pub record LogState : Type 0 where
 
 unfoldable pub recovery_in : Content → LogPlace → Result LogState RecoveryFault
 recovery_in c place =
-    front_in (page_in c place 0) (page_in c place 1)
-    >>= λ front. entries_in c place front.chosen
-    >>= λ entries. whole_entries c entries
-    >>= λ log. lap_in c place front.chosen
-    >>= λ lap. Ok (record { log = log; next_lap = lap; restart = front.restart; opens = front.opens })
+    log_in c place
+    >>= λ found. lap_in c place found.front.chosen
+    >>= λ lap. Ok (record { log = found.log; next_lap = lap; restart = found.front.restart; opens = found.front.opens })
 
 -- ---- what is answered
 

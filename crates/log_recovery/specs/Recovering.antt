@@ -1,15 +1,13 @@
 -- What recovery answers: the blocks that it writes out, the shadowed blocks, or the entry that is refused.
-use Rattle.std.specs.Prelude.{ℕ, ◌≡◌, ◌*◌, ◌%◌, ◌==◌, ⊤, Bool, true, ◌&&◌, if◌then◌else◌, List, [], ◌∷◌, map, length, Option, Some, None, unwrap_or, Result, Ok, Err}
+use Rattle.std.specs.Prelude.{ℕ, ◌≡◌, ◌*◌, ⊤, Bool, ◌&&◌, if◌then◌else◌, List, [], ◌∷◌, map, length, Option, Some, None, unwrap_or, Result, Ok, Err}
 use Rattle.std.specs.List.{list_any, IsDistinct}
 use Rattle.std.specs.Option.{option_or}
 use Rattle.disk_model.specs.declared.block.Block.{Block}
-use Rattle.disk_model.specs.declared.block.BlockKind.{BlockKind}
-use Rattle.disk_model.specs.declared.block.BlockKind.TheVariants.{Plain, FileRec, Index}
 use Rattle.disk_model.specs.Bodies.{BodyOf}
 use Rattle.disk_model.specs.Sectors.{same_block, sectors}
 use Rattle.disk_model.specs.Content.{Content}
 use Rattle.log_model.specs.declared.entry.Entry.{Entry}
-use Rattle.log_model.specs.Logs.{updates, is_shadowed, first_rival, recovered, is_written_out, first_misplaced, first_partial}
+use Rattle.log_model.specs.Logs.{updates, is_in_grid, is_shadowed, first_rival, recovered, is_written_out, first_misplaced, first_partial}
 use Rattle.log_recovery.specs.declared.found.RecoveredBlock.{RecoveredBlock}
 use Rattle.log_recovery.specs.declared.found.Shadow.{Shadow}
 use Rattle.log_recovery.specs.declared.found.RecoveredBlocks.{RecoveredBlocks}
@@ -54,16 +52,6 @@ IsSized r = length r.body.bytes ≡ 512 * sectors r.block.kind
 -- the recovered body of a block that is written out
 abbrev pub written_body : Content → List Entry → Block → Option BodyOf
 written_body c log b = if is_written_out c log b then Some (recovered c log b) else None
-
--- a block of this kind may begin in this sector: a file record in an even one, an index block in the first of eight
-abbrev pub may_begin : BlockKind → ℕ → Bool
-may_begin Plain first = true
-may_begin FileRec first = first % 2 == 0
-may_begin Index first = first % 8 == 0
-
--- a block that an entry may update
-abbrev pub is_in_grid : Block → Bool
-is_in_grid b = may_begin b.kind b.first
 
 -- the LSN of the first update of a rival of a block of the grid that is shadowed
 abbrev pub shadow_lsn : List Entry → Block → Option ℕ

@@ -8,11 +8,11 @@ use Rattle.std.specs.Borrow.{Bor}
 use Rattle.disk_model.specs.declared.block.Block.{Block}
 use Rattle.disk_model.specs.Sectors.{same_block}
 use Rattle.log_model.specs.declared.entry.Entry.{Entry}
-use Rattle.log_model.specs.Logs.{first_rival}
+use Rattle.log_model.specs.Logs.{is_in_grid, first_rival}
 use Rattle.log_recovery.specs.declared.found.Shadow.{Shadow}
 use Rattle.log_recovery.specs.Blocks.{shadowed_by}
 use Rattle.log_recovery.specs.Groups.{held_group}
-use Rattle.log_recovery.specs.Recovering.{is_in_grid, held_lsn, shadow_block}
+use Rattle.log_recovery.specs.Recovering.{held_lsn, shadow_block}
 
 -- the first update of a rival of a block of the grid that these entries shadow
 abbrev pub shadow_by : (ℕ → Bool) → List Entry → Block → Option ℕ

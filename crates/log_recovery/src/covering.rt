@@ -6,7 +6,7 @@ ghost use Rattle.log_model.specs.Logs.{covers, is_covered_whole};
 ghost use Rattle.log_recovery.specs.Blocks.{LiesInside};
 ghost use Rattle.log_recovery.specs.Groups.{lent, LentLies};
 
-use crate::updates::block_at;
+use crate::updates::block_of_kind;
 use disk_model::Block;
 use log_model::{Act, Entry};
 use std::alloc::{AllocError, Global};
@@ -37,7 +37,7 @@ fn mark_act(block: Block, act: &Act, marks: &mut [bool])
         ..
     } = act
     {
-        if block == block_at(*first, *kind) {
+        if block == block_of_kind(*first, *kind) {
             mark(marks, *at as usize, redo.len());
         }
     }

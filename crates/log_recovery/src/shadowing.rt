@@ -5,8 +5,9 @@ ghost use Rattle.std.specs.Ordering.{nat_cmp};
 ghost use Rattle.std.specs.BTreeSet.{contains};
 ghost use Rattle.disk_model.specs.declared.block.Block.{Block as BlockOf};
 ghost use Rattle.disk_model.specs.Sectors.{same_block};
+ghost use Rattle.log_model.specs.Logs.{is_in_grid};
 ghost use Rattle.log_recovery.specs.Groups.{lent};
-ghost use Rattle.log_recovery.specs.Recovering.{is_in_grid, held_lsn, shadow_block};
+ghost use Rattle.log_recovery.specs.Recovering.{held_lsn, shadow_block};
 ghost use Rattle.log_recovery.specs.Shadows.{shadow_by, shadow_in, AddsShadows};
 
 use crate::ended::Ended;

@@ -2,7 +2,7 @@
 ghost use Rattle.std.specs.Prelude.{◌≡◌, ◌+◌, ◌*◌, ◌≤◌, length};
 ghost use Rattle.disk_model.specs.Sectors.{sectors, are_rivals};
 ghost use Rattle.disk_model.specs.Writes.{bytes_after};
-ghost use Rattle.log_model.specs.Logs.{kind_of, block_at, updates, updates_rival, covers, act_says, undo_of, redo_of, is_misplaced};
+ghost use Rattle.log_model.specs.Logs.{kind_of, block_of_kind, updates, updates_rival, covers, act_says, undo_of, redo_of, is_misplaced};
 ghost use Rattle.log_recovery.specs.Blocks.{LiesInside};
 ghost use Rattle.log_recovery.specs.Finding.{update_block};
 
@@ -20,8 +20,8 @@ fn kind_of(kind: u16) -> BlockKind
 }
 
 /// The block from this sector on, of the kind with this number.
-pub fn block_at(first: u64, kind: u16) -> Block
-    ensures { result ≡ block_at first kind }
+pub fn block_of_kind(first: u64, kind: u16) -> Block
+    ensures { result ≡ block_of_kind first kind }
 {
     Block {
         first,
@@ -43,7 +43,7 @@ pub fn updates(block: Block, act: &Act) -> bool
     ensures { result ≡ updates block act.now }
 {
     match act {
-        Act::Update { first, kind, .. } => block == block_at(*first, *kind),
+        Act::Update { first, kind, .. } => block == block_of_kind(*first, *kind),
         Act::Commit => false,
     }
 }
@@ -53,7 +53,7 @@ pub fn updates_rival(block: Block, act: &Act) -> bool
     ensures { result ≡ updates_rival block act.now }
 {
     match act {
-        Act::Update { first, kind, .. } => are_rivals(block, block_at(*first, *kind)),
+        Act::Update { first, kind, .. } => are_rivals(block, block_of_kind(*first, *kind)),
         Act::Commit => false,
     }
 }
@@ -71,7 +71,7 @@ pub fn covers(block: Block, i: usize, act: &Act) -> bool
             ..
         } => {
             let at = *at as usize;
-            block == block_at(*first, *kind) && at <= i && i - at < redo.len()
+            block == block_of_kind(*first, *kind) && at <= i && i - at < redo.len()
         }
         Act::Commit => false,
     }
@@ -127,7 +127,7 @@ pub fn undo_act(block: Block, act: &Act, out: &mut Body)
         ..
     } = act
     {
-        if block == block_at(*first, *kind) {
+        if block == block_of_kind(*first, *kind) {
             out.put(*at as usize, undo.as_slice());
         }
     }
@@ -149,7 +149,7 @@ pub fn redo_act(block: Block, ended: bool, act: &Act, out: &mut Body)
         ..
     } = act
     {
-        if ended && block == block_at(*first, *kind) {
+        if ended && block == block_of_kind(*first, *kind) {
             out.put(*at as usize, redo.as_slice());
         }
     }
@@ -160,7 +160,7 @@ pub fn update_block(act: &Act) -> Option<Block>
     ensures { result ≡ update_block act.now }
 {
     match act {
-        Act::Update { first, kind, .. } => Some(block_at(*first, *kind)),
+        Act::Update { first, kind, .. } => Some(block_of_kind(*first, *kind)),
         Act::Commit => None,
     }
 }

@@ -15,7 +15,7 @@ ghost use Rattle.log_reading.specs.LogPages.{page_in, IsLogPlace};
 ghost use Rattle.log_reading.specs.Fronts.{front_in};
 ghost use Rattle.log_reading.specs.Live.{reading_of};
 ghost use Rattle.log_recovery.specs.Recovering.{IsSized};
-ghost use Rattle.log_recovery.specs.LogStates.{own_entries, entries_by, entries_in, has_lap, lap_by, lap_in, recovery_in, RecoversLog};
+ghost use Rattle.log_recovery.specs.LogStates.{own_entries, entries_by, live_entries_in, has_lap, lap_by, lap_in, recovery_in, RecoversLog};
 
 use crate::found::RecoveredBlocks;
 use crate::recovering::recover_entries;
@@ -25,7 +25,9 @@ use device_view::{DeviceView, piece_room};
 use disk_model::Body;
 use log_model::Entry;
 use log_page::{LogPlace, Restart, lap_of, sequence_bits};
-use log_reading::{Front, LiveLog, RecoveryFault, front_of, greatest_lsn, live_log, read_page};
+use log_reading::{
+    LiveLog, RecoveryFault, RestartFront, front_of, greatest_lsn, live_log, read_page,
+};
 use sector_device::Device;
 use std::alloc::Global;
 
@@ -50,7 +52,7 @@ fn read_front<V: View>(
     alloc: Global,
     view: &mut V,
     place: &LogPlace,
-) -> Result<Front, RecoveryFault>
+) -> Result<RestartFront, RecoveryFault>
     requires place { IsLogPlace place.now }
     ensures answer { IfSome (V.content view.old) (λ c. GivesOrFails (λ front. front) recovery_cause result (front_in (page_in c place.now 0) (page_in c place.now 1))) }
     ensures kept { KeepsView V.content V.kept V.faults view.old view.new }
@@ -106,14 +108,14 @@ fn entries_by<V: View>(
 }
 
 // The entries of a log; none where no restart page was chosen.
-fn entries_in<V: View>(
+fn live_entries_in<V: View>(
     alloc: Global,
     view: &mut V,
     place: &LogPlace,
     chosen: Option<Restart>,
 ) -> Result<Vec<Entry>, RecoveryFault>
     requires place { IsLogPlace place.now }
-    ensures answer { IfSome (V.content view.old) (λ c. GivesOrFails (λ entries. entries.items) recovery_cause result (entries_in c place.now chosen)) }
+    ensures answer { IfSome (V.content view.old) (λ c. GivesOrFails (λ entries. entries.items) recovery_cause result (live_entries_in c place.now chosen)) }
     ensures level { IfOk result (λ entries. All IsLevel entries.items) }
     ensures placed { IfOk result (λ entries. first_misplaced entries.items place.now.clusters ≡ None) }
     ensures kept { KeepsView V.content V.kept V.faults view.old view.new }
@@ -221,7 +223,7 @@ pub fn recover_view<V: View>(
     ensures counted { Counts recovery_cause (V.faults view.old) (V.faults view.new) result }
 {
     let front = read_front(alloc, view, place)?;
-    let entries = entries_in(alloc, view, place, front.chosen)?;
+    let entries = live_entries_in(alloc, view, place, front.chosen)?;
     let blocks = recover_entries(alloc, view, &entries, place.clusters)?;
     let next_lap = lap_in(alloc, view, place, front.chosen)?;
     Ok(Recovered {

@@ -5,7 +5,7 @@ ghost use Rattle.log_reading.specs.LogPages.{IsSmall, IsLogPlace};
 use block_view::{Block, BlockKind, Body, Held, MemoryView};
 use disk_model::{put_bytes, put_u64};
 use host_base::Bytes;
-use log_page::{Extent, Extents, Restart};
+use log_page::{Extent, LogRuns, Restart};
 use log_reading::{LogPlace, RecoveryFault, greatest_lsn};
 use std::alloc::{AllocError, Global};
 use std::process::Abort;
@@ -40,7 +40,7 @@ fn place(alloc: Global, log: Log) -> Result<LogPlace, AllocError>
 {
     let runs = Vec::from_slice(alloc, &[run(log.front), run(log.rest)])?;
     Ok(LogPlace {
-        runs: Extents::from(runs),
+        runs: LogRuns::from(runs),
         initialised: log.initialised,
         pages: u64::from(log.pages),
         clusters: 1000,

@@ -1,5 +1,5 @@
 //! Rows of inputs and answers of a volume's log: its entries and its pages, what is read of them,
-//! and its greatest LSN. The crate has tests and no more.
+//! its greatest LSN, and whether its pages may be written. The crate has tests and no more.
 #![tactic(auto)]
 
 #[cfg(test)]
@@ -10,5 +10,9 @@ mod laps;
 mod layouts;
 #[cfg(test)]
 mod readings;
+#[cfg(test)]
+mod rings;
+#[cfg(test)]
+mod sealing;
 #[cfg(test)]
 mod spellings;

@@ -10,7 +10,7 @@ use fixup_record::{has_shape, protect};
 use host_base::Bytes;
 use log_model::{Act, Entry};
 use log_page::{Extent, Restart};
-use log_reading::{Front, LogPlace, RecoveryFault, front_of, live_log, read_page};
+use log_reading::{LogPlace, RecoveryFault, RestartFront, front_of, live_log, read_page};
 use log_record::write;
 use std::alloc::{AllocError, Global};
 use std::test::Fail;
@@ -67,8 +67,8 @@ fn the_newer_restart_page_says_the_place(rt: HostRuntime) {
 }
 
 // What an emptied log says, whose next restart page is this one.
-fn none(restart: u32) -> Result<Front, RecoveryFault> {
-    Ok(Front {
+fn none(restart: u32) -> Result<RestartFront, RecoveryFault> {
+    Ok(RestartFront {
         chosen: None,
         restart,
         opens: 0,
