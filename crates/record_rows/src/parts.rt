@@ -1,6 +1,7 @@
 //! What records are made of in more than one file of rows.
 use host_base::{Bytes, FileRef};
 use record_model::{Attr, Head, OwnForm, RecHead, Sizes};
+use record_writer::{FileRec, WrittenRecord};
 use std::alloc::{AllocError, Global};
 use utf16_name::Units;
 
@@ -95,4 +96,32 @@ pub fn sparse_stream(alloc: Global) -> Result<Attr, AllocError> {
             pairs: Bytes::copy_of(alloc, &PAIRS)?,
         },
     })
+}
+
+/// Data of so many bytes.
+pub fn data_of(alloc: Global, len: usize) -> Result<Attr, AllocError> {
+    let mut value = Vec::new(alloc);
+    value.resize(len, 7)?;
+    Ok(Attr {
+        head: Head {
+            kind: 0x80,
+            flags: 0,
+            id: 1,
+        },
+        name: Units::new(alloc),
+        form: OwnForm::Resident {
+            value: Bytes::from(value),
+            indexed: 0,
+        },
+    })
+}
+
+/// The bytes of a record, none where it has no spelling.
+pub fn written(record: &FileRec) -> Option<[u8; 1024]> {
+    if !record.has_spelling() {
+        return None;
+    }
+    let mut out = [0xff; 1024];
+    record.write(&mut out);
+    Some(out)
 }

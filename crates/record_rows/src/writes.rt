@@ -1,14 +1,12 @@
 //! File records that are written, and attributes that come and go in them.
-use crate::parts::{Edit, ROOT, put, root_head, root_name, sparse_stream};
+use crate::parts::{Edit, ROOT, data_of, put, root_head, root_name, sparse_stream, written};
 use fixup_record::{has_shape, protect, to_body};
-use host_base::Bytes;
-use record_model::{Attr, Head, OwnForm};
+use record_model::Attr;
 use record_writer::{
     FileRec, RoomFault, WrittenRecord, attr_has_spelling, write_attr, written_is_read,
 };
 use std::alloc::{AllocError, Global};
 use std::test::Fail;
-use utf16_name::Units;
 
 // A sparse stream `ab` of ten clusters.
 static SPARSE: [Edit; 7] = [
@@ -33,39 +31,11 @@ static SPARSE: [Edit; 7] = [
     ),
 ];
 
-// Data of so many bytes.
-fn data_of(alloc: Global, len: usize) -> Result<Attr, AllocError> {
-    let mut value = Vec::new(alloc);
-    value.resize(len, 7)?;
-    Ok(Attr {
-        head: Head {
-            kind: 0x80,
-            flags: 0,
-            id: 1,
-        },
-        name: Units::new(alloc),
-        form: OwnForm::Resident {
-            value: Bytes::from(value),
-            indexed: 0,
-        },
-    })
-}
-
 // A record with this one attribute.
 fn record_of(alloc: Global, attr: Attr) -> Result<FileRec, AllocError> {
     let mut record = FileRec::empty(alloc, root_head());
     record.push(attr)?;
     Ok(record)
-}
-
-// The bytes of a record, none where it has no spelling.
-fn written(record: &FileRec) -> Option<[u8; 1024]> {
-    if !record.has_spelling() {
-        return None;
-    }
-    let mut out = [0xff; 1024];
-    record.write(&mut out);
-    Some(out)
 }
 
 // How many attributes and bytes a record has, none where it has no spelling.

@@ -3,3 +3,6 @@ pub mod Pieces
 pub mod Whole
 pub mod Again
 pub mod Rising
+pub mod Filling
+pub mod Staying
+pub mod NormalRoom

@@ -10,18 +10,19 @@ use Rattle.disk_model.proofs.Fields.{length-spell}
 use Rattle.record_model.specs.declared.attribute.OwnForm.{OwnForm}
 use Rattle.record_model.specs.declared.attribute.OwnForm.TheVariants.{Resident, Mapped}
 use Rattle.record_model.specs.declared.attribute.Attr.{Attr}
+use Rattle.record_model.specs.declared.record.RecHead.{RecHead}
 use Rattle.record_model.specs.Attributes.{held_bytes, form_spelling, spelling, FitsForm, FitsAttr}
 use Rattle.record_model.specs.Records.{Record, spelled_bytes, used_of, FitsRecord}
 use Rattle.record_model.proofs.RecordSpelling.{length-spellings}
 use Rattle.record_model.proofs.ResidentSpelling.{length-resident_spelling}
 use Rattle.record_model.proofs.MappedSpelling.{length-mapped_spelling}
-use Rattle.record_writer.specs.Edits.{with_attr_at, used_with, extended, form_length}
+use Rattle.record_writer.specs.Edits.{with_attr_at, used_with, extended, made_of, form_length}
 
 pub held_length : (held : Option ℕ) → 0x40 + length (held_bytes held) ≡ (if is_some held then 0x48 else 0x40)
 held_length None = refl
 held_length (Some held) = omega (arith, length-spell 8 held)
 
-held_short : (held : Option ℕ) → length (held_bytes held) ≤ 8
+pub held_short : (held : Option ℕ) → length (held_bytes held) ≤ 8
 held_short None = omega arith
 held_short (Some held) = omega (arith, length-spell 8 held)
 
@@ -75,6 +76,13 @@ has_room r at used a e below =
     let under : used_with r at a ≤ 1024 = omega arith in
     taken_by (nat_le (used_with r at a) 1024) (used_with r at a) (with_attr_at r at a) (le-leb _ _ under)
 
+-- the same of a list of attributes
+pub made_full : (head : RecHead) (attrs : List Attr) (used : ℕ) → used ≡ used_of attrs → 1024 < used → made_of head attrs ≡ Err used
+made_full head attrs used e above = refused_by (nat_le (used_of attrs) 1024) (used_of attrs) (record { head = head; attrs = attrs }) (lt-leb _ _ (omega arith)) ∙ ap Err (sym e)
+
+pub made_whole : (head : RecHead) (attrs : List Attr) (used : ℕ) → used ≡ used_of attrs → used ≤ 1024 → made_of head attrs ≡ Ok (record { head = head; attrs = attrs })
+made_whole head attrs used e below = taken_by (nat_le (used_of attrs) 1024) (used_of attrs) (record { head = head; attrs = attrs }) (le-leb _ _ (omega arith))
+
 -- ---- what has a spelling is short
 
 form_short : (name flags : ℕ) (form : OwnForm) → name < 256 → FitsForm flags form → form_length name form < 2 ^ 31 + 2 ^ 11
@@ -89,6 +97,10 @@ spelled_most a fits = let e = length-spelling a in let short = form_short (lengt
 
 pub spelled_short : (a : Attr) → FitsAttr a → length (spelling a) < 2 ^ 32
 spelled_short a fits = let most = spelled_most a fits in omega arith
+
+-- a record of one attribute that has a spelling uses bytes that fit 32 bits
+pub one_below : (a : Attr) → FitsAttr a → used_of (a ∷ []) < 2 ^ 32
+one_below a fits = let short = spelled_most a fits in omega arith
 
 -- with an attribute more that has a spelling, a record that has one uses bytes that fit 32 bits
 pub used_with_below : (r : Record) (at : ℕ) (a : Attr) → FitsRecord r → FitsAttr a → used_with r at a < 2 ^ 32

@@ -1,10 +1,11 @@
--- A record with one attribute more, or one less, and the bytes of an attribute's spelling.
-use Rattle.std.specs.Prelude.{ℕ, ◌+◌, ◌*◌, insert, remove, nat_le, length, Result, Ok}
+-- A record with one attribute more, or one less, or of a list of attributes, and the bytes of an attribute's spelling.
+use Rattle.std.specs.Prelude.{ℕ, ◌+◌, ◌*◌, List, insert, remove, nat_le, length, Result, Ok}
 use Rattle.host_base.specs.Answers.{◌>>=◌, needs}
 use Rattle.disk_model.specs.Bytes.{up8}
 use Rattle.record_model.specs.declared.attribute.OwnForm.{OwnForm}
 use Rattle.record_model.specs.declared.attribute.OwnForm.TheVariants.{Resident, Mapped}
 use Rattle.record_model.specs.declared.attribute.Attr.{Attr}
+use Rattle.record_model.specs.declared.record.RecHead.{RecHead}
 use Rattle.record_model.specs.Attributes.{held_bytes}
 use Rattle.record_model.specs.Records.{Record, used_of}
 
@@ -23,6 +24,10 @@ extended r at attr = needs (nat_le (used_with r at attr) 1024) (used_with r at a
 -- the record without the attribute at a place
 abbrev pub without_attr_at : Record → ℕ → Record
 without_attr_at r at = record { head = r.head; attrs = remove r.attrs at }
+
+-- the record of these attributes, or the bytes that it would use where these are above 1,024
+abbrev pub made_of : RecHead → List Attr → Result Record ℕ
+made_of head attrs = needs (nat_le (used_of attrs) 1024) (used_of attrs) >>= λ _. Ok (record { head = head; attrs = attrs })
 
 -- the bytes of an attribute with a header, a name of so many units, and a value or mapping pairs of so many bytes
 abbrev pub whole_length : ℕ → ℕ → ℕ → ℕ

@@ -7,7 +7,7 @@ use std::alloc::{AllocError, Global};
 use utf16_name::Units;
 
 // A copy of the form, in memory linear in its bytes.
-fn copy_form(alloc: Global, form: &OwnForm) -> Result<OwnForm, AllocError>
+pub fn copy_form(alloc: Global, form: &OwnForm) -> Result<OwnForm, AllocError>
     ensures value { IfOk result (λ f. f ≡ form.now) }
 {
     match form {

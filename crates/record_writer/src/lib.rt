@@ -1,5 +1,6 @@
 //! File records of an NTFS volume as they are written: a record has one spelling in 1,024 bytes,
-//! and takes attributes at a place, or gives them up, as long as it has room.
+//! is made of a list of attributes, takes attributes at a place, or gives them up, as long as it
+//! has room. An attribute that was read is made normal before it is written.
 //!
 //! The contract: what is written is the canonical spelling of the record, which is read again as
 //! that record; an attribute more is refused exactly where there is no room for it. The layouts are
@@ -11,6 +12,7 @@ mod copying;
 mod fault;
 mod laws;
 mod lengths;
+mod normal;
 mod putting;
 mod spelled;
 mod written;
@@ -18,7 +20,10 @@ mod written;
 pub use attrs::write_attr;
 pub use fault::RoomFault;
 pub use file_record::FileRec;
-pub use laws::written_is_read;
+pub use laws::{
+    filled_pairs_are_read, normal_has_spelling, normal_stands_for_same, written_is_read,
+};
+pub use normal::normal_attr;
 pub use record_model::{Attr, OwnForm, RecHead};
 pub use spelled::attr_has_spelling;
 pub use written::WrittenRecord;

@@ -5,14 +5,8 @@ ghost use Rattle.record_model.specs.Records.{used_of, TypesRise, FitsHead};
 ghost use Rattle.record_writer.specs.Fitting.{FitsPlace, rise_from};
 
 use crate::lengths::spelled_length;
-use record_model::{Attr, OwnForm, RecHead, Sizes};
+use record_model::{Attr, END_MARK, FILE_NAME, OwnForm, RecHead, STANDARD_INFORMATION, Sizes};
 use std_values::is_file_name;
-
-const STANDARD_INFORMATION: u32 = 0x10;
-
-const FILE_NAME: u32 = 0x30;
-
-const END_MARK: u32 = 0xffff_ffff;
 
 // A file has a number below this one.
 const NUMBERS: u64 = 0x1_0000_0000_0000;

@@ -4,7 +4,7 @@ ghost use Rattle.disk_model.specs.Bytes.{written};
 ghost use Rattle.record_model.specs.Attributes.{FitsAttr};
 ghost use Rattle.record_model.specs.Records.{Record, used_of, head_spelling, record_spelling, IsFileRecord, FitsHead, FitsRecord};
 ghost use Rattle.record_writer.specs.Faults.{room_cause};
-ghost use Rattle.record_writer.specs.Edits.{extended, without_attr_at};
+ghost use Rattle.record_writer.specs.Edits.{extended, made_of, without_attr_at};
 
 use crate::attrs::put_attrs;
 use crate::copying::{push_copies, push_copy};
@@ -15,10 +15,8 @@ use crate::spelled::{each_fits, fits_head, have_room, types_rise};
 use disk_model::{put_bytes, put_u16, put_u32, put_u64};
 use file_record::FileRec;
 use host_base::Memory;
-use record_model::{Attr, RecHead};
+use record_model::{Attr, END_MARK, RecHead};
 use std::alloc::{AllocError, Global};
-
-const END_MARK: u32 = 0xffff_ffff;
 
 // The bytes of a record.
 const RECORD_BYTES: u32 = 1024;
@@ -69,6 +67,15 @@ pub trait WrittenRecord: Sized {
         requires spelled { FitsAttr attr.now }
         ensures value { Gives seen room_cause result (extended (seen self.now) at attr.now) };
 
+    /// A record with these header fields and copies of these attributes, in their order. It takes
+    /// time and memory linear in the attributes, which are copied once, and none where it refuses.
+    ///
+    /// - [`RoomFault::Full`]: it would use these bytes, which are above 1,024.
+    /// - [`RoomFault::Memory`]: want of memory.
+    fn with_attrs(alloc: Global, head: RecHead, attrs: &[Attr]) -> Result<Self, RoomFault>
+        requires { used_of attrs.now < 2 ^ 32 }
+        ensures value { Gives seen room_cause result (made_of head attrs.now) };
+
     /// The record without the attribute at a place. The error is want of memory. It takes time and
     /// memory linear in the record, and leaves the record from before.
     fn without_attr(&self, alloc: Global, at: u32) -> Result<Self, Memory>
@@ -113,6 +120,23 @@ fn put_record(out: &mut [u8], file: &FileRec, used: u32)
     put_zeros(out, end + 8, 1024 - used as usize);
 }
 
+// How many bytes a record with these attributes uses.
+fn used_by(attrs: &[Attr]) -> u32
+    requires { used_of attrs.now < 2 ^ 32 }
+    ensures { result ≡ used_of attrs.now }
+{
+    (FIRST_ATTRIBUTE + spelled_bytes(attrs) + 8) as u32
+}
+
+// The record with these header fields and copies of these attributes.
+fn copied(alloc: Global, head: RecHead, attrs: &[Attr]) -> Result<FileRec, AllocError>
+    ensures { IfOk result (λ r. r ≡ record { head = head; attrs = attrs.now }) }
+{
+    let mut new = FileRec::empty(alloc, head);
+    push_copies(alloc, attrs, &mut new)?;
+    Ok(new)
+}
+
 // The record with a copy of the attribute at a place.
 fn inserted(alloc: Global, file: &FileRec, at: usize, attr: &Attr) -> Result<FileRec, AllocError>
     requires { at ≤ length file.now.attrs }
@@ -142,7 +166,7 @@ impl WrittenRecord for FileRec {
     ghost seen = { λ r. r };
 
     fn used(&self) -> u32 {
-        (FIRST_ATTRIBUTE + spelled_bytes(self.attrs().as_slice()) + 8) as u32
+        used_by(self.attrs().as_slice())
     }
 
     fn has_spelling(&self) -> bool {
@@ -161,6 +185,14 @@ impl WrittenRecord for FileRec {
             return Err(RoomFault::Full { used });
         }
         Ok(inserted(alloc, self, at as usize, attr)?)
+    }
+
+    fn with_attrs(alloc: Global, head: RecHead, attrs: &[Attr]) -> Result<Self, RoomFault> {
+        let whole = used_by(attrs);
+        if whole > RECORD_BYTES {
+            return Err(RoomFault::Full { used: whole });
+        }
+        Ok(copied(alloc, head, attrs)?)
     }
 
     fn without_attr(&self, alloc: Global, at: u32) -> Result<Self, Memory> {
