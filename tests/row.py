@@ -6,8 +6,8 @@ IMAGE = object()
 
 # The image's bytes; None for the image as the row before left it, or a function from those bytes. The words behind the program's name; the
 # statuses that are right; the text, or a function that judges it; what is read from the standard input; a function that judges the bytes of
-# the image that is left, or None; the standard stream that is closed, by its number, or None.
-Row = namedtuple("Row", "image words statuses text script left closed", defaults=(b"", None, None))
+# the image that is left, or None; the standard stream that is closed, by its number, or None; whether the image is given as a block device.
+Row = namedtuple("Row", "image words statuses text script left closed device", defaults=(b"", None, None, False))
 
 USAGE = "usage: ntfshost IMAGE COMMAND [--time N] [--seed N] [--journal N]\n"
 TINY_TEXT = "0 1 5 5 $MFT\n2 2 5 5 $LogFile\n5 5 5 5 .\nlinks 3\n"

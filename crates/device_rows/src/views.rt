@@ -2,7 +2,7 @@
 ghost use Rattle.std.specs.Prelude.{◌≡◌, ◌+◌, ◌*◌, ◌≤◌, IfOk, length};
 
 use block_view::{View, ViewFault};
-use device_view::{DeviceView, piece_room};
+use device_view::{DeviceView, ReadAhead, piece_room};
 use disk_model::{Block, BlockKind, Body};
 use sector_device::{Device, MemoryDevice};
 use std::alloc::{AllocError, Global};
@@ -155,5 +155,24 @@ fn blocks_are_read_in_pieces(rt: HostRuntime) -> Result<(), Fail> {
         let wrong = first_wrong(rt.alloc(), list.0, list.1, list.2)?;
         assert_eq!(rt; wrong, None, "list {number}");
     }
+    Ok(())
+}
+
+#[test]
+fn what_an_owner_writes_is_read(rt: HostRuntime) -> Result<(), Fail> {
+    let mut device = disk(rt.alloc(), &[])?;
+    let mut room = piece_room(rt.alloc())?;
+    let mut body = Body::empty(rt.alloc())?;
+    let mut ahead = ReadAhead::empty();
+    let last = block(131, BlockKind::Plain);
+    ahead.body(&mut room, &mut device, last, &mut body)?;
+    assert_eq!(rt; body.bytes().first().copied(), Some(9));
+    if device.sectors() != 132 {
+        return Err("another size".into());
+    }
+    ahead.write(&mut device, 131, &[7; 512])?;
+    ahead.body(&mut room, &mut device, last, &mut body)?;
+    assert_eq!(rt; body.bytes().first().copied(), Some(7));
+    assert_eq!(rt; (device.moment(), device.faults()), (6, 0));
     Ok(())
 }
