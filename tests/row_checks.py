@@ -183,11 +183,19 @@ def with_pieces(*pieces):
     return with_records(WHOLE, (25, 1, IN_USE, [information(), named(1, 5, BOTH, "f"), *pieces]))
 
 
+def empty_piece(number):
+    """A piece of data of no clusters, at VCN 0, with the sizes of one cluster."""
+    return changed(piece(number, 0, [0]), (0x18, b"\xff" * 8))
+
+
 def streams_break_rule_4():
-    """A VCN is left out; a piece stands twice; clusters past the volume; a sparse bitmap; a torn mirror."""
+    """A VCN is left out; a piece stands twice; an empty piece before a whole one, and behind it; clusters past the volume; a sparse bitmap; a
+    torn mirror."""
     for vcn in [0, 2]:
         image = with_pieces(piece(2, 0, [0x11, 1, 96, 0]), piece(3, vcn, [0x11, 1, 95, 0]))
         yield from breaks(image, 4, 25)
+    yield from breaks(with_pieces(empty_piece(2), piece(3, 0, [0x11, 1, 96, 0])), 4, 25)
+    yield from breaks(with_pieces(piece(2, 0, [0x11, 1, 96, 0]), empty_piece(3)), 4, 25)
     yield from breaks(with_pieces(mapped(2, 2, bytes([0x11, 2, 127, 0])), b""), 4, 25)
     yield from breaks(with_records(WHOLE, (6, 6, IN_USE, [piece(0, 0, [0x01, 1, 0])])), 4, 6)
     mirror = changed(WHOLE, (104 * 512, WHOLE[4096:8192]), (105 * 512 + 510, b"\x09"))

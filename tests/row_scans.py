@@ -1,4 +1,6 @@
 # Rows of scans: of the tiny image, of images that differ from it, and of other words.
+import struct
+
 from images import BOTH, DIRECTORY, DOS, IN_USE, PLAIN, RECORD, TABLE, TINY, WIN32, changed, list_entry, mapped, named, plain, with_records
 from row import IMAGE, TINY_TEXT, USAGE, Row, done, refused, run
 from tiny_image import record
@@ -231,6 +233,24 @@ def logs_and_tables_are_answered():
         yield run(image, b"", 3, of_run)
 
 
+def log_of(first, clusters, pairs):
+    """Record 2, whose data has so many clusters from this VCN on, 8,192 bytes and these pairs; VCNs have 64 bits."""
+    log = mapped(1, clusters, pairs)
+    log = changed(log, (0x10, struct.pack("<QQ", first, (first + clusters - 1) % 2**64)), (0x30, struct.pack("<QQ", 8192, 8192)))
+    return with_records(TINY, (2, 2, IN_USE, [named(0, 5, BOTH, "$LogFile"), log]))
+
+
+def the_log_lies_where_its_vcns_say():
+    """The log begins at VCN 0, wherever its run stands in the list, and all FF are clusters 40 to 55 alone. A first run has the VCNs 2^64 - 4 to
+    2^64 - 1, and those after it the VCNs from 0 on; or the only run begins at VCN 16."""
+    wrapped = bytes([0x11, 4, 2, 0x11, 16, 38, 0])
+    yield done("scan", log_of(2**64 - 4, 20, wrapped), TINY_TEXT)
+    yield run(log_of(2**64 - 4, 20, wrapped), b"", 3, "refused 17 Unbuilt 3\n")
+    yield refused("scan", log_of(2**64 - 4, 20, bytes([0x11, 4, 40, 0x11, 16, 0x100 - 38, 0])), "11 NoRestart")
+    yield refused("scan", log_of(16, 16, bytes([0x11, 16, 40, 0])), "11 NoRestart")
+    yield done("scan", log_of(2**64 - 4, 21, bytes([0x11, 4, 2, 0x11, 8, 38, 0x11, 9, 8, 0])), TINY_TEXT)
+
+
 def the_file_table_is_refused():
     """Record 0 with other attributes after its name, and what answers them. The table has 16 records in 32 clusters; its sizes stand at 28, 30
     and 38 (hexadecimal) of its data. An attribute list comes before the number of records, and that before mapping pairs whose clusters aren't
@@ -300,6 +320,7 @@ TABLES = [
     attributes_of_the_root_are_judged,
     lists_and_clusters_are_not_handled_by_a_run,
     logs_and_tables_are_answered,
+    the_log_lies_where_its_vcns_say,
     the_file_table_is_refused,
     names_of_other_records_are_printed,
     any_byte_of_a_record_is_answered,

@@ -9,7 +9,7 @@ use Rattle.record_model.specs.declared.attribute.OwnForm.{OwnForm}
 use Rattle.record_model.specs.declared.attribute.OwnForm.TheVariants.{Resident, Mapped}
 use Rattle.record_model.specs.declared.attribute.Attr.{Attr}
 use Rattle.record_model.specs.Records.{Record}
-use Rattle.state_model.specs.Streams.{form_runs, piece_runs, form_stream, joined}
+use Rattle.state_model.specs.Streams.{form_runs, attribute_runs, form_stream, joined}
 use Rattle.stream_map.specs.Runs.{IsSmall, AreSmall, HasSmallRuns}
 use Rattle.stream_map.proofs.SmallRuns.{small_answer}
 use Rattle.volume_model.specs.Owners.{file_runs}
@@ -25,9 +25,9 @@ runs_more {X} runs_of items i x runs after all lt is pushed so_far =
     ∙ sym (ap (λ (l : List X). runs ++ flat_map runs_of l) here)
     ∙ so_far
 
-pub attr_more : (attrs : List Attr) (i : ℕ) (a : Attr) (runs after all : List Run) → i < length attrs → a ≡ get_or attrs i a → after ≡ runs ++ form_runs a.form → runs ++ flat_map piece_runs (drop i attrs) ≡ all → after ++ flat_map piece_runs (drop (i + 1) attrs) ≡ all
-unfolding piece_runs
-attr_more attrs i a runs after all lt is pushed so_far = runs_more piece_runs attrs i a runs after all lt is pushed so_far
+pub attr_more : (attrs : List Attr) (i : ℕ) (a : Attr) (runs after all : List Run) → i < length attrs → a ≡ get_or attrs i a → after ≡ runs ++ form_runs a.form → runs ++ flat_map attribute_runs (drop i attrs) ≡ all → after ++ flat_map attribute_runs (drop (i + 1) attrs) ≡ all
+unfolding attribute_runs
+attr_more attrs i a runs after all lt is pushed so_far = runs_more attribute_runs attrs i a runs after all lt is pushed so_far
 
 -- ---- the runs are small
 
@@ -35,13 +35,13 @@ small_form : (a : Attr) (form : OwnForm) → a.form ≡ form → HasSmallRuns (f
 small_form a (Resident value indexed) is small = All-nil IsSmall
 small_form a (Mapped sizes pairs) is small = subst AreSmall (append-nil (form_runs (Mapped sizes pairs))) small
 
-small_piece : (a : Attr) → AreSmall (piece_runs a)
-unfolding piece_runs
+small_piece : (a : Attr) → AreSmall (attribute_runs a)
+unfolding attribute_runs
 small_piece a = small_form a a.form refl (small_answer {E = ℕ} (a ∷ []) (Ok (joined (a ∷ []))) refl)
 
-small_pieces : (attrs : List Attr) → AreSmall (flat_map piece_runs attrs)
+small_pieces : (attrs : List Attr) → AreSmall (flat_map attribute_runs attrs)
 small_pieces [] = All-nil IsSmall
-small_pieces (a ∷ attrs) = All-append IsSmall (piece_runs a) (flat_map piece_runs attrs) (small_piece a) (small_pieces attrs)
+small_pieces (a ∷ attrs) = All-append IsSmall (attribute_runs a) (flat_map attribute_runs attrs) (small_piece a) (small_pieces attrs)
 
 small_file : (file : Option Record) → AreSmall (file_runs file)
 small_file None = All-nil IsSmall

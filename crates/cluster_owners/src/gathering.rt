@@ -2,7 +2,7 @@
 ghost use Rattle.std.specs.Prelude.{◌≡◌, ◌++◌, IfOk, OnOk};
 ghost use Rattle.record_model.specs.Pairs.{runs_of};
 ghost use Rattle.std.specs.List.{flat_map};
-ghost use Rattle.state_model.specs.Streams.{runs_or, form_runs, piece_runs};
+ghost use Rattle.state_model.specs.Streams.{runs_or, form_runs, attribute_runs};
 ghost use Rattle.stream_map.specs.Runs.{AreSmall};
 ghost use Rattle.volume_model.specs.Owners.{file_runs, volume_runs};
 
@@ -38,7 +38,7 @@ fn push_form(alloc: Global, out: &mut Vec<Run>, form: &OwnForm) -> Result<(), Me
 }
 
 fn push_attrs(alloc: Global, out: &mut Vec<Run>, attrs: &[Attr]) -> Result<(), Memory>
-    ensures { OnOk result (out.new.items ≡ out.old.items ++ flat_map piece_runs attrs.now) }
+    ensures { OnOk result (out.new.items ≡ out.old.items ++ flat_map attribute_runs attrs.now) }
 {
     for attr in attrs {
         push_form(alloc, out, &attr.form)?;

@@ -5,7 +5,7 @@ use Rattle.host_base.specs.Answers.{GivesOrFails}
 use Rattle.host_base.proofs.Known.{one, always}
 use Rattle.disk_model.specs.Content.{Content}
 use Rattle.record_model.specs.Records.{Record}
-use Rattle.tree_model.specs.declared.link.Link.{Link}
+use Rattle.file_tree.specs.declared.link.Link.{Link}
 use Rattle.index_model.specs.Walks.{walk_of}
 use Rattle.index_tree.specs.declared.place.DirPlace.{DirPlace}
 use Rattle.index_tree.specs.Places.{place_of}

@@ -17,10 +17,10 @@ use crate::fault::IndexFault;
 use crate::holding::index_links;
 use block_view::View;
 use file_record::FileRec;
+use file_tree::LinkList;
 use host_base::FileRef;
 use record_rules::{file_at, is_directory_record, is_index};
 use std::alloc::Global;
-use tree_model::LinkList;
 use upcase_order::Upcase;
 
 // Whether these are the names of the directory, in order.

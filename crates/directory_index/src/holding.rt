@@ -13,9 +13,9 @@ use crate::fault::IndexFault;
 use crate::placing::index_place;
 use block_view::{View, ViewFault};
 use file_record::FileRec;
+use file_tree::LinkList;
 use index_tree::{DirPlace, TreeFault, walk};
 use std::alloc::Global;
-use tree_model::LinkList;
 use upcase_order::Upcase;
 
 // What a walk over an index comes to: its links, or none where a node is at fault.

@@ -7,19 +7,12 @@ ghost use Rattle.volume_model.specs.Indexes.{form_value, root_value, index_strea
 
 use file_record::FileRec;
 use host_base::{Bytes, Memory};
-use record_model::{Attr, OwnForm};
+use record_model::{Attr, INDEX_ALLOCATION, INDEX_ROOT, NAMES_INDEX, OwnForm};
 use state_model::Stream;
 use std::alloc::Global;
 use stream_map::stream_of;
 
-const INDEX_ROOT: u32 = 0x90;
-
-const INDEX_ALLOCATION: u32 = 0xA0;
-
-// `$I30`, the name of the index of file names.
-static NAMES_INDEX: [u16; 4] = [0x24, 0x49, 0x33, 0x30];
-
-#[tactic(auto, unfolding(state_model::specs::Indexes::is_names_root, state_model::specs::Indexes::names_index))]
+#[tactic(auto, unfolding(state_model::specs::Indexes::is_names_root))]
 fn is_names_root(attr: &Attr) -> bool
     ensures { result ≡ is_names_root attr.now }
 {
@@ -57,7 +50,7 @@ pub fn root_value(file: &FileRec) -> Option<&Bytes>
 /// The stream of a directory's index blocks (Linux-NTFS documentation, "$INDEX_ALLOCATION"), if
 /// there is one. The error is want of memory. It takes time and memory linear in the attributes and
 /// runs where the pieces of the stream stand in order.
-#[tactic(auto, unfolding(volume_model::specs::Indexes::index_stream, state_model::specs::Indexes::names_index))]
+#[tactic(auto, unfolding(volume_model::specs::Indexes::index_stream))]
 pub fn index_stream(alloc: Global, file: &FileRec) -> Result<Option<Stream>, Memory>
     ensures value { IfOk result (λ stream. stream ≡ index_stream file.now) }
     ensures small { IfOk result (λ stream. IfSome stream HasSmallRuns) }

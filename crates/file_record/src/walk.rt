@@ -9,21 +9,12 @@ ghost use Rattle.file_record.specs.Walks.{length_at, nothing_found, with_attr, w
 use crate::fault::RecFault;
 use attr_codec::{AttrFault, AttrRef, Form, read};
 use disk_model::u32_at;
-use record_model::{AttrList, StdInfo};
+use record_model::{AttrList, END_MARK, FILE_NAME, MOST_ATTRIBUTES, STANDARD_INFORMATION, StdInfo};
 use std::alloc::{AllocError, Global};
 use std_values::{FixedValue, is_file_name};
 
-const END_MARK: u32 = 0xffff_ffff;
-
-const STANDARD_INFORMATION: u32 = 0x10;
-
-const FILE_NAME: u32 = 0x30;
-
 // The rule that an attribute's length breaks.
 const LENGTH_RULE: u32 = 3;
-
-// An attribute has at least 0x18 bytes: 1,024 bytes have at most 42, and the end mark.
-const MOST_ATTRIBUTES: u32 = 43;
 
 /// The attributes of a record, and whether each value is lawful.
 #[derive(Drop)]

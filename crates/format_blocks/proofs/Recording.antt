@@ -10,19 +10,20 @@ use Rattle.disk_model.proofs.Fields.{length-spell}
 use Rattle.record_model.specs.declared.attribute.Attr.{Attr}
 use Rattle.record_model.specs.declared.entry.Entry.{Entry}
 use Rattle.record_model.specs.Attributes.{FitsAttr}
-use Rattle.record_model.specs.Nodes.{entry_length, node_used, children_of, down_flag, FitsLast}
-use Rattle.record_model.specs.Values.{data_type, has_lawful_value}
+use Rattle.record_model.specs.Nodes.{entry_length, node_used, children_of, down_flag, FitsLast, last_entry}
+use Rattle.record_model.specs.Values.{has_lawful_value}
 use Rattle.record_model.specs.StdValues.{volume_info_over}
 use Rattle.record_model.specs.Records.{Record, spelled_bytes, FitsHead, FitsRecord}
 use Rattle.record_model.proofs.FixedValues.{length-volume_info_over}
 use Rattle.record_model.proofs.UnitBytes.{length-zeros}
+use Rattle.record_model.specs.Constants.{data_type, index_root, index_allocation, bitmap_type, names_index, volume_name, volume_information}
 use Rattle.record_writer.specs.Fitting.{rise_from}
 use Rattle.record_writer.proofs.Rising.{rise_true}
 use Rattle.index_root.specs.Roots.{root_spelling, HaveSpelling}
 use Rattle.index_root.proofs.Spelled.{root_law}
 use Rattle.volume_format.specs.declared.layout.Layout.{Layout}
 use Rattle.volume_format.specs.Layouts.{IsLayout, block_first, cluster_bits_bytes}
-use Rattle.volume_format.specs.Files.{index_root, index_allocation, bitmap, index_name, bad_name, volume_name, volume_information, last_entry, resident, mapped, standard, named, system_attrs, system_data, other_streams, volume_streams, root_streams, extend_streams, system_record, reserved_record, spare_record, in_clusters, head_of, sequence, is_directory, record_of}
+use Rattle.volume_format.specs.Files.{bad_name, resident, mapped, standard, named, system_attrs, system_data, other_streams, volume_streams, root_streams, extend_streams, system_record, reserved_record, spare_record, in_clusters, head_of, sequence, is_directory, record_of}
 use Rattle.format_blocks.proofs.Naming.{of_twelve}
 use Rattle.format_blocks.proofs.Fitting.{Fits, fits_resident, fits_standard, fits_named, fits_mapped}
 
@@ -102,7 +103,7 @@ length-extend = root_law.size 1 (last_entry None ∷ []) extend_fits
 length-info : length (volume_info_over (record { major = 3; minor = 1; flags = 0 }) (zeros 0x0C)) ≡ 12
 length-info = length-volume_info_over (record { major = 3; minor = 1; flags = 0 }) (zeros 0x0C) ∙ length-zeros 0x0C
 
-index_units : AllByRecursion (λ unit. unit < 2 ^ 16) index_name
+index_units : AllByRecursion (λ unit. unit < 2 ^ 16) names_index
 index_units = (omega arith, (omega arith, (omega arith, (omega arith, tt))))
 
 bad_units : AllByRecursion (λ unit. unit < 2 ^ 16) bad_name
@@ -148,9 +149,9 @@ module _ (v : Layout) (layout : IsLayout v) (time : ℕ) (small : time < 2 ^ 64)
   unfolding has_lawful_value
   empty_fits = fits_resident 2 data_type 0 [] [] (omega arith) (omega arith) (omega arith) tt (omega arith) (omega arith) refl
 
-  bits_fit : Fits 104 (in_clusters 3 bitmap [] 3 1 8)
+  bits_fit : Fits 104 (in_clusters 3 bitmap_type [] 3 1 8)
   unfolding has_lawful_value
-  bits_fit = fits_mapped 3 bitmap [] (Some 3) 1 8 8 (omega arith) (omega arith) (omega arith) tt (omega arith) (omega arith) (omega arith) refl
+  bits_fit = fits_mapped 3 bitmap_type [] (Some 3) 1 8 8 (omega arith) (omega arith) (omega arith) tt (omega arith) (omega arith) (omega arith) refl
 
   label_fits : Fits 39 (resident 2 volume_name [] [])
   unfolding has_lawful_value
@@ -160,25 +161,25 @@ module _ (v : Layout) (layout : IsLayout v) (time : ℕ) (small : time < 2 ^ 64)
   unfolding has_lawful_value
   info_fits = fits_resident 3 volume_information 12 [] (volume_info_over (record { major = 3; minor = 1; flags = 0 }) (zeros 0x0C)) (omega arith) (omega arith) (omega arith) tt (omega (arith, length-info)) (omega arith) refl
 
-  root_fits_place : Fits 95 (resident 2 index_root index_name (root_spelling 1 (last_entry (Some 0) ∷ [])))
+  root_fits_place : Fits 95 (resident 2 index_root names_index (root_spelling 1 (last_entry (Some 0) ∷ [])))
   unfolding has_lawful_value
-  root_fits_place = fits_resident 2 index_root 56 index_name (root_spelling 1 (last_entry (Some 0) ∷ [])) (omega arith) (omega arith) (omega arith) index_units (omega (arith, length-root)) (omega arith) refl
+  root_fits_place = fits_resident 2 index_root 56 names_index (root_spelling 1 (last_entry (Some 0) ∷ [])) (omega arith) (omega arith) (omega arith) index_units (omega (arith, length-root)) (omega arith) refl
 
-  block_fits : Fits 104 (in_clusters 3 index_allocation index_name (block_first v) 1 4096)
+  block_fits : Fits 104 (in_clusters 3 index_allocation names_index (block_first v) 1 4096)
   unfolding has_lawful_value
-  block_fits = fits_mapped 3 index_allocation index_name (Some (block_first v)) 1 4096 4096 (omega arith) (omega arith) (omega arith) index_units (omega arith) (omega arith) (omega arith) refl
+  block_fits = fits_mapped 3 index_allocation names_index (Some (block_first v)) 1 4096 4096 (omega arith) (omega arith) (omega arith) index_units (omega arith) (omega arith) (omega arith) refl
 
-  block_bit_fits : Fits 47 (resident 4 bitmap index_name (spell 8 1))
+  block_bit_fits : Fits 47 (resident 4 bitmap_type names_index (spell 8 1))
   unfolding has_lawful_value
-  block_bit_fits = fits_resident 4 bitmap 8 index_name (spell 8 1) (omega arith) (omega arith) (omega arith) index_units (omega (arith, length-spell 8 1)) (omega arith) refl
+  block_bit_fits = fits_resident 4 bitmap_type 8 names_index (spell 8 1) (omega arith) (omega arith) (omega arith) index_units (omega (arith, length-spell 8 1)) (omega arith) refl
 
   bad_fits : Fits 104 (mapped 2 data_type bad_name None v.clusters (4096 * v.clusters) 0)
   unfolding has_lawful_value
   bad_fits = fits_mapped 2 data_type bad_name None v.clusters (4096 * v.clusters) 0 (omega arith) (omega arith) (omega arith) bad_units (omega (arith, layout.small)) (omega (arith, layout.small)) (omega arith) refl
 
-  extend_fits_place : Fits 87 (resident 2 index_root index_name (root_spelling 1 (last_entry None ∷ [])))
+  extend_fits_place : Fits 87 (resident 2 index_root names_index (root_spelling 1 (last_entry None ∷ [])))
   unfolding has_lawful_value
-  extend_fits_place = fits_resident 2 index_root 48 index_name (root_spelling 1 (last_entry None ∷ [])) (omega arith) (omega arith) (omega arith) index_units (omega (arith, length-extend)) (omega arith) refl
+  extend_fits_place = fits_resident 2 index_root 48 names_index (root_spelling 1 (last_entry None ∷ [])) (omega arith) (omega arith) (omega arith) index_units (omega (arith, length-extend)) (omega arith) refl
 
   -- with standard information and a name
   both : (n : ℕ) (sizes : List ℕ) (attrs : List Attr) → n < 12 → FitEach sizes attrs → FitEach (111 ∷ 127 ∷ sizes) (standard time ∷ named v time n ∷ attrs)

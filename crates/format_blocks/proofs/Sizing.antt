@@ -9,7 +9,7 @@ use Rattle.std.proofs.lemmas.List.Sums.{sum_by-cons}
 use Rattle.disk_model.specs.Bytes.{zeros, part}
 use Rattle.fixup_record.proofs.Protected.{length-protected}
 use Rattle.record_model.specs.declared.entry.Entry.{Entry}
-use Rattle.record_model.specs.Nodes.{node_spelling, entry_length, entries_length, node_used, down_flag, children_of, FitEntries, FitsEntry, FitsNode}
+use Rattle.record_model.specs.Nodes.{node_spelling, entry_length, entries_length, node_used, down_flag, children_of, FitEntries, FitsEntry, FitsNode, last_entry}
 use Rattle.record_model.specs.Records.{record_spelling}
 use Rattle.record_model.proofs.RecordSpelling.{length-record_spelling}
 use Rattle.record_model.proofs.NodeSpelling.{length-node_spelling}
@@ -20,7 +20,7 @@ use Rattle.upcase_order.specs.Tables.{standard_table}
 use Rattle.upcase_order.proofs.Units.{length-standard_units, standard_table-is}
 use Rattle.volume_format.specs.declared.layout.Layout.{Layout}
 use Rattle.volume_format.specs.Layouts.{IsLayout}
-use Rattle.volume_format.specs.Files.{last_entry, first_check, record_of, record_bytes, table_bytes}
+use Rattle.volume_format.specs.Files.{first_check, record_of, record_bytes, table_bytes}
 use Rattle.volume_format.specs.Indexes.{entry_of, root_entries, root_node, block_bytes}
 use Rattle.volume_format.specs.Images.{boot_of, boot_bytes, record_bits, cluster_bits, cluster_bits_byte, log_bytes, upper_case_bytes}
 use Rattle.format_blocks.proofs.Naming.{length-name_value, name_lawful, name_short}

@@ -14,8 +14,9 @@ use Rattle.bit_set.proofs.Views.{bit-bits_of_bytes}
 use Rattle.state_model.specs.declared.stream.Stream.{Stream}
 use Rattle.state_model.specs.declared.stream.Stream.TheVariants.{Placed}
 use Rattle.state_model.specs.Streams.{extent_bytes}
+use Rattle.record_model.specs.Constants.{bitmap_type}
 use Rattle.state_model.specs.Loads.{data_stream}
-use Rattle.volume_model.specs.Volumes.{file_stream, bytes_or, count_of, cluster_bitmap, record_bitmap, bitmap_type, cluster_bits, record_bits}
+use Rattle.volume_model.specs.Volumes.{file_stream, bytes_or, count_of, cluster_bitmap, record_bitmap, cluster_bits, record_bits}
 use Rattle.volume_model.specs.Nodes.{free_clusters}
 use Rattle.volume_format.specs.declared.layout.Layout.{Layout}
 use Rattle.volume_format.specs.Layouts.{IsLayout, used_clusters, room, cluster_bits_first, cluster_bits_bytes}

@@ -6,7 +6,7 @@ use Rattle.std.proofs.lemmas.Bool.{cases_lt, lt-ltb, le-ltb}
 use Rattle.std.proofs.lemmas.List.FromFn.{length-map-range_with_len}
 use Rattle.record_model.specs.Records.{Record}
 use Rattle.record_model.specs.StdValues.{file_name_of}
-use Rattle.tree_model.specs.declared.link.Link.{Link}
+use Rattle.file_tree.specs.declared.link.Link.{Link}
 use Rattle.state_model.specs.Files.{Table, only_base, file_at, is_directory_record, named, attr_link, record_links, links_of, links_at}
 use Rattle.state_model.specs.Trees.{parent_at, at_some, leads, first_parent}
 use Rattle.state_model.specs.Rules.{has_partner, is_only_short, keeps_names, at_file, keeps_1, is_directory_with, is_directory_at, keeps_2, implies, keeps_8, first_failing}

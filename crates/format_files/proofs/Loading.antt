@@ -6,10 +6,10 @@ use Rattle.host_base.specs.Answers.{◌>>=◌, needs}
 use Rattle.record_model.specs.Records.{Record, record_at, shaped_at, has_lawful_values}
 use Rattle.record_model.proofs.Answering.{steps_from_ok, needs_from_ok}
 use Rattle.record_model.proofs.Shapes.{is_shaped}
+use Rattle.record_model.specs.Constants.{names_index, index_allocation}
 use Rattle.state_model.specs.Files.{is_base_record, is_directory_record}
-use Rattle.state_model.specs.Indexes.{names_index}
-use Rattle.state_model.specs.Streams.{is_piece_of, pieces_of, stream_of, has_cut_block}
-use Rattle.state_model.specs.Loads.{Free, Used, piece_in, is_used, piece_by, whole_record, has_all_pairs, list_stream, has_cut_index_block, index_allocation}
+use Rattle.state_model.specs.Streams.{is_attribute_of, attributes_of, stream_of, has_cut_block}
+use Rattle.state_model.specs.Loads.{Free, Used, slot_in, is_used, slot_by, whole_record, has_all_pairs, list_stream, has_cut_index_block}
 use Rattle.volume_format.specs.declared.layout.Layout.{Layout}
 use Rattle.volume_format.specs.Layouts.{IsLayout}
 use Rattle.volume_format.specs.Files.{is_directory, standard, named, system_attrs, system_data, other_streams, volume_streams, root_streams, extend_streams, system_record, reserved_record, spare_record, record_of}
@@ -54,11 +54,11 @@ whole_is body r read pairs =
     ∙ passes (has_all_pairs r) 7 (needs (has_lawful_values r) 8 >>= λ _. Ok r) pairs
     ∙ passes (has_lawful_values r) 8 (Ok r) shape.1
 
-pub used_piece : (read : List ℕ → Result Record ℕ) (body : List ℕ) (r : Record) → is_used body ≡ true → read body ≡ Ok r → piece_by read (whole body) ≡ Used r
-used_piece read body r used is = ap (λ (b : Bool). cond b (piece_in (read body)) Free) used ∙ ap piece_in is
+pub used_slot : (read : List ℕ → Result Record ℕ) (body : List ℕ) (r : Record) → is_used body ≡ true → read body ≡ Ok r → slot_by read (whole body) ≡ Used r
+used_slot read body r used is = ap (λ (b : Bool). cond b (slot_in (read body)) Free) used ∙ ap slot_in is
 
-pub free_piece : (read : List ℕ → Result Record ℕ) (body : List ℕ) → is_used body ≡ false → piece_by read (whole body) ≡ Free
-free_piece read body used = ap (λ (b : Bool). cond b (piece_in (read body)) Free) used
+pub free_slot : (read : List ℕ → Result Record ℕ) (body : List ℕ) → is_used body ≡ false → slot_by read (whole body) ≡ Free
+free_slot read body used = ap (λ (b : Bool). cond b (slot_in (read body)) Free) used
 
 -- ---- which record has a number
 
@@ -101,7 +101,7 @@ unfolding system_record reserved_record
 is_base v time n lt = of_files (λ (r : Record). is_base_record r ≡ true) v time (λ k low. refl) (λ k low high. refl) n lt
 
 pub no_list : (v : Layout) (time n : ℕ) → n < 16 → list_stream (record_of v time n) ≡ None
-unfolding list_stream stream_of pieces_of is_piece_of system_record system_attrs system_data other_streams standard named volume_streams root_streams extend_streams reserved_record
+unfolding list_stream stream_of attributes_of is_attribute_of system_record system_attrs system_data other_streams standard named volume_streams root_streams extend_streams reserved_record
 no_list v time n lt = of_files (λ (r : Record). list_stream r ≡ None) v time
     (λ k low. of_twelve (λ k. list_stream (system_record v time k) ≡ None) refl refl refl refl refl refl refl refl refl refl refl refl k low)
     (λ k low high. refl) n lt
@@ -111,7 +111,7 @@ abbrev pub uncut_index : Record → Bool
 uncut_index r = is_directory_record r && has_cut_index_block 8 (stream_of index_allocation names_index r.attrs)
 
 pub uncut : (v : Layout) → IsLayout v → (time n : ℕ) → n < 16 → uncut_index (record_of v time n) ≡ false
-unfolding has_cut_block stream_of pieces_of is_piece_of names_index is_directory system_record system_attrs system_data other_streams standard named volume_streams root_streams extend_streams reserved_record
+unfolding has_cut_block stream_of attributes_of is_attribute_of is_directory system_record system_attrs system_data other_streams standard named volume_streams root_streams extend_streams reserved_record
 uncut v layout time n lt = of_files (λ (r : Record). uncut_index r ≡ false) v time
     (λ k low. of_twelve (λ k. uncut_index (system_record v time k) ≡ false) refl refl refl refl refl (ap (has_cut_index_block 8) (root_blocks_are v layout time)) refl refl refl refl refl refl k low)
     (λ k low high. refl) n lt

@@ -10,9 +10,9 @@ use Rattle.disk_model.specs.Content.{Content}
 use Rattle.bit_set.specs.Bits.{bit}
 use Rattle.record_model.specs.declared.runs.Run.{Run}
 use Rattle.record_model.specs.Records.{Record, record_spelling}
-use Rattle.record_model.specs.Values.{data_type}
+use Rattle.record_model.specs.Constants.{data_type}
 use Rattle.state_model.specs.Rules.{implies}
-use Rattle.state_model.specs.Streams.{piece_runs, block_at}
+use Rattle.state_model.specs.Streams.{attribute_runs, block_at}
 use Rattle.state_model.specs.Loads.{is_used}
 use Rattle.volume_model.specs.Owners.{file_runs, volume_runs, covers, uses, keeps_owner, keeps_cluster_bit, keeps_record_bit}
 use Rattle.volume_model.specs.Volumes.{block_bytes, record_block, record_bytes, is_in_use, cluster_bits, record_bits, count_of}
@@ -53,17 +53,17 @@ module _ (v : Layout) (layout : IsLayout v) (time : ℕ) where
   only : List Run → List Run
   only runs = runs ++ []
 
-  data_runs : (first clusters bytes : ℕ) → IsSmallRun (Some first) clusters → only (piece_runs (in_clusters 2 data_type [] first clusters bytes)) ≡ run first clusters
+  data_runs : (first clusters bytes : ℕ) → IsSmallRun (Some first) clusters → only (attribute_runs (in_clusters 2 data_type [] first clusters bytes)) ≡ run first clusters
   unfolding only
   data_runs first clusters bytes small = ap only (mapped_runs 2 data_type [] (Some first) clusters bytes bytes small)
 
-  table_runs : piece_runs (in_clusters 2 data_type [] 4 16 65536) ++ (piece_runs (in_clusters 3 0xB0 [] 3 1 8) ++ []) ≡ run 4 16 ++ run 3 1
+  table_runs : attribute_runs (in_clusters 2 data_type [] 4 16 65536) ++ (attribute_runs (in_clusters 3 0xB0 [] 3 1 8) ++ []) ≡ run 4 16 ++ run 3 1
   table_runs =
-      ap (λ (runs : List Run). runs ++ (piece_runs (in_clusters 3 0xB0 [] 3 1 8) ++ [])) (mapped_runs 2 data_type [] (Some 4) 16 65536 65536 (fixed_run 4 16 (omega arith) (omega arith) (omega arith)))
+      ap (λ (runs : List Run). runs ++ (attribute_runs (in_clusters 3 0xB0 [] 3 1 8) ++ [])) (mapped_runs 2 data_type [] (Some 4) 16 65536 65536 (fixed_run 4 16 (omega arith) (omega arith) (omega arith)))
       ∙ ap (λ (runs : List Run). run 4 16 ++ (runs ++ [])) (mapped_runs 3 0xB0 [] (Some 3) 1 8 8 (fixed_run 3 1 (omega arith) (omega arith) (omega arith)))
 
   pub runs_are : (n : ℕ) → n < 12 → file_runs (Some (system_record v time n)) ≡ runs_of_file v n
-  unfolding system_record system_attrs system_data other_streams standard named volume_streams root_streams extend_streams only piece_runs
+  unfolding system_record system_attrs system_data other_streams standard named volume_streams root_streams extend_streams only attribute_runs
   runs_are n lt = of_twelve (λ k. file_runs (Some (system_record v time k)) ≡ runs_of_file v k)
       table_runs
       (data_runs 2 1 4096 (fixed_run 2 1 (omega arith) (omega arith) (omega arith)))
@@ -80,7 +80,7 @@ module _ (v : Layout) (layout : IsLayout v) (time : ℕ) where
       n lt
 
   no_runs : (n : ℕ) → file_runs (Some (reserved_record time n)) ≡ []
-  unfolding reserved_record standard piece_runs
+  unfolding reserved_record standard attribute_runs
   no_runs n = refl
 
 -- ---- how often a cluster is owned

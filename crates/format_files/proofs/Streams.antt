@@ -9,13 +9,11 @@ use Rattle.record_model.specs.declared.attribute.Attr.{Attr}
 use Rattle.record_model.specs.declared.runs.PairsFault.{PairsFault}
 use Rattle.record_model.specs.declared.runs.Run.{Run}
 use Rattle.record_model.specs.Records.{Record}
-use Rattle.record_model.specs.Values.{data_type}
+use Rattle.record_model.specs.Constants.{data_type, names_index, index_allocation, bitmap_type}
 use Rattle.state_model.specs.declared.stream.Stream.{Stream}
 use Rattle.state_model.specs.declared.stream.Stream.TheVariants.{Held, Placed}
-use Rattle.state_model.specs.Indexes.{names_index}
-use Rattle.state_model.specs.Streams.{is_piece_of, pieces_of, runs_or, piece_runs, joined, stream_of, block_at}
-use Rattle.state_model.specs.Loads.{span, has_fitting_pairs, has_all_pairs, data_stream, index_allocation}
-use Rattle.volume_model.specs.Volumes.{bitmap_type}
+use Rattle.state_model.specs.Streams.{is_attribute_of, attributes_of, runs_or, attribute_runs, joined, stream_of, block_at}
+use Rattle.state_model.specs.Loads.{span, has_fitting_pairs, has_all_pairs, data_stream}
 use Rattle.volume_format.specs.declared.layout.Layout.{Layout}
 use Rattle.volume_format.specs.declared.naming.Data.{Data}
 use Rattle.volume_format.specs.declared.naming.Data.TheVariants.{Absent, Empty, Clusters}
@@ -34,11 +32,11 @@ placed_by clusters real initialised runs = Some (Placed (record { runs = runs ++
 
 pub mapped_stream : (id kind : ℕ) (name : List ℕ) (lcn : Option ℕ) (clusters real initialised : ℕ) → IsSmallRun lcn clusters
     → joined (mapped id kind name lcn clusters real initialised ∷ []) ≡ Some (Placed (record { runs = one_run lcn clusters; allocated = 4096 * clusters; real = real; initialised = initialised }))
-unfolding piece_runs placed_by
+unfolding attribute_runs placed_by
 mapped_stream id kind name lcn clusters real initialised small = ap (λ (read : Result (List Run) PairsFault). placed_by clusters real initialised (runs_or read)) (runs_read lcn clusters small)
 
-pub mapped_runs : (id kind : ℕ) (name : List ℕ) (lcn : Option ℕ) (clusters real initialised : ℕ) → IsSmallRun lcn clusters → piece_runs (mapped id kind name lcn clusters real initialised) ≡ one_run lcn clusters
-unfolding piece_runs
+pub mapped_runs : (id kind : ℕ) (name : List ℕ) (lcn : Option ℕ) (clusters real initialised : ℕ) → IsSmallRun lcn clusters → attribute_runs (mapped id kind name lcn clusters real initialised) ≡ one_run lcn clusters
+unfolding attribute_runs
 mapped_runs id kind name lcn clusters real initialised small = ap runs_or (runs_read lcn clusters small)
 
 pub mapped_spans : (id kind : ℕ) (name : List ℕ) (lcn : Option ℕ) (clusters real initialised : ℕ) → IsSmallRun lcn clusters → has_fitting_pairs (mapped id kind name lcn clusters real initialised) ≡ true
@@ -91,7 +89,7 @@ module _ (v : Layout) (layout : IsLayout v) (time : ℕ) where
   data_in first clusters bytes small = mapped_stream 2 data_type [] (Some first) clusters bytes bytes small
 
   pub data_is : (n : ℕ) → n < 12 → data_stream (system_record v time n) ≡ stream_of_data (system_data v n)
-  unfolding data_stream stream_of pieces_of is_piece_of system_record system_attrs system_data other_streams standard named volume_streams root_streams extend_streams
+  unfolding data_stream stream_of attributes_of is_attribute_of system_record system_attrs system_data other_streams standard named volume_streams root_streams extend_streams
   data_is n lt = of_twelve (λ k. data_stream (system_record v time k) ≡ stream_of_data (system_data v k))
       (data_in 4 16 65536 (fixed_run 4 16 (omega arith) (omega arith) (omega arith)))
       (data_in 2 1 4096 (fixed_run 2 1 (omega arith) (omega arith) (omega arith)))
@@ -109,20 +107,20 @@ module _ (v : Layout) (layout : IsLayout v) (time : ℕ) where
 
   -- the bitmap of the file table
   pub record_bitmap_is : stream_of bitmap_type [] (system_record v time 0).attrs ≡ Some (Placed (extents_at 3 1 8))
-  unfolding stream_of pieces_of is_piece_of system_record system_attrs system_data other_streams standard named
+  unfolding stream_of attributes_of is_attribute_of system_record system_attrs system_data other_streams standard named
   record_bitmap_is = mapped_stream 3 0xB0 [] (Some 3) 1 8 8 (fixed_run 3 1 (omega arith) (omega arith) (omega arith))
 
   -- the root's index allocation, and its bitmap
   pub root_blocks_are : stream_of index_allocation names_index (system_record v time 5).attrs ≡ Some (Placed (extents_at (block_first v) 1 4096))
-  unfolding stream_of pieces_of is_piece_of names_index system_record system_attrs system_data other_streams root_streams standard named
+  unfolding stream_of attributes_of is_attribute_of system_record system_attrs system_data other_streams root_streams standard named
   root_blocks_are = mapped_stream 3 0xA0 (0x24 ∷ 0x49 ∷ 0x33 ∷ 0x30 ∷ []) (Some (block_first v)) 1 4096 4096 (block_run v layout)
 
   pub root_bitmap_is : stream_of bitmap_type names_index (system_record v time 5).attrs ≡ Some (Held (spell 8 1))
-  unfolding stream_of pieces_of is_piece_of names_index system_record system_attrs system_data other_streams root_streams standard named
+  unfolding stream_of attributes_of is_attribute_of system_record system_attrs system_data other_streams root_streams standard named
   root_bitmap_is = refl
 
   pub bad_stream_is : stream_of data_type bad_name (system_record v time 8).attrs ≡ Some (Placed (record { runs = one_run None v.clusters; allocated = 4096 * v.clusters; real = 4096 * v.clusters; initialised = 0 }))
-  unfolding stream_of pieces_of is_piece_of system_record system_attrs system_data other_streams standard named
+  unfolding stream_of attributes_of is_attribute_of system_record system_attrs system_data other_streams standard named
   bad_stream_is = mapped_stream 2 data_type bad_name None v.clusters (4096 * v.clusters) 0 (bad_run v layout)
 
   -- ---- mapping pairs

@@ -14,15 +14,15 @@ use Rattle.record_model.specs.declared.attribute.Attr.{Attr}
 use Rattle.record_model.specs.declared.record.RecHead.{RecHead}
 use Rattle.record_model.specs.ListEntries.{ReadEntries}
 use Rattle.record_model.specs.Records.{Record, record_at, rec_head_of, has_in_use_flag, record_spelling}
-use Rattle.record_model.specs.Values.{attribute_list}
 use Rattle.record_model.proofs.RecordSpelling.{spelling_signed, record_spells}
+use Rattle.record_model.specs.Constants.{attribute_list}
 use Rattle.record_writer.proofs.Again.{read_again}
 use Rattle.state_model.specs.declared.geometry.MapRefusal.{MapRefusal}
 use Rattle.state_model.specs.declared.geometry.MapRefusal.TheVariants.{MftList, MftLarge, BadRecord}
 use Rattle.state_model.specs.declared.stream.Extents.{Extents}
 use Rattle.state_model.specs.Files.{Table, only_base, file_at, has_type}
 use Rattle.state_model.specs.Streams.{block_at, has_cut_block}
-use Rattle.state_model.specs.Loads.{Free, Used, is_used, piece_by, whole_record, piece_of, boot_block, judged, has_all_pairs, table_extents, extents_or, record_count, most_records, extents_in, table_of, piece_at, table_piece, used_record, records_of, table_in, list_stream, no_entries, entries_in, entries_of, holds_all, has_held_list, named_attrs, all_attrs, whole_file, joined_file, cuts_index, breaks_9, breaks_list, breaks_10, broken_rule, or_rule, rule_at, torn_refusal, rule_refusal, first_some, first_of, unless, files_of, files_in}
+use Rattle.state_model.specs.Loads.{Free, Used, is_used, slot_by, whole_record, slot_of, boot_block, judged, has_all_pairs, table_extents, extents_or, record_count, most_records, extents_in, table_of, slot_at, table_slot, used_record, records_of, table_in, list_stream, no_entries, list_entries_in, entries_of, holds_all, has_held_list, named_attrs, all_attrs, whole_file, joined_file, cuts_index, breaks_9, breaks_list, breaks_10, broken_rule, or_rule, rule_at, torn_refusal, rule_refusal, first_some, first_of, unless, files_of, files_in}
 use Rattle.volume_model.specs.Volumes.{volume_of}
 use Rattle.volume_format.specs.declared.layout.Layout.{Layout}
 use Rattle.volume_format.specs.Layouts.{IsLayout, table_first}
@@ -31,7 +31,7 @@ use Rattle.format_blocks.specs.Blocks.{whole, HasBlocks}
 use Rattle.format_files.specs.Volumes.{new_geometry, extents_at, new_file, new_files, new_volume, NewVolumeIsLoaded}
 use Rattle.format_blocks.proofs.Recording.{record_fits}
 use Rattle.format_files.proofs.Streams.{block_in_run, data_is, all_pairs_of}
-use Rattle.format_files.proofs.Loading.{passes, goes_on, same_map, and_false, whole_is, used_piece, free_piece, flags_set, flags_clear, is_base, no_list, uncut}
+use Rattle.format_files.proofs.Loading.{passes, goes_on, same_map, and_false, whole_is, used_slot, free_slot, flags_set, flags_clear, is_base, no_list, uncut}
 
 -- ---- the files by number
 
@@ -81,7 +81,7 @@ none_named n m r (Some q) = chosen _ (filter (λ (a : Attr). false) q.attrs) (ne
 
 no_entries_of : (c : Content) (per : ℕ) (r : Record) → list_stream r ≡ None → entries_of c per r ≡ no_entries
 unfolding entries_of
-no_entries_of c per r is = ap (entries_in c per) is
+no_entries_of c per r is = ap (list_entries_in c per) is
 
 attrs_alone : (c : Content) (per : ℕ) (p : Table) (count n : ℕ) (r : Record) → list_stream r ≡ None → all_attrs c per p count n r ≡ r.attrs
 unfolding all_attrs
@@ -117,14 +117,14 @@ module _ (v : Layout) (layout : IsLayout v) (time : ℕ) (small : time < 2 ^ 64)
   pub read_record : (n : ℕ) → n < 64 → record_at (spelled n) ≡ Ok (record_of v time n)
   read_record n lt = (read_again (record_of v time n) (record_fits v layout time small n lt)).read
 
-  pub used : (n : ℕ) → n < 16 → piece_of (whole (spelled n)) ≡ Used (record_of v time n)
-  unfolding piece_of
-  used n lt = used_piece whole_record (spelled n) (record_of v time n) (used_by n (omega arith) ∙ flags_set v time n lt)
+  pub used : (n : ℕ) → n < 16 → slot_of (whole (spelled n)) ≡ Used (record_of v time n)
+  unfolding slot_of
+  used n lt = used_slot whole_record (spelled n) (record_of v time n) (used_by n (omega arith) ∙ flags_set v time n lt)
       (whole_is (spelled n) (record_of v time n) (read_record n (omega arith)) (all_pairs_of v layout time n (omega arith)))
 
-  free : (n : ℕ) → 16 ≤ n → n < 64 → piece_of (whole (spelled n)) ≡ Free
-  unfolding piece_of
-  free n le lt = free_piece whole_record (spelled n) (used_by n lt ∙ flags_clear v time n le)
+  free : (n : ℕ) → 16 ≤ n → n < 64 → slot_of (whole (spelled n)) ≡ Free
+  unfolding slot_of
+  free n le lt = free_slot whole_record (spelled n) (used_by n lt ∙ flags_clear v time n le)
 
   -- ---- over a content
 
@@ -132,31 +132,31 @@ module _ (v : Layout) (layout : IsLayout v) (time : ℕ) (small : time < 2 ^ 64)
     abbrev table : Extents
     table = extents_at table_first 16 65536
 
-    piece_here : (n : ℕ) → n < 64 → table_piece c 8 table n ≡ piece_of (whole (spelled n))
-    unfolding table_piece
-    piece_here n lt =
-        ap (λ (b : Bool). cond b Free (piece_at c (block_at 8 table.runs FileRec n))) (lt-leb 65536 (1024 * n) (omega arith))
-        ∙ ap (piece_at c) (block_in_run 4 16 FileRec n (omega arith) (omega arith))
-        ∙ ap piece_of (has.table n lt)
+    slot_here : (n : ℕ) → n < 64 → table_slot c 8 table n ≡ slot_of (whole (spelled n))
+    unfolding table_slot
+    slot_here n lt =
+        ap (λ (b : Bool). cond b Free (slot_at c (block_at 8 table.runs FileRec n))) (lt-leb 65536 (1024 * n) (omega arith))
+        ∙ ap (slot_at c) (block_in_run 4 16 FileRec n (omega arith) (omega arith))
+        ∙ ap slot_of (has.table n lt)
 
-    piece_used : (n : ℕ) → n < 16 → table_piece c 8 table n ≡ Used (record_of v time n)
-    piece_used n lt = piece_here n (omega arith) ∙ used n lt
+    slot_used : (n : ℕ) → n < 16 → table_slot c 8 table n ≡ Used (record_of v time n)
+    slot_used n lt = slot_here n (omega arith) ∙ used n lt
 
-    piece_free : (n : ℕ) → 16 ≤ n → n < 64 → table_piece c 8 table n ≡ Free
-    piece_free n le lt = piece_here n lt ∙ free n le lt
+    slot_free : (n : ℕ) → 16 ≤ n → n < 64 → table_slot c 8 table n ≡ Free
+    slot_free n le lt = slot_here n lt ∙ free n le lt
 
-    record_here : (n : ℕ) → n < 64 → used_record (table_piece c 8 table n) ≡ new_file v time n
+    record_here : (n : ℕ) → n < 64 → used_record (table_slot c 8 table n) ≡ new_file v time n
     record_here n lt = elim (cases_lt n 16) [
-      | inl low ↦ ap used_record (piece_used n low) ∙ sym (file_used v time n low)
-      | inr high ↦ ap used_record (piece_free n high lt) ∙ sym (file_none v time n high)
+      | inl low ↦ ap used_record (slot_used n low) ∙ sym (file_used v time n low)
+      | inr high ↦ ap used_record (slot_free n high lt) ∙ sym (file_none v time n high)
     ]
 
-    records_here : records_of (table_piece c 8 table) 64 ≡ new_files v time
+    records_here : records_of (table_slot c 8 table) 64 ≡ new_files v time
     unfolding records_of new_files
-    records_here = same_map (λ n. used_record (table_piece c 8 table n)) (new_file v time) 0 64 (λ n low high. record_here n (omega arith))
+    records_here = same_map (λ n. used_record (table_slot c 8 table n)) (new_file v time) 0 64 (λ n low high. record_here n (omega arith))
 
     abbrev p : Table
-    p = table_in (records_of (table_piece c 8 table) 64)
+    p = table_in (records_of (table_slot c 8 table) 64)
 
     table_here : (n : ℕ) → p n ≡ new_file v time n
     table_here n = ap (λ (l : List (Option Record)). table_in l n) records_here ∙ of_table v time n
@@ -186,10 +186,10 @@ module _ (v : Layout) (layout : IsLayout v) (time : ℕ) (small : time < 2 ^ 64)
     unfolding breaks_10
     keeps_10 n = ap (breaks_list c 8 p n) (file_here n) ∙ of_numbers (λ (o : Option Record). breaks_list c 8 p n o ≡ false) v time (λ k lt. held_alone c 8 p n (record_of v time k) (no_list v time k lt)) refl n
 
-    unbroken : (n : ℕ) → n < 64 → broken_rule (table_piece c 8 table n) ≡ None
+    unbroken : (n : ℕ) → n < 64 → broken_rule (table_slot c 8 table n) ≡ None
     unbroken n lt = elim (cases_lt n 16) [
-      | inl low ↦ ap broken_rule (piece_used n low)
-      | inr high ↦ ap broken_rule (piece_free n high lt)
+      | inl low ↦ ap broken_rule (slot_used n low)
+      | inr high ↦ ap broken_rule (slot_free n high lt)
     ]
 
     no_rule : (o : Option ℕ) (nine ten : Bool) → o ≡ None → nine ≡ false → ten ≡ false → or_rule o nine ten ≡ None
@@ -200,12 +200,12 @@ module _ (v : Layout) (layout : IsLayout v) (time : ℕ) (small : time < 2 ^ 64)
 
     lawful : (n : ℕ) → n < 64 → rule_at c 8 table n ≡ None
     unfolding rule_at
-    lawful n lt = no_rule (broken_rule (table_piece c 8 table n)) (breaks_9 c 8 table p 64 n) (breaks_10 c 8 p n) (unbroken n lt) (keeps_9 n) (keeps_10 n)
+    lawful n lt = no_rule (broken_rule (table_slot c 8 table n)) (breaks_9 c 8 table p 64 n) (breaks_10 c 8 p n) (unbroken n lt) (keeps_9 n) (keeps_10 n)
 
-    untorn : (n : ℕ) → n < 64 → torn_refusal n (table_piece c 8 table n) ≡ None
+    untorn : (n : ℕ) → n < 64 → torn_refusal n (table_slot c 8 table n) ≡ None
     untorn n lt = elim (cases_lt n 16) [
-      | inl low ↦ ap (torn_refusal n) (piece_used n low)
-      | inr high ↦ ap (torn_refusal n) (piece_free n high lt)
+      | inl low ↦ ap (torn_refusal n) (slot_used n low)
+      | inr high ↦ ap (torn_refusal n) (slot_free n high lt)
     ]
 
     none_first : (at : ℕ → Option MapRefusal) (count : ℕ) → ((n : ℕ) → n < count → at n ≡ None) → first_of at count ≡ None
@@ -225,8 +225,8 @@ module _ (v : Layout) (layout : IsLayout v) (time : ℕ) (small : time < 2 ^ 64)
     files_read : files_in c 8 table ≡ Ok (new_files v time)
     unfolding files_in
     files_read =
-        answered (first_of (λ n. torn_refusal n (table_piece c 8 table n)) 64) (first_of (λ n. rule_refusal n (rule_at c 8 table n)) 64) (files_of c 8 p 64)
-        (none_first (λ n. torn_refusal n (table_piece c 8 table n)) 64 untorn)
+        answered (first_of (λ n. torn_refusal n (table_slot c 8 table n)) 64) (first_of (λ n. rule_refusal n (rule_at c 8 table n)) 64) (files_of c 8 p 64)
+        (none_first (λ n. torn_refusal n (table_slot c 8 table n)) 64 untorn)
         (none_first (λ n. rule_refusal n (rule_at c 8 table n)) 64 (λ n lt. ap (rule_refusal n) (lawful n lt)))
         ∙ ap (λ (files : List (Option Record)). Ok files) files_here
 
@@ -235,10 +235,10 @@ module _ (v : Layout) (layout : IsLayout v) (time : ℕ) (small : time < 2 ^ 64)
     abbrev first : Record
     first = record_of v time 0
 
-    first_judged : judged 0 (piece_by record_at (c (boot_block new_geometry 0))) ≡ Ok (Some first)
+    first_judged : judged 0 (slot_by record_at (c (boot_block new_geometry 0))) ≡ Ok (Some first)
     first_judged =
-        ap (λ (b : Body). judged 0 (piece_by record_at b)) (has.table 0 (omega arith))
-        ∙ ap (judged 0) (used_piece record_at (spelled 0) first (used_by 0 (omega arith) ∙ flags_set v time 0 (omega arith)) (read_record 0 (omega arith)))
+        ap (λ (b : Body). judged 0 (slot_by record_at b)) (has.table 0 (omega arith))
+        ∙ ap (judged 0) (used_slot record_at (spelled 0) first (used_by 0 (omega arith) ∙ flags_set v time 0 (omega arith)) (read_record 0 (omega arith)))
 
     no_list_first : has_type attribute_list first ≡ false
     unfolding has_type record_of system_record system_attrs system_data other_streams standard named

@@ -2,10 +2,10 @@
 use Rattle.std.proofs.Common.{◌≡◌, ℕ, ◌^◌, ◌<◌, List, Option, None, Ok, refl, sym, ap, ◌∙◌}
 use Rattle.host_base.specs.declared.file_ref.FileRef.{FileRef}
 use Rattle.disk_model.specs.Content.{Content}
-use Rattle.tree_model.specs.declared.journal.Journal.{Journal}
-use Rattle.tree_model.specs.declared.link.Link.{Link}
-use Rattle.tree_model.specs.declared.node.Node.{Node}
-use Rattle.tree_model.specs.declared.tree.Tree.{Tree}
+use Rattle.file_tree.specs.declared.journal.Journal.{Journal}
+use Rattle.file_tree.specs.declared.link.Link.{Link}
+use Rattle.file_tree.specs.declared.node.Node.{Node}
+use Rattle.file_tree.specs.declared.tree.Tree.{Tree}
 use Rattle.std.specs.Option.{option_map}
 use Rattle.state_model.specs.declared.broken.Broken.{Broken}
 use Rattle.state_model.specs.Rules.{broken_or}
@@ -14,11 +14,13 @@ use Rattle.volume_model.specs.Volumes.{files_by_number, count_of, bytes_or, uppe
 use Rattle.volume_model.specs.Nodes.{no_bytes, bare_nodes, all_nodes, spare_numbers, free_clusters}
 use Rattle.volume_state.specs.Journals.{some_journal}
 use Rattle.volume_state.specs.Rules.{broken_1, broken_2, broken_3, broken_4, broken_5, broken_6, broken_7, broken_8, broken_9, first_broken}
-use Rattle.volume_state.specs.Trees.{Holds, volume_journal, tree_with, tree_of, without_records, report_of, reported, checked}
+use Rattle.volume_state.specs.Trees.{Holds, IsState, volume_journal, tree_with, tree_of, without_records, report_of, reported, checked}
 use Rattle.volume_format.specs.declared.layout.Layout.{Layout}
 use Rattle.volume_format.specs.Layouts.{IsLayout}
 use Rattle.format_blocks.specs.Blocks.{HasBlocks}
 use Rattle.format_laws.specs.Trees.{new_tree, LoadedVolumeStands}
+use Rattle.format_files.specs.Volumes.{new_geometry}
+use Rattle.format_files.proofs.Tabling.{volume_loaded}
 use Rattle.format_files.proofs.Linking.{vol, count_is, keeps_names_law}
 use Rattle.format_files.proofs.Bits.{free_are}
 use Rattle.format_files.proofs.Owning.{keeps_bits_law}
@@ -75,9 +77,12 @@ module _ (v : Layout) (layout : IsLayout v) (seed time : ℕ) (small : time < 2 
   pub holds_here : Holds c (vol v time) (new_tree v time)
   holds_here = record { kept = kept; tree = sym whole_is }
 
+  pub state_here : IsState c new_geometry v.clusters (new_tree v time)
+  state_here = record { volume = vol v time; loaded = volume_loaded v seed time c layout small has; holds = holds_here }
+
   pub checked_here : checked c (vol v time) ≡ Ok (new_tree v time)
   unfolding checked
   checked_here = ap (reported c (vol v time)) kept ∙ ap (λ (t : Tree). Ok t) report_is
 
 pub stands : LoadedVolumeStands
-stands = λ v seed time c layout small has. record { answer = checked_here v layout seed time small c has; holds = holds_here v layout seed time small c has }
+stands = λ v seed time c layout small has. record { answer = checked_here v layout seed time small c has; state = state_here v layout seed time small c has; holds = holds_here v layout seed time small c has }

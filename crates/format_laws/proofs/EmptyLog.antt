@@ -26,10 +26,10 @@ use Rattle.log_page.specs.LiveLogs.{said_lsn, greater, greatest_lsn}
 use Rattle.log_page.proofs.PlacesFit.{has_digits}
 use Rattle.log_reading.specs.declared.fault.RecoveryFault.{RecoveryFault}
 use Rattle.log_reading.specs.declared.fault.RecoveryFault.TheVariants.{ForeignLog}
-use Rattle.log_reading.specs.declared.front.Front.{Front}
+use Rattle.log_reading.specs.declared.front.RestartFront.{RestartFront}
 use Rattle.log_reading.specs.LogPages.{sector_in, sector_below, log_sector, log_bytes, page_in}
 use Rattle.log_reading.specs.Fronts.{next_restart, front_in}
-use Rattle.log_recovery.specs.LogStates.{LogState, entries_in, whole_entries, has_lap, lap_by, lap_in, recovery_in}
+use Rattle.log_recovery.specs.LogStates.{FoundLog, LogState, live_entries_in, whole_entries, has_lap, lap_by, lap_in, log_in, recovery_in}
 use Rattle.format_files.proofs.Loading.{passes, goes_on}
 
 -- ---- bytes that are all FF
@@ -90,7 +90,7 @@ unsaid (suc n) lt = refl
 -- ---- two restart pages
 
 -- what they say where neither is whole and both are all FF
-empty_front : Front
+empty_front : RestartFront
 empty_front = record { chosen = None; restart = 0; opens = 0 }
 
 front_by : (raw : List ℕ) → restart_of raw ≡ Err NotWhole → is_blank raw ≡ true → front_in raw raw ≡ Ok empty_front
@@ -125,6 +125,10 @@ none_said raw a (suc n) each =
 unfoldable pub empty_state : LogState
 empty_state = record { log = []; next_lap = 1; restart = 0; opens = 0 }
 
+-- no entry, and no restart page that is chosen
+empty_log : FoundLog
+empty_log = record { log = []; front = empty_front }
+
 module _ (c : Content) (place : LogPlace) (size : ℕ) (long : 8 ≤ size) (short : size ≤ 4096) (some : 2 ≤ place.pages) (few : place.pages ≤ 2048) (empty : (i : ℕ) → i < place.pages → page_in c place i ≡ filler size) where
   front_here : front_in (page_in c place 0) (page_in c place 1) ≡ Ok empty_front
   front_here =
@@ -140,17 +144,25 @@ module _ (c : Content) (place : LogPlace) (size : ℕ) (long : 8 ≤ size) (shor
   unfolding lap_in lap_by
   lap_here = ap (lap_by place.pages) greatest_here ∙ passes (has_lap place.pages 1) (ForeignLog 0) (Ok 1) (lap_left place.pages (omega arith) few)
 
-  state_by : Front → Result LogState RecoveryFault
-  state_by front =
-      entries_in c place front.chosen
+  log_by : RestartFront → Result FoundLog RecoveryFault
+  log_by front =
+      live_entries_in c place front.chosen
       >>= λ entries. whole_entries c entries
-      >>= λ log. lap_in c place front.chosen
-      >>= λ lap. Ok (record { log = log; next_lap = lap; restart = front.restart; opens = front.opens })
+      >>= λ log. Ok (record { log = log; front = front })
+
+  log_here : log_in c place ≡ Ok empty_log
+  unfolding log_in log_by empty_front empty_log
+  log_here = goes_on _ empty_front log_by front_here
+
+  state_by : FoundLog → Result LogState RecoveryFault
+  state_by found =
+      lap_in c place found.front.chosen
+      >>= λ lap. Ok (record { log = found.log; next_lap = lap; restart = found.front.restart; opens = found.front.opens })
 
   pub recovery_here : recovery_in c place ≡ Ok empty_state
-  unfolding recovery_in state_by empty_front empty_state
+  unfolding recovery_in state_by empty_front empty_log empty_state
   recovery_here =
-      goes_on _ empty_front state_by front_here
+      goes_on _ empty_log state_by log_here
       ∙ goes_on _ 1 (λ (lap : ℕ). Ok (record { log = []; next_lap = lap; restart = 0; opens = 0 })) lap_here
 
 -- ---- the content

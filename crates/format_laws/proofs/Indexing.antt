@@ -12,24 +12,24 @@ use Rattle.disk_model.specs.Numbers.{field}
 use Rattle.disk_model.specs.Content.{Content, is_signed}
 use Rattle.host_base.specs.declared.file_ref.FileRef.{FileRef}
 use Rattle.record_model.specs.declared.entry.Entry.{Entry as Raw}
-use Rattle.record_model.specs.Nodes.{node_spelling}
+use Rattle.record_model.specs.Nodes.{node_spelling, last_entry}
 use Rattle.record_model.specs.Records.{Record}
 use Rattle.record_model.proofs.NodeTables.{ok_from_node}
 use Rattle.record_model.proofs.NodeSpelling.{node_signed, node_spells, length-node_spelling}
 use Rattle.index_root.specs.Roots.{root_spelling}
 use Rattle.index_root.proofs.Spelled.{root_law}
-use Rattle.tree_model.specs.declared.link.Link.{Link}
-use Rattle.tree_model.specs.Names.{name_order}
+use Rattle.file_tree.specs.declared.link.Link.{Link}
+use Rattle.file_tree.specs.Names.{name_order}
 use Rattle.index_model.specs.declared.key.Key.{Key}
 use Rattle.index_model.specs.Trees.{Tree, Leaf, Down, Entry, walk, one_if, same, raws_of}
-use Rattle.index_model.specs.Indexes.{Place, block_at, entries_in, node_of_body, node_of_block, some_entries, nodes_of, named, key_link, links_of, precedes, rises, IsIndex}
+use Rattle.index_model.specs.Indexes.{Place, node_block, entries_of_node, node_of_body, node_of_block, some_entries, nodes_of, named, key_link, links_of, precedes, rises, IsIndex}
 use Rattle.index_model.specs.Laws.{HoldsIndex}
 use Rattle.index_model.proofs.WalkLaw.{walk_passes}
 use Rattle.state_model.specs.declared.stream.Stream.{Stream}
 use Rattle.state_model.specs.Files.{Table, reference, is_directory_record, links_at}
-use Rattle.state_model.specs.Indexes.{names_index, is_names_root}
+use Rattle.state_model.specs.Indexes.{is_names_root}
 use Rattle.state_model.specs.Rules.{implies, at_file, same_link, count_in, names_in, is_rising, is_name_in, is_index, first_failing}
-use Rattle.state_model.specs.Streams.{is_piece_of, pieces_of, stream_of}
+use Rattle.state_model.specs.Streams.{is_attribute_of, attributes_of, stream_of}
 use Rattle.upcase_order.specs.Tables.{standard_table}
 use Rattle.volume_model.specs.Volumes.{count_of, upper_of}
 use Rattle.volume_model.specs.Indexes.{or_void, index_block, block_count, blocks_of, stream_blocks, index_stream, index_place, root_value, links_read, links_below, index_links, lists_names, keeps_index}
@@ -37,7 +37,7 @@ use Rattle.volume_state.specs.Rules.{broken_3, broken_9}
 use Rattle.volume_state.specs.Journals.{fault_of}
 use Rattle.volume_format.specs.declared.layout.Layout.{Layout}
 use Rattle.volume_format.specs.Layouts.{IsLayout, block_first}
-use Rattle.volume_format.specs.Files.{system_name, sequence, is_directory, name_value, last_entry, standard, named as name_attr, system_attrs, system_data, other_streams, root_streams, extend_streams, system_record, reserved_record, reference as new_reference}
+use Rattle.volume_format.specs.Files.{system_name, sequence, is_directory, name_value, standard, named as name_attr, system_attrs, system_data, other_streams, root_streams, extend_streams, system_record, reserved_record, reference as new_reference}
 use Rattle.volume_format.specs.Indexes.{in_order, root_entries, root_node}
 use Rattle.format_blocks.specs.Blocks.{block, whole, HasBlocks}
 use Rattle.format_files.specs.Volumes.{extents_at}
@@ -175,11 +175,11 @@ module _ (v : Layout) (layout : IsLayout v) (time : ℕ) (small : time < 2 ^ 64)
   -- ---- the values of the roots
 
   root_value_is : root_value (system_record v time 5) ≡ Some (root_spelling 1 (last_entry (Some 0) ∷ []))
-  unfolding root_value is_names_root names_index system_record system_attrs system_data other_streams root_streams standard name_attr
+  unfolding root_value is_names_root system_record system_attrs system_data other_streams root_streams standard name_attr
   root_value_is = refl
 
   extend_value_is : root_value (system_record v time 11) ≡ Some (root_spelling 1 (last_entry None ∷ []))
-  unfolding root_value is_names_root names_index system_record system_attrs system_data other_streams extend_streams standard name_attr
+  unfolding root_value is_names_root system_record system_attrs system_data other_streams extend_streams standard name_attr
   extend_value_is = refl
 
   -- ---- where the blocks lie
@@ -198,7 +198,7 @@ module _ (v : Layout) (layout : IsLayout v) (time : ℕ) (small : time < 2 ^ 64)
   root_place_is = ap (λ (s : Option Stream). place_of (stream_blocks 8 s)) (root_blocks_are v layout time) ∙ ap place_of one_block
 
   extend_place_is : index_place 8 (system_record v time 11) ≡ place_of []
-  unfolding index_place index_stream stream_of pieces_of is_piece_of names_index system_record system_attrs system_data other_streams extend_streams standard name_attr
+  unfolding index_place index_stream stream_of attributes_of is_attribute_of system_record system_attrs system_data other_streams extend_streams standard name_attr
   extend_place_is = refl
 
   -- ---- the root's block
@@ -219,10 +219,10 @@ module _ (v : Layout) (layout : IsLayout v) (time : ℕ) (small : time < 2 ^ 64)
         let size : eqb (length body) 4096 ≡ true = eq-eqb (length body) 4096 (length-node_spelling n fits) in
         passes ((eqb (length body) 4096 && true) && is_signed Index body) 1 _ (both (both size refl) (node_signed n))
         ∙ passes (eqb (field 0x10 8 body) 0) 2 _ (eq-eqb (field 0x10 8 body) 0 spelled.vcn)
-        ∙ ap entries_in (ok_from_node body n spelled)
+        ∙ ap entries_of_node (ok_from_node body n spelled)
 
     entries_here : nodes_of (node_of_block c here) 0 ≡ Some (root_entries v time)
-    unfolding node_of_block block_at
+    unfolding node_of_block node_block
     entries_here = ap (λ (b : Body). some_entries (node_of_body 0 b)) has.root ∙ ap some_entries node_read
 
     at_most_one : (b : Bool) → one_if b + 0 ≤ 1

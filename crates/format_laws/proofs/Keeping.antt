@@ -11,14 +11,13 @@ use Rattle.disk_model.specs.Content.{Content}
 use Rattle.record_model.specs.declared.attribute.Attr.{Attr}
 use Rattle.record_model.specs.Records.{record_spelling}
 use Rattle.record_model.specs.Nodes.{node_spelling}
-use Rattle.record_model.specs.Values.{data_type}
+use Rattle.record_model.specs.Constants.{data_type, names_index, index_allocation, bitmap_type}
 use Rattle.state_model.specs.declared.stream.Stream.{Stream}
 use Rattle.state_model.specs.declared.stream.Stream.TheVariants.{Placed}
-use Rattle.state_model.specs.Indexes.{names_index}
 use Rattle.state_model.specs.Rules.{implies, at_file, first_failing}
-use Rattle.state_model.specs.Streams.{is_piece_of, pieces_of, joined, stream_of, block_at}
-use Rattle.state_model.specs.Loads.{data_stream, index_allocation}
-use Rattle.volume_model.specs.Volumes.{file_in, count_of, bitmap_type, size_or, record_bitmap, cluster_bitmap}
+use Rattle.state_model.specs.Streams.{is_attribute_of, attributes_of, joined, stream_of, block_at}
+use Rattle.state_model.specs.Loads.{data_stream}
+use Rattle.volume_model.specs.Volumes.{file_in, count_of, size_or, record_bitmap, cluster_bitmap}
 use Rattle.volume_model.specs.Sizes.{keeps_place, fits_volume, keeps_stream, has_hole, keeps_whole, is_torn_at, begun, has_torn, stream_has_torn, keeps_untorn, is_initialised, keeps_table, keeps_bitmaps, keeps_streams, keeps_sizes}
 use Rattle.volume_state.specs.Rules.{broken_4, file_count}
 use Rattle.volume_format.specs.declared.layout.Layout.{Layout}
@@ -74,7 +73,7 @@ module _ (v : Layout) (layout : IsLayout v) (time : ℕ) where
   Kept n = list_all (keeps_stream 8 all (system_record v time n).attrs) (system_record v time n).attrs ≡ true
 
   pub streams_kept : (n : ℕ) → n < 12 → Kept n
-  unfolding keeps_stream stream_of pieces_of is_piece_of system_record system_attrs system_data other_streams standard named volume_streams root_streams extend_streams
+  unfolding keeps_stream stream_of attributes_of is_attribute_of system_record system_attrs system_data other_streams standard named volume_streams root_streams extend_streams
   streams_kept n lt =
       let inside = layout.inside in
       let bits = layout.bitmap_whole in
@@ -116,11 +115,11 @@ module _ (v : Layout) (layout : IsLayout v) (time : ℕ) where
   data_6 = data_is v layout time 6 (omega arith)
 
   extend_blocks : stream index_allocation names_index 11 ≡ None
-  unfolding stream_of pieces_of is_piece_of names_index system_record system_attrs system_data other_streams extend_streams standard named
+  unfolding stream_of attributes_of is_attribute_of system_record system_attrs system_data other_streams extend_streams standard named
   extend_blocks = refl
 
   extend_bits : stream bitmap_type names_index 11 ≡ None
-  unfolding stream_of pieces_of is_piece_of names_index system_record system_attrs system_data other_streams extend_streams standard named
+  unfolding stream_of attributes_of is_attribute_of system_record system_attrs system_data other_streams extend_streams standard named
   extend_bits = refl
 
   no_hole : (s : Option Stream) (first clusters bytes : ℕ) → s ≡ Some (Placed (extents_at first clusters bytes)) → not (has_hole s) ≡ true
@@ -217,7 +216,7 @@ module _ (v : Layout) (layout : IsLayout v) (seed time : ℕ) (c : Content) (has
       (untorn_kept n lt)
 
   reserved_kept : (n : ℕ) → 12 ≤ n → n < 16 → keeps_streams c (vol v time) n (reserved_record time n) ≡ true
-  unfolding keeps_streams keeps_stream keeps_whole keeps_untorn stream_of pieces_of is_piece_of reserved_record standard
+  unfolding keeps_streams keeps_stream keeps_whole keeps_untorn stream_of attributes_of is_attribute_of reserved_record standard
   reserved_kept n low lt = of_sixteen (λ k. 12 ≤ k → keeps_streams c (vol v time) k (reserved_record time k) ≡ true) (λ k below above. absurd (omega arith)) (λ le. refl) (λ le. refl) (λ le. refl) (λ le. refl) n lt low
 
   bitmaps_kept : (n : ℕ) → keeps_bitmaps (vol v time) n ≡ true

@@ -1,16 +1,22 @@
 -- Where the log of a new volume lies, and that recovery by it finds no entry.
-use Rattle.std.proofs.Common.{◌≡◌, ℕ, ◌+◌, ◌-◌, ◌*◌, ◌<◌, ◌≤◌, Bool, cond, min, [], ◌∷◌, Some, None, Ok, ap, ◌∙◌, arith}
-use Rattle.std.proofs.lemmas.Bool.{le-ltb, lt-ltb}
+use Rattle.std.proofs.Common.{◌≡◌, ℕ, ◌+◌, ◌-◌, ◌*◌, ◌/◌, ◌<◌, ◌≤◌, Option, Some, Ok, ap, ◌∙◌, arith}
+use Rattle.disk_model.specs.declared.block.Block.{Block}
 use Rattle.disk_model.specs.declared.block.BlockKind.TheVariants.{Plain}
+use Rattle.disk_model.specs.Sectors.{sectors}
 use Rattle.disk_model.specs.Content.{Content}
 use Rattle.state_model.specs.declared.stream.Stream.TheVariants.{Placed}
+use Rattle.state_model.specs.Streams.{block_at}
+use Rattle.volume_format.specs.Files.{one_run}
 use Rattle.log_page.specs.declared.places.LogPlace.{LogPlace}
+use Rattle.log_page.specs.Places.{page_bytes}
 use Rattle.log_reading.specs.LogPages.{sector_in, log_sector, sector_bytes, log_bytes}
 use Rattle.log_reading.proofs.Bytes.{all_initialised}
 use Rattle.log_recovery.specs.LogStates.{recovery_in}
-use Rattle.image_scan.specs.LogPlaces.{nowhere, gap_before, rest_of, stream_place}
+use Rattle.image_scan.specs.LogPlaces.{first_of, stream_sector, stream_place}
+use Rattle.image_scan.proofs.Alike.{in_stream}
 use Rattle.format_blocks.specs.Blocks.{block}
 use Rattle.format_files.specs.Volumes.{extents_at}
+use Rattle.format_files.proofs.Streams.{block_in_run}
 use Rattle.format_laws.proofs.EmptyLog.{filler, empty_state, recovery_here, page_is, sector_is}
 
 -- so many pages from cluster 52 on
@@ -23,11 +29,15 @@ pages_are clusters device pages = omega arith
 
 module _ (clusters device pages : ℕ) (room : 416 + 8 * pages ≤ device) (some : 512 ≤ pages) (few : pages ≤ 2048) where
   run_sector : (s : ℕ) → s < 8 * pages → sector_in (new_place clusters device pages).runs s ≡ Some (416 + s)
-  unfolding new_place stream_place gap_before rest_of
+  unfolding new_place stream_place stream_sector
   run_sector s inside =
-      let place : (52 + min pages (0 - 0)) * 8 + (s - 0) ≡ 416 + s = omega arith in
-      ap (λ (b : Bool). cond b (Some (nowhere + s)) (sector_in (rest_of 8 0 (record { vcn = 0; lcn = Some 52; len = pages }) ∷ []) (s - 0))) (le-ltb s 0 (omega arith))
-      ∙ ap (λ (b : Bool). cond b (Some ((52 + min pages (0 - 0)) * 8 + (s - 0))) None) (lt-ltb (s - 0) ((pages - min pages (0 - 0)) * 8) (omega arith))
+      let count : 8 * (4096 * pages / page_bytes) ≡ 8 * pages = omega arith in
+      let first : sectors Plain * s ≡ s = omega arith in
+      let at : block_at 8 (one_run (Some 52) pages) Plain s ≡ Some (block (8 * 52 + s) Plain) =
+      block_in_run 52 pages Plain s (omega arith) (omega arith) ∙ ap (λ (n : ℕ). Some (block (8 * 52 + n) Plain)) first in
+      let place : 8 * 52 + s ≡ 416 + s = omega arith in
+      in_stream 8 (8 * (4096 * pages / page_bytes)) (one_run (Some 52) pages) s (omega arith)
+      ∙ ap (λ (o : Option Block). Some (first_of o)) at
       ∙ ap (λ (n : ℕ). Some n) place
 
   place_sector : (s : ℕ) → s < 8 * pages → log_sector (new_place clusters device pages) s ≡ Some (416 + s)

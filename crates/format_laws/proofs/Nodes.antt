@@ -14,14 +14,14 @@ use Rattle.record_model.specs.StdValues.{std_info_of}
 use Rattle.record_model.proofs.FixedValues.{std_info_read, std_info_spelled}
 use Rattle.record_model.proofs.RecordSpelling.{spelling_signed, record_spells}
 use Rattle.record_model.proofs.UnitBytes.{length-zeros}
-use Rattle.tree_model.specs.declared.link.Link.{Link}
-use Rattle.tree_model.specs.declared.node.Kind.{Kind}
-use Rattle.tree_model.specs.declared.node.Why.{Why}
-use Rattle.tree_model.specs.declared.node.Node.{Node}
+use Rattle.file_tree.specs.declared.link.Link.{Link}
+use Rattle.file_tree.specs.declared.node.Kind.{Kind}
+use Rattle.file_tree.specs.declared.node.Why.{Why}
+use Rattle.file_tree.specs.declared.node.Node.{Node}
 use Rattle.state_model.specs.declared.stream.Stream.{Stream}
 use Rattle.state_model.specs.Files.{has_type, info_of, info_or, why_by}
 use Rattle.state_model.specs.Trees.{is_system, is_nameless}
-use Rattle.state_model.specs.Streams.{is_piece_of, pieces_of}
+use Rattle.state_model.specs.Streams.{is_attribute_of, attributes_of}
 use Rattle.state_model.specs.Loads.{data_stream}
 use Rattle.volume_model.specs.Sizes.{has_hole}
 use Rattle.volume_model.specs.Volumes.{record_bytes}
@@ -77,7 +77,7 @@ module _ (v : Layout) (layout : IsLayout v) (time : ℕ) (small : time < 2 ^ 64)
   info_is n = ap info_or standard_read
 
   why_is : (n : ℕ) → n < 12 → why_not (system_record v time n) ≡ None
-  unfolding why_not has_type data_flags pieces_of is_piece_of why_by system_record system_attrs system_data other_streams standard name_attr volume_streams root_streams extend_streams
+  unfolding why_not has_type data_flags attributes_of is_attribute_of why_by system_record system_attrs system_data other_streams standard name_attr volume_streams root_streams extend_streams
   why_is n lt = of_twelve (λ k. why_not (system_record v time k) ≡ None)
       (hole 0 (omega arith)) (hole 1 (omega arith)) (hole 2 (omega arith)) (hole 3 (omega arith)) (hole 4 (omega arith)) (hole 5 (omega arith))
       (hole 6 (omega arith)) (hole 7 (omega arith)) (hole 8 (omega arith)) (hole 9 (omega arith)) (hole 10 (omega arith)) (hole 11 (omega arith)) n lt

@@ -1,5 +1,5 @@
 -- The image of a new volume is opened and loaded, and stands for its tree.
-use Rattle.std.proofs.Common.{◌≡◌, ℕ, ◌+◌, ◌*◌, ◌^◌, ◌<◌, ◌≤◌, true, leb, ltb, List, length, Result, Some, Ok, refl, ap, ◌∙◌, arith}
+use Rattle.std.proofs.Common.{◌≡◌, ℕ, ◌+◌, ◌*◌, ◌^◌, ◌<◌, ◌≤◌, true, leb, ltb, List, length, Result, Some, Ok, refl, sym, ap, ◌∙◌, subst, arith}
 use Rattle.std.proofs.lemmas.Bool.{le-leb, lt-ltb}
 use Rattle.host_base.specs.Answers.{◌>>=◌}
 use Rattle.disk_model.specs.declared.block.Body.{Body}
@@ -14,12 +14,13 @@ use Rattle.record_model.specs.StdValues.{volume_info_of, volume_info_over}
 use Rattle.record_model.proofs.FixedValues.{volume_info_read, volume_info_spelled}
 use Rattle.record_model.proofs.UnitBytes.{length-zeros}
 use Rattle.state_model.specs.declared.stream.Stream.TheVariants.{Placed}
-use Rattle.state_model.specs.Loads.{Piece, piece_of, judged, data_stream}
+use Rattle.state_model.specs.Loads.{Slot, slot_of, judged, data_stream}
 use Rattle.boot_sector.specs.declared.boot.Boot.{Boot}
 use Rattle.boot_sector.specs.BootSectors.{clusters, boot_of as read_boot, boot_spelling, FitsBoot}
 use Rattle.boot_sector.proofs.Tables.{table_is_read, size_from_test}
 use Rattle.boot_sector.proofs.Spelling.{boot_spells}
 use Rattle.volume_model.specs.Volumes.{volume_of}
+use Rattle.volume_state.specs.Trees.{IsState}
 use Rattle.volume_state.specs.Versions.{info_or_none, file_info, volume_info}
 use Rattle.log_model.specs.Logs.{recovered}
 use Rattle.log_reading.specs.declared.fault.RecoveryFault.{RecoveryFault}
@@ -37,7 +38,7 @@ use Rattle.volume_format.specs.Images.{boot_of, log_bytes, formatted}
 use Rattle.format_blocks.specs.Blocks.{block, HasBlocks}
 use Rattle.format_files.specs.Volumes.{extents_at, new_geometry}
 use Rattle.format_laws.specs.Trees.{new_tree}
-use Rattle.format_laws.specs.Images.{NewVolumeStands}
+use Rattle.format_laws.specs.Images.{NewVolumeStands, NewImageStandsFor}
 use Rattle.format_blocks.proofs.Sizing.{length-log}
 use Rattle.format_blocks.proofs.Standing.{layout_fits, regions_stand}
 use Rattle.format_blocks.proofs.Bodies.{blocks_read}
@@ -45,7 +46,7 @@ use Rattle.format_files.proofs.Streams.{data_is}
 use Rattle.format_files.proofs.Loading.{passes, goes_on}
 use Rattle.format_files.proofs.Tabling.{used, volume_loaded}
 use Rattle.format_files.proofs.Linking.{vol, system_here}
-use Rattle.format_laws.proofs.Checking.{checked_here}
+use Rattle.format_laws.proofs.Checking.{checked_here, state_here}
 use Rattle.format_laws.proofs.EmptyLog.{filler, filler_part, empty_state, same_content}
 use Rattle.format_laws.proofs.NewLog.{new_place, new_recovery}
 
@@ -99,8 +100,8 @@ module _ (v : Layout) (layout : IsLayout v) (seed time : ℕ) (seed_fits : seed 
   log_record_read : log_record c new_geometry ≡ Ok (Some (record_of v time 2))
   unfolding log_record
   log_record_read =
-      ap (λ (b : Body). refused_as map_refusal (judged 2 (piece_of b))) (has.table 2 (omega arith))
-      ∙ ap (λ (p : Piece). refused_as map_refusal (judged 2 p)) (used v layout time small 2 (omega arith))
+      ap (λ (b : Body). refused_as map_refusal (judged 2 (slot_of b))) (has.table 2 (omega arith))
+      ∙ ap (λ (p : Slot). refused_as map_refusal (judged 2 p)) (used v layout time small 2 (omega arith))
 
   place_here : log_place new_geometry (clusters boot) device (Some (record_of v time 2)) ≡ new_place (clusters boot) device v.log_pages
   unfolding new_place
@@ -145,6 +146,11 @@ module _ (v : Layout) (layout : IsLayout v) (seed time : ℕ) (seed_fits : seed 
   total_is : clusters boot ≡ v.clusters
   total_is = layout.clusters
 
+  -- the content is a state of the tree
+  pub opened_state : (o : Opened) × (opened_in c device ≡ Ok o) × IsState o.content o.geometry o.total (new_tree v time)
+  unfolding opening
+  opened_state = (opening c, opened_here, subst (λ (total : ℕ). IsState c new_geometry total (new_tree v time)) (sym total_is) (state_here v layout seed time small c has))
+
   loaded_here : loaded_tree c new_geometry (clusters boot) ≡ Ok (new_tree v time)
   unfolding loaded_tree volume_on
   loaded_here =
@@ -176,3 +182,14 @@ formatted_stands = λ old seed time can.
     passes (ltb 0 (length disk)) (Short 1 0) (check_in (content_of (sector_of disk)) (length disk)) some
     ∙ ap (check_in (content_of (sector_of disk))) count
     ∙ check_here v layout seed time can.seed_fits can.time_fits (content_of (sector_of disk)) has (length old) (device_sectors (length old)) (body_sizes disk stands.whole)
+
+pub formatted_stands_for : NewImageStandsFor
+formatted_stands_for = λ old seed time can.
+    let disk = formatted old seed time in
+    let stands = regions_stand old seed time can in
+    let v = layout_of (length old) in
+    let layout = layout_fits (length old) can.small can.least in
+    let has = blocks_read old seed time can in
+    let c = content_of (sector_of disk) in
+    let s = opened_state v layout seed time can.seed_fits can.time_fits c has (length old) (device_sectors (length old)) (body_sizes disk stands.whole) in
+    record { opening = s.0; opened = ap (opened_in c) stands.counted ∙ s.1; state = s.2 }

@@ -11,7 +11,7 @@ use Rattle.std.proofs.lemmas.List.Elements.{recursion_from_All}
 use Rattle.disk_model.specs.Content.{Content}
 use Rattle.record_model.specs.Attributes.{units_at, unit_bytes}
 use Rattle.record_model.proofs.UnitBytes.{units_here}
-use Rattle.tree_model.specs.Names.{upper_units, name_order, comes_before}
+use Rattle.file_tree.specs.Names.{upper_units, name_order, comes_before}
 use Rattle.state_model.specs.declared.stream.Stream.{Stream}
 use Rattle.state_model.specs.declared.stream.Stream.TheVariants.{Placed}
 use Rattle.state_model.specs.Streams.{extent_bytes}

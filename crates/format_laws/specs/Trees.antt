@@ -3,15 +3,15 @@ use Rattle.std.specs.Prelude.{◌≡◌, ℕ, ◌<◌, ◌^◌, false, if◌then
 use Rattle.std.specs.List.{range_with_len}
 use Rattle.host_base.specs.declared.file_ref.FileRef.{FileRef}
 use Rattle.disk_model.specs.Content.{Content}
-use Rattle.tree_model.specs.declared.node.Kind.TheVariants.{Directory, System}
-use Rattle.tree_model.specs.declared.node.Node.{Node}
-use Rattle.tree_model.specs.declared.tree.Tree.{Tree}
-use Rattle.volume_state.specs.Trees.{Holds, checked}
+use Rattle.file_tree.specs.declared.node.Kind.TheVariants.{Directory, System}
+use Rattle.file_tree.specs.declared.node.Node.{Node}
+use Rattle.file_tree.specs.declared.tree.Tree.{Tree}
+use Rattle.volume_state.specs.Trees.{Holds, checked, IsState}
 use Rattle.volume_format.specs.declared.layout.Layout.{Layout}
 use Rattle.volume_format.specs.Layouts.{IsLayout, room}
 use Rattle.volume_format.specs.Files.{sequence, is_directory}
 use Rattle.format_blocks.specs.Blocks.{HasBlocks}
-use Rattle.format_files.specs.Volumes.{new_link, new_volume}
+use Rattle.format_files.specs.Volumes.{new_geometry, new_link, new_volume}
 
 -- a system file: the root and `$Extend` are directories; none shows its bytes, and all are hidden and of the system
 abbrev pub new_node : ℕ → ℕ → Node
@@ -48,8 +48,9 @@ new_tree v time = record {
   room = room v;
 }
 
--- a volume that was loaded as a new one breaks no rule and stands for that tree, and a check of it answers the tree
+-- a volume that was loaded as a new one breaks no rule and stands for that tree, as its content does, and a check of it answers the tree
 pub record StandsForTree (v : Layout) (time : ℕ) (c : Content) : Type 0 where
+  pub state : IsState c new_geometry v.clusters (new_tree v time)
   pub holds : Holds c (new_volume v time) (new_tree v time)
   pub answer : checked c (new_volume v time) ≡ Ok (new_tree v time)
 

@@ -1,4 +1,4 @@
-ghost use Rattle.format_laws.specs.Images.{NewVolumeStands};
+ghost use Rattle.format_laws.specs.Images.{NewVolumeStands, NewImageStandsFor};
 ghost use Rattle.format_laws.specs.Rules.{NewVolumeKeepsIndexes, NewVolumeKeepsSizes};
 ghost use Rattle.format_laws.specs.Trees.{LoadedVolumeStands};
 
@@ -24,4 +24,9 @@ pub fn loaded_volume_stands()
 /// answers the twelve system files, with all clusters after them free.
 pub fn new_volume_stands()
     ensures { NewVolumeStands }
+{}
+
+/// Law: the image that is written onto a device stands for the tree of the twelve system files.
+pub fn new_image_stands_for()
+    ensures { NewImageStandsFor }
 {}

@@ -7,5 +7,6 @@
 mod laws;
 
 pub use laws::{
-    loaded_volume_stands, new_volume_keeps_indexes, new_volume_keeps_sizes, new_volume_stands,
+    loaded_volume_stands, new_image_stands_for, new_volume_keeps_indexes, new_volume_keeps_sizes,
+    new_volume_stands,
 };

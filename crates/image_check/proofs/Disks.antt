@@ -7,9 +7,9 @@ use Rattle.host_base.proofs.Known.{both, one}
 use Rattle.disk_model.specs.Sectors.{sector_of}
 use Rattle.disk_model.specs.Content.{content_of}
 use Rattle.sector_device.specs.Sectors.{IsDiskOf}
-use Rattle.tree_model.specs.declared.tree.Tree.{Tree}
+use Rattle.file_tree.specs.declared.tree.Tree.{Tree}
 use Rattle.image_scan.specs.declared.refusal.Refusal.TheVariants.{Short}
-use Rattle.image_scan.specs.declared.refusal.ScanError.{ScanError}
+use Rattle.image_scan.specs.declared.refusal.MountFault.{MountFault}
 use Rattle.image_scan.specs.Errors.{scan_cause}
 use Rattle.image_check.specs.Checks.{check_in, check_of}
 
@@ -26,6 +26,6 @@ checked_on disk count some whole =
     ap (λ (n : ℕ). needs (nat_lt 0 n) (Short 1 0) >>= λ _. check_in (content_of (sector_of disk)) n) whole.counted
     ∙ ap (λ (b : Bool). needs b (Short 1 0) >>= λ _. check_in (content_of (sector_of disk)) count) (lt-ltb 0 count some)
 
-pub some_sectors : {X : Type 0} (known : Option (List (List ℕ))) (view : X → Tree) (count : ℕ) (result : Result X ScanError) → 0 < count → IfSome known (IsDiskOf count)
+pub some_sectors : {X : Type 0} (known : Option (List (List ℕ))) (view : X → Tree) (count : ℕ) (result : Result X MountFault) → 0 < count → IfSome known (IsDiskOf count)
     → IfSome known (λ disk. GivesOrFails view scan_cause result (check_in (content_of (sector_of disk)) count)) → IfSome known (λ disk. GivesOrFails view scan_cause result (check_of disk))
 some_sectors known view count result some whole h = both known _ _ _ (λ disk w p. rw (checked_on disk count some w) p) whole h

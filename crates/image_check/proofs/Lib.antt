@@ -1,2 +1,3 @@
 mod Disks
+mod States
 mod Steps

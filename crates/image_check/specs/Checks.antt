@@ -4,7 +4,7 @@ use Rattle.host_base.specs.Answers.{◌>>=◌, needs}
 use Rattle.disk_model.specs.Sectors.{sector_of}
 use Rattle.disk_model.specs.Content.{Content, content_of}
 use Rattle.record_model.specs.declared.values.VolumeInfo.{VolumeInfo}
-use Rattle.tree_model.specs.declared.tree.Tree.{Tree}
+use Rattle.file_tree.specs.declared.tree.Tree.{Tree}
 use Rattle.state_model.specs.declared.geometry.Geometry.{Geometry}
 use Rattle.volume_model.specs.Volumes.{Volume, volume_of}
 use Rattle.volume_state.specs.Versions.{volume_info, is_known}

@@ -14,42 +14,42 @@ ghost use Rattle.image_check.specs.Checks.{judged_version, has_version, tree_on,
 
 use block_view::View;
 use device_view::{DeviceView, piece_room};
-use image_scan::{Opening, Refusal, ScanError, open_volume};
+use file_tree::Tree;
+use image_scan::{MountFault, Opening, Refusal, open_volume};
 use log_recovery::{RecoveredView, places_of};
 use record_model::VolumeInfo;
 use sector_device::Device;
 use state_model::Geometry;
 use std::alloc::Global;
-use tree_model::Tree;
 use volume_check::{CheckFault, check};
 use volume_map::{VolumeMap, load_volume};
 use volume_parts::volume_info;
 
-fn error_of(fault: CheckFault) -> ScanError
+fn error_of(fault: CheckFault) -> MountFault
     ensures value { result ≡ error_of_check fault }
 {
     match fault {
-        CheckFault::Broken(broken) => ScanError::Refused(Refusal::BadVolume {
+        CheckFault::Broken(broken) => MountFault::Refused(Refusal::BadVolume {
             rule: broken.rule,
             number: broken.number,
         }),
-        CheckFault::View => ScanError::Device,
-        CheckFault::Memory => ScanError::Memory,
+        CheckFault::View => MountFault::Device,
+        CheckFault::Memory => MountFault::Memory,
     }
 }
 
 /// The tree of a loaded volume that breaks none of the nine rules, without the bytes of its files
 /// and the records of its journal; it costs what [`check`] does.
 ///
-/// - [`ScanError::Refused`]: [`Refusal::BadVolume`] with the first rule that is broken, and the
+/// - [`MountFault::Refused`]: [`Refusal::BadVolume`] with the first rule that is broken, and the
 ///   least number at which it is.
-/// - [`ScanError::Device`]: the view failed.
-/// - [`ScanError::Memory`]: want of memory.
-pub fn tree_on<V: View>(alloc: Global, view: &mut V, map: &VolumeMap) -> Result<Tree, ScanError>
+/// - [`MountFault::Device`]: the view failed.
+/// - [`MountFault::Memory`]: want of memory.
+pub fn tree_on<V: View>(alloc: Global, view: &mut V, map: &VolumeMap) -> Result<Tree, MountFault>
     requires map { IsMap map.now }
     ensures answer { IfSome (V.content view.old) (λ c. GivesOrFails (λ tree. tree) scan_cause result (tree_on c (volume_in map.now))) }
     ensures kept { KeepsView V.content V.kept V.faults view.old view.new }
-    ensures fault { IsErrOf result ScanError.Device → Rose (V.faults view.old) (V.faults view.new) }
+    ensures fault { IsErrOf result MountFault.Device → Rose (V.faults view.old) (V.faults view.new) }
     ensures counted { Counts scan_cause (V.faults view.old) (V.faults view.new) result }
 {
     match check(alloc, view, map) {
@@ -58,13 +58,13 @@ pub fn tree_on<V: View>(alloc: Global, view: &mut V, map: &VolumeMap) -> Result<
     }
 }
 
-fn judge_version(info: VolumeInfo) -> Result<(), ScanError>
+fn judge_version(info: VolumeInfo) -> Result<(), MountFault>
     ensures answer { Gives (λ x. x) scan_cause result (judged_version info) }
 {
     if info.major == 3 && info.minor == 1 {
         return Ok(());
     }
-    Err(ScanError::Refused(Refusal::Version {
+    Err(MountFault::Refused(Refusal::Version {
         major: info.major,
         minor: info.minor,
     }))
@@ -74,18 +74,18 @@ fn judge_version(info: VolumeInfo) -> Result<(), ScanError>
 /// 3.1, by [`Refusal::Version`] with its version, or with version 0.0 where there is none. Linear in
 /// the attributes of record 3.
 #[tactic(auto, unfolding(crate::specs::Checks::has_version))]
-pub fn check_version(map: &VolumeMap) -> Result<(), ScanError>
+pub fn check_version(map: &VolumeMap) -> Result<(), MountFault>
     ensures answer { Gives (λ x. x) scan_cause result (has_version (volume_in map.now)) }
 {
     judge_version(volume_info(map))
 }
 
 // The tree of a loaded volume.
-fn volume_tree<V: View>(alloc: Global, view: &mut V, map: &VolumeMap) -> Result<Tree, ScanError>
+fn volume_tree<V: View>(alloc: Global, view: &mut V, map: &VolumeMap) -> Result<Tree, MountFault>
     requires map { IsMap map.now }
     ensures answer { IfSome (V.content view.old) (λ c. GivesOrFails (λ tree. tree) scan_cause result (volume_tree c (volume_in map.now))) }
     ensures kept { KeepsView V.content V.kept V.faults view.old view.new }
-    ensures fault { IsErrOf result ScanError.Device → Rose (V.faults view.old) (V.faults view.new) }
+    ensures fault { IsErrOf result MountFault.Device → Rose (V.faults view.old) (V.faults view.new) }
     ensures counted { Counts scan_cause (V.faults view.old) (V.faults view.new) result }
 {
     check_version(map)?;
@@ -95,22 +95,22 @@ fn volume_tree<V: View>(alloc: Global, view: &mut V, map: &VolumeMap) -> Result<
 /// The volume that a view's content is, of this geometry and so many clusters; it costs what
 /// [`load_volume`] does.
 ///
-/// - [`ScanError::Refused`]: the first refusal of the file table's records.
-/// - [`ScanError::Device`]: the view failed.
-/// - [`ScanError::Memory`]: want of memory.
+/// - [`MountFault::Refused`]: the first refusal of the file table's records.
+/// - [`MountFault::Device`]: the view failed.
+/// - [`MountFault::Memory`]: want of memory.
 pub fn volume_on<V: View>(
     alloc: Global,
     view: &mut V,
     geometry: Geometry,
     total: u64,
-) -> Result<VolumeMap, ScanError>
+) -> Result<VolumeMap, MountFault>
     requires some { 0 < geometry.per_cluster }
     requires few { geometry.per_cluster ≤ 8 }
     requires place { geometry.mft * geometry.per_cluster < 2 ^ 62 }
     ensures answer { IfSome (V.content view.old) (λ c. GivesOrFails volume_in scan_cause result (volume_on c geometry total)) }
     ensures map { IfOk result IsMap }
     ensures kept { KeepsView V.content V.kept V.faults view.old view.new }
-    ensures fault { IsErrOf result ScanError.Device → Rose (V.faults view.old) (V.faults view.new) }
+    ensures fault { IsErrOf result MountFault.Device → Rose (V.faults view.old) (V.faults view.new) }
     ensures counted { Counts scan_cause (V.faults view.old) (V.faults view.new) result }
 {
     Ok(load_volume(alloc, view, geometry, total)?)
@@ -122,13 +122,13 @@ fn loaded_tree<V: View>(
     view: &mut V,
     geometry: Geometry,
     total: u64,
-) -> Result<Tree, ScanError>
+) -> Result<Tree, MountFault>
     requires some { 0 < geometry.per_cluster }
     requires few { geometry.per_cluster ≤ 8 }
     requires place { geometry.mft * geometry.per_cluster < 2 ^ 62 }
     ensures answer { IfSome (V.content view.old) (λ c. GivesOrFails (λ tree. tree) scan_cause result (loaded_tree c geometry total)) }
     ensures kept { KeepsView V.content V.kept V.faults view.old view.new }
-    ensures fault { IsErrOf result ScanError.Device → Rose (V.faults view.old) (V.faults view.new) }
+    ensures fault { IsErrOf result MountFault.Device → Rose (V.faults view.old) (V.faults view.new) }
     ensures counted { Counts scan_cause (V.faults view.old) (V.faults view.new) result }
 {
     let map = volume_on(alloc, view, geometry, total)?;
@@ -136,11 +136,11 @@ fn loaded_tree<V: View>(
 }
 
 // The tree of a volume that was opened.
-fn opened_tree<V: View>(alloc: Global, view: &mut V, opening: &Opening) -> Result<Tree, ScanError>
+fn opened_tree<V: View>(alloc: Global, view: &mut V, opening: &Opening) -> Result<Tree, MountFault>
     requires opening { IsOpening opening.now }
     ensures answer { IfSome (V.content view.old) (λ c. GivesOrFails (λ tree. tree) scan_cause result (loaded_tree (content_after opening.now c) opening.now.geometry opening.now.total)) }
     ensures kept { KeepsView V.content V.kept V.faults view.old view.new }
-    ensures fault { IsErrOf result ScanError.Device → Rose (V.faults view.old) (V.faults view.new) }
+    ensures fault { IsErrOf result MountFault.Device → Rose (V.faults view.old) (V.faults view.new) }
     ensures counted { Counts scan_cause (V.faults view.old) (V.faults view.new) result }
 {
     let places = places_of(alloc, &opening.bodies)?;
@@ -149,10 +149,10 @@ fn opened_tree<V: View>(alloc: Global, view: &mut V, opening: &Opening) -> Resul
 }
 
 // The tree of a view of so many sectors.
-fn check_view<V: View>(alloc: Global, view: &mut V, sectors: u64) -> Result<Tree, ScanError>
+fn check_view<V: View>(alloc: Global, view: &mut V, sectors: u64) -> Result<Tree, MountFault>
     ensures answer { IfSome (V.content view.old) (λ c. GivesOrFails (λ tree. tree) scan_cause result (check_in c sectors)) }
     ensures kept { KeepsView V.content V.kept V.faults view.old view.new }
-    ensures fault { IsErrOf result ScanError.Device → Rose (V.faults view.old) (V.faults view.new) }
+    ensures fault { IsErrOf result MountFault.Device → Rose (V.faults view.old) (V.faults view.new) }
     ensures counted { Counts scan_cause (V.faults view.old) (V.faults view.new) result }
 {
     let opening = open_volume(alloc, view, sectors)?;
@@ -160,10 +160,10 @@ fn check_view<V: View>(alloc: Global, view: &mut V, sectors: u64) -> Result<Tree
 }
 
 // The tree of a device of so many sectors.
-fn check_device<D: Device>(alloc: Global, device: &mut D, sectors: u64) -> Result<Tree, ScanError>
+fn check_device<D: Device>(alloc: Global, device: &mut D, sectors: u64) -> Result<Tree, MountFault>
     ensures answer { IfSome (D.gives device.old) (λ disk. GivesOrFails (λ tree. tree) scan_cause result (check_in (content_of (sector_of disk)) sectors)) }
     ensures kept { KeepsDevice D.gives D.sector_count D.changes_of D.fault_count device.old device.new }
-    ensures fault { IsErrOf result ScanError.Device → HasFailed (D.fault_count device.old) (D.fault_count device.new) (D.moment_of device.new) }
+    ensures fault { IsErrOf result MountFault.Device → HasFailed (D.fault_count device.old) (D.fault_count device.new) (D.moment_of device.new) }
     ensures counted { D.moment_of device.old < last_moment → CountsOnDevice scan_cause (D.fault_count device.old) (D.fault_count device.new) (D.moment_of device.new) result }
 {
     let mut room = piece_room(alloc)?;
@@ -179,7 +179,7 @@ fn check_device<D: Device>(alloc: Global, device: &mut D, sectors: u64) -> Resul
 /// linear in these and in the file table, and near linear in the runs of all streams, which it
 /// sorts; its memory is linear in the file table and in the bitmaps.
 ///
-/// - [`ScanError::Refused`]: the first refusal that applies. First [`Refusal::Short`] of 1 and 0
+/// - [`MountFault::Refused`]: the first refusal that applies. First [`Refusal::Short`] of 1 and 0
 ///   where the device has no sectors; then those of the boot sector; then `Short` with the sectors
 ///   of the volume and of the device, where the device has fewer; then record 2, by the rules 1 to
 ///   8, and the log; then record 0, and all records, as recovery by the log would leave them; then
@@ -188,19 +188,19 @@ fn check_device<D: Device>(alloc: Global, device: &mut D, sectors: u64) -> Resul
 ///   [`Refusal::BadVolume`] with the first of the nine rules that is broken, and the least number
 ///   at which it is: of a record, of a cluster (rules 5 and 6), or of a byte of the journal (rule
 ///   9).
-/// - [`ScanError::Device`]: the device failed.
-/// - [`ScanError::Memory`]: want of memory.
-pub fn check_image<D: Device>(alloc: Global, device: &mut D) -> Result<Tree, ScanError>
+/// - [`MountFault::Device`]: the device failed.
+/// - [`MountFault::Memory`]: want of memory.
+pub fn check_image<D: Device>(alloc: Global, device: &mut D) -> Result<Tree, MountFault>
     ensures answer { IfSome (D.gives device.old) (λ disk. GivesOrFails (λ tree. tree) scan_cause result (check_of disk)) }
     ensures kept { KeepsDevice D.gives D.sector_count D.changes_of D.fault_count device.old device.new }
-    ensures fault { IsErrOf result ScanError.Device → HasFailed (D.fault_count device.old) (D.fault_count device.new) (D.moment_of device.new) }
+    ensures fault { IsErrOf result MountFault.Device → HasFailed (D.fault_count device.old) (D.fault_count device.new) (D.moment_of device.new) }
     ensures counted { D.moment_of device.old < last_moment → CountsOnDevice scan_cause (D.fault_count device.old) (D.fault_count device.new) (D.moment_of device.new) result }
-    ensures none { D.sector_count device.old ≡ 0 → result ≡ Err (ScanError.Refused (Refusal.Short 1 0)) }
+    ensures none { D.sector_count device.old ≡ 0 → result ≡ Err (MountFault.Refused (Refusal.Short 1 0)) }
     ensures unasked { D.sector_count device.old ≡ 0 → device.new ≡ device.old }
 {
     let sectors = device.sectors();
     if sectors == 0 {
-        return Err(ScanError::Refused(Refusal::Short {
+        return Err(MountFault::Refused(Refusal::Short {
             sectors: 1,
             device: 0,
         }));

@@ -1,7 +1,7 @@
 -- What holds of the orders in which nodes and links are printed.
 use Rattle.std.specs.Prelude.{◌≡◌, ◌↔◌, List}
-use Rattle.tree_model.specs.declared.node.Node.{Node}
-use Rattle.tree_model.specs.declared.link.Link.{Link}
+use Rattle.file_tree.specs.declared.node.Node.{Node}
+use Rattle.file_tree.specs.declared.link.Link.{Link}
 use Rattle.image_dump.specs.Order.{IsInOrder, in_order, is_node_before, stands_before}
 
 -- the nodes in order are the one list of these nodes that is sorted and keeps what ties as it stands

@@ -1,12 +1,12 @@
 -- The orders in which nodes and links are printed.
-use Rattle.std.specs.Prelude.{Bool, not, if◌then◌else◌, List, [], ◌∷◌, filter}
+use Rattle.std.specs.Prelude.{Bool, if◌then◌else◌, List, [], ◌∷◌, filter}
 use Rattle.std.specs.declared.cmp.Ordering.{Ordering}
 use Rattle.std.specs.Ordering.{nat_cmp, ordering_then, is_lt}
 use Rattle.std.specs.Cmp.Lexicographic.{slice_cmp}
 use Rattle.std.specs.List.Sorted.{IsPermutation, IsSortedBy, IsStableBy}
-use Rattle.tree_model.specs.declared.node.Node.{Node}
-use Rattle.tree_model.specs.declared.link.Link.{Link}
-use Rattle.tree_model.specs.Trees.{is_long}
+use Rattle.file_tree.specs.declared.node.Node.{Node}
+use Rattle.file_tree.specs.declared.link.Link.{Link}
+use Rattle.file_tree.specs.Trees.{is_short, is_long}
 
 -- ---- any order
 
@@ -46,9 +46,6 @@ link_order a b = ordering_then (nat_cmp a.child.number b.child.number) (ordering
 
 abbrev pub stands_before : Link → Link → Bool
 stands_before a b = is_lt (link_order a b)
-
-abbrev pub is_short : Link → Bool
-is_short link = not (is_long link)
 
 -- the long ones among links, in order
 abbrev pub long_links : List Link → List Link

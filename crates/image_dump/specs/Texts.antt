@@ -5,11 +5,11 @@ use Rattle.std.specs.Int.{w32, to_be_bytes}
 use Rattle.std.specs.Fmt.{decimal, signed_decimal}
 use Rattle.hex.specs.Hex.{encode_lower}
 use Rattle.utf16_name.specs.Texts.{name_text}
-use Rattle.tree_model.specs.declared.node.Node.{Node}
-use Rattle.tree_model.specs.declared.link.Link.{Link}
-use Rattle.tree_model.specs.declared.journal.Usn.{Usn}
-use Rattle.tree_model.specs.declared.journal.Journal.{Journal}
-use Rattle.tree_model.specs.declared.tree.Tree.{Tree}
+use Rattle.file_tree.specs.declared.node.Node.{Node}
+use Rattle.file_tree.specs.declared.link.Link.{Link}
+use Rattle.file_tree.specs.declared.journal.Usn.{Usn}
+use Rattle.file_tree.specs.declared.journal.Journal.{Journal}
+use Rattle.file_tree.specs.declared.tree.Tree.{Tree}
 use Rattle.run_model.specs.Texts.{kind_text}
 use Rattle.image_dump.specs.Order.{by_number, long_links, short_links}
 

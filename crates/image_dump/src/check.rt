@@ -2,9 +2,9 @@
 ghost use Rattle.std.specs.Prelude.{◌≡◌, ◌++◌, IfOk, OnOk, OnErr, string_bytes};
 ghost use Rattle.image_dump.specs.Texts.{check_text};
 
+use file_tree::Tree;
 use host_base::Memory;
 use std::alloc::{AllocError, Global};
-use tree_model::Tree;
 
 #[tactic(auto, unfolding(crate::specs::Texts::check_text))]
 fn line_of_tree(alloc: Global, tree: &Tree) -> Result<String, AllocError>

@@ -2,16 +2,16 @@
 ghost use Rattle.std.specs.Prelude.{◌≡◌, ◌++◌, IfOk, OnOk, OnErr, map, string_bytes};
 ghost use Rattle.std.specs.Borrow.{Bor};
 ghost use Rattle.std.specs.List.{flat_map};
-ghost use Rattle.tree_model.specs.declared.node.Node.{Node as the_node};
-ghost use Rattle.tree_model.specs.declared.link.Link.{Link as the_link};
+ghost use Rattle.file_tree.specs.declared.node.Node.{Node as the_node};
+ghost use Rattle.file_tree.specs.declared.link.Link.{Link as the_link};
 ghost use Rattle.image_dump.specs.Order.{by_number, long_links, short_links};
 ghost use Rattle.image_dump.specs.Texts.{node_line, long_line, short_line, dump_text};
 
 use crate::line::{push_journal, push_long, push_node, push_room, push_short};
 use crate::order::{by_number, long_links, short_links};
+use file_tree::{Link, Node, Tree};
 use host_base::Memory;
 use std::alloc::Global;
-use tree_model::{Link, Node, Tree};
 
 // Appends a line for each node, by number.
 fn push_nodes(text: &mut String, nodes: &[Node]) -> Result<(), Memory>

@@ -3,9 +3,9 @@ ghost use Rattle.std.specs.Prelude.{◌≡◌, ◌++◌, IfOk, OnOk, OnErr, stri
 ghost use Rattle.image_dump.specs.Texts.{journal_text};
 
 use crate::line::{push_entry, push_span};
+use file_tree::Usn;
 use host_base::Memory;
 use std::alloc::Global;
-use tree_model::Usn;
 
 fn text_of_entries(alloc: Global, entries: &[Usn], first: u64, next: u64) -> Result<String, Memory>
     ensures { IfOk result (λ text. string_bytes text ≡ journal_text entries.now first next) }

@@ -3,10 +3,10 @@ ghost use Rattle.std.specs.Prelude.{◌≡◌, ◌∷◌, ◌++◌, OnOk, string
 ghost use Rattle.run_model.specs.Texts.{kind_text};
 ghost use Rattle.image_dump.specs.Texts.{link_line, total_line, node_line, long_line, short_line, journal_line, room_line, eight_digits, entry_line, span_line};
 
+use file_tree::{Journal, Kind, Link, Node, Usn};
 use host_base::Memory;
 use std::alloc::AllocError;
 use std::fmt::Write;
-use tree_model::{Journal, Kind, Link, Node, Usn};
 
 /// `N S P Q NAME`: child number and sequence, parent number and sequence, and the name.
 #[tactic(auto, unfolding(crate::specs::Texts::link_line))]

@@ -1,17 +1,14 @@
 //! The orders in which nodes and links are printed.
 ghost use Rattle.std.specs.Prelude.{◌≡◌, IfOk, OnOk, filter, map};
 ghost use Rattle.std.specs.Borrow.{Bor};
-ghost use Rattle.tree_model.specs.declared.node.Node.{Node as the_node};
-ghost use Rattle.tree_model.specs.declared.link.Link.{Link as the_link};
-ghost use Rattle.tree_model.specs.Trees.{is_long};
-ghost use Rattle.image_dump.specs.Order.{is_short, link_order, node_order, in_order, stands_before, is_node_before, by_number, long_links, short_links};
+ghost use Rattle.file_tree.specs.declared.node.Node.{Node as the_node};
+ghost use Rattle.file_tree.specs.declared.link.Link.{Link as the_link};
+ghost use Rattle.file_tree.specs.Trees.{is_short, is_long};
+ghost use Rattle.image_dump.specs.Order.{link_order, node_order, in_order, stands_before, is_node_before, by_number, long_links, short_links};
 
+use file_tree::{Link, Node, SHORT};
 use std::alloc::{AllocError, Global};
 use std::cmp::Ordering;
-use tree_model::{Link, Node};
-
-// The namespace of short names.
-const SHORT: u8 = 2;
 
 fn compare_nodes(a: &Node, b: &Node) -> Ordering
     ensures { result ≡ node_order a.now b.now }

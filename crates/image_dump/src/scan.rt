@@ -4,9 +4,9 @@ ghost use Rattle.image_dump.specs.Texts.{scan_text};
 
 use crate::line::{push_link, push_total};
 use crate::order::long_links;
+use file_tree::Link;
 use host_base::Memory;
 use std::alloc::Global;
-use tree_model::Link;
 
 fn text_of_links(alloc: Global, links: &[Link]) -> Result<String, Memory>
     ensures { IfOk result (λ text. string_bytes text ≡ scan_text links.now) }

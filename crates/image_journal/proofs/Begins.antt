@@ -7,7 +7,7 @@ use Rattle.host_base.specs.Answers.{◌>>=◌, needs}
 use Rattle.host_base.proofs.Known.{one}
 use Rattle.disk_model.specs.Numbers.{field}
 use Rattle.disk_model.specs.Content.{Content}
-use Rattle.tree_model.specs.declared.journal.Usn.{Usn}
+use Rattle.file_tree.specs.declared.journal.Usn.{Usn}
 use Rattle.state_model.specs.declared.stream.Extents.{Extents}
 use Rattle.state_model.specs.Streams.{byte_at}
 use Rattle.journal_model.specs.declared.fault.UsnFault.{UsnFault}

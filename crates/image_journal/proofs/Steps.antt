@@ -4,7 +4,7 @@ use Rattle.std.specs.Prelude.{IfSome, IfOk, nat_le}
 use Rattle.host_base.specs.Answers.{◌>>=◌, needs, Explains, ExplainsOrFails, Gives, GivesOrFails}
 use Rattle.host_base.proofs.Known.{one, always}
 use Rattle.disk_model.specs.Content.{Content}
-use Rattle.tree_model.specs.declared.journal.Usn.{Usn}
+use Rattle.file_tree.specs.declared.journal.Usn.{Usn}
 use Rattle.state_model.specs.declared.stream.Extents.{Extents}
 use Rattle.volume_model.specs.Volumes.{Volume, upper_of}
 use Rattle.volume_journal.specs.Places.{journal_place}
@@ -15,8 +15,8 @@ use Rattle.usn_journal.specs.declared.pulling.Pulled.{Pulled}
 use Rattle.usn_journal.specs.Pulls.{from_on, read_entries, pulled_in, pulled_of}
 use Rattle.image_scan.specs.declared.refusal.Refusal.{Refusal}
 use Rattle.image_scan.specs.declared.refusal.Refusal.TheVariants.{NoJournal}
-use Rattle.image_scan.specs.declared.refusal.ScanError.{ScanError}
-use Rattle.image_scan.specs.declared.refusal.ScanError.TheVariants as errors
+use Rattle.image_scan.specs.declared.refusal.MountFault.{MountFault}
+use Rattle.image_scan.specs.declared.refusal.MountFault.TheVariants as errors
 use Rattle.image_scan.specs.Errors.{scan_cause, refused_as}
 use Rattle.image_scan.proofs.Steps.{gives_or_fails, okay}
 use Rattle.image_journal.specs.Records.{place_on}
@@ -34,7 +34,7 @@ unfolding place_on
 is_placed known v e h = one known _ _ (λ c is. place_answer (journal_place (upper_of c v) v) e is) h
 
 -- the place that a table of upper-case units gives, where it is the volume's
-pub placed : (known : Option Content) (v : Volume) (upper : List ℕ) (result : Result Extents ScanError) → IfSome known (λ c. upper ≡ upper_of c v) → Gives (λ e. e) scan_cause result (refused_as NoJournal (journal_place upper v))
+pub placed : (known : Option Content) (v : Volume) (upper : List ℕ) (result : Result Extents MountFault) → IfSome known (λ c. upper ≡ upper_of c v) → Gives (λ e. e) scan_cause result (refused_as NoJournal (journal_place upper v))
     → IfSome known (λ c. GivesOrFails (λ e. e) scan_cause result (place_on c v))
 unfolding place_on
 placed known v upper result same h = one known _ _ (λ c is. rw (← is) (gives_or_fails (λ (e : Extents). e) result (refused_as NoJournal (journal_place upper v)) h)) same
@@ -51,13 +51,13 @@ unfolding pulled_of
 entries_are c per e first most pulled is =
     ap (λ (p : Pulled). p.entries) (sym (pulled_is (nat_le (journal_first per e) first) (nat_le first e.real) (Trimmed (journal_first per e)) (Ahead e.real) (pulled_in e.real first most (read_entries (journal_entries c per e))) pulled is))
 
-abbrev AreFew : ℕ → Result (List Usn) ScanError → Type 0
+abbrev AreFew : ℕ → Result (List Usn) MountFault → Type 0
 AreFew most result = IfOk result (λ (kept : List Usn). length kept < most)
 
 okay_is : {A : Type 0} (x y : A) → okay x ≡ okay y → x ≡ y
 okay_is x y e = cc
 
-given : (c : Content) (per : ℕ) (e : Extents) (first most : ℕ) (pulled : Pulled) (result : Result (List Usn) ScanError) → first ≡ journal_first per e → pulled_of c per e first most ≡ Ok pulled
+given : (c : Content) (per : ℕ) (e : Extents) (first most : ℕ) (pulled : Pulled) (result : Result (List Usn) MountFault) → first ≡ journal_first per e → pulled_of c per e first most ≡ Ok pulled
     → Gives (λ (l : List Usn). l) scan_cause result (okay pulled.entries) → AreFew most result → GivesOrFails (λ (l : List Usn). l) scan_cause result (okay (read_entries (journal_entries c per e)))
 given c per e first most pulled (Ok kept) begin is h few =
     let same : pulled.entries ≡ kept = okay_is pulled.entries kept h in
@@ -67,23 +67,23 @@ given c per e first most pulled (Err errors.Device) begin is h few = tt
 given c per e first most pulled (Err (errors.Refused r)) begin is h few = absurd cc
 
 -- all records are given, where fewer were pulled than were asked for
-pub entries_given : (known : Option Content) (per : ℕ) (e : Extents) (first most : ℕ) (pulled : Pulled) (result : Result (List Usn) ScanError) → first ≡ journal_first per e → IfSome known (λ c. pulled_of c per e first most ≡ Ok pulled)
+pub entries_given : (known : Option Content) (per : ℕ) (e : Extents) (first most : ℕ) (pulled : Pulled) (result : Result (List Usn) MountFault) → first ≡ journal_first per e → IfSome known (λ c. pulled_of c per e first most ≡ Ok pulled)
     → Gives (λ (l : List Usn). l) scan_cause result (okay pulled.entries) → AreFew most result → IfSome known (λ c. GivesOrFails (λ (l : List Usn). l) scan_cause result (okay (read_entries (journal_entries c per e))))
 entries_given known per e first most pulled result begin is h few = one known _ _ (λ c p. given c per e first most pulled result begin p h few) is
 
 -- ---- a first step that reaches nothing outside
 
-explained : {A B : Type 0} (e : ScanError) (f : Result A Refusal) (g : A → Result B Refusal) → Explains (scan_cause e) f → ExplainsOrFails (scan_cause e) (f >>= g)
+explained : {A B : Type 0} (e : MountFault) (f : Result A Refusal) (g : A → Result B Refusal) → Explains (scan_cause e) f → ExplainsOrFails (scan_cause e) (f >>= g)
 explained errors.Memory f g h = tt
 explained errors.Device f g h = absurd h
 explained (errors.Refused r) f g h = ap (λ x. x >>= g) h
 
 -- its error is that of both steps
-pub fails_at_once : {X Y A B : Type 0} (known : Option Content) (view : X → A) (view' : Y → B) (e : ScanError) (f : Result A Refusal) (g : Content → A → Result B Refusal)
+pub fails_at_once : {X Y A B : Type 0} (known : Option Content) (view : X → A) (view' : Y → B) (e : MountFault) (f : Result A Refusal) (g : Content → A → Result B Refusal)
     → Gives {X = X} view scan_cause (Err e) f → IfSome known (λ c. GivesOrFails {X = Y} view' scan_cause (Err e) (f >>= g c))
 fails_at_once known view view' e f g h = always known _ (λ c. explained e f (g c) h)
 
 -- the second step goes on with its value
-pub goes_on_at_once : {Y A B : Type 0} (known : Option Content) (view : Y → B) (x : A) (result : Result Y ScanError) (f : Result A Refusal) (g : Content → A → Result B Refusal)
+pub goes_on_at_once : {Y A B : Type 0} (known : Option Content) (view : Y → B) (x : A) (result : Result Y MountFault) (f : Result A Refusal) (g : Content → A → Result B Refusal)
     → f ≡ Ok x → IfSome known (λ c. GivesOrFails view scan_cause result (g c x)) → IfSome known (λ c. GivesOrFails view scan_cause result (f >>= g c))
 goes_on_at_once known view x result f g first second = one known _ _ (λ c p. rw first p) second

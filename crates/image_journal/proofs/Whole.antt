@@ -5,11 +5,11 @@ use Rattle.host_base.specs.Answers.{◌>>=◌, needs}
 use Rattle.host_base.proofs.Known.{both}
 use Rattle.disk_model.specs.Content.{Content}
 use Rattle.record_model.specs.declared.values.JournalMax.{JournalMax}
-use Rattle.record_model.specs.Values.{attribute_list, data_type}
 use Rattle.record_model.specs.Records.{Record}
-use Rattle.tree_model.specs.declared.journal.Usn.{Usn}
-use Rattle.tree_model.specs.declared.journal.Journal.{Journal}
-use Rattle.tree_model.specs.declared.tree.Tree.{Tree}
+use Rattle.record_model.specs.Constants.{attribute_list, data_type}
+use Rattle.file_tree.specs.declared.journal.Usn.{Usn}
+use Rattle.file_tree.specs.declared.journal.Journal.{Journal}
+use Rattle.file_tree.specs.declared.tree.Tree.{Tree}
 use Rattle.state_model.specs.declared.broken.Broken.{Broken}
 use Rattle.state_model.specs.declared.stream.Extents.{Extents}
 use Rattle.state_model.specs.declared.stream.Stream.{Stream}

@@ -6,16 +6,16 @@ use Rattle.usn_journal.specs.declared.fault.PullFault.{PullFault}
 use Rattle.usn_journal.specs.declared.fault.PullFault.TheVariants as pulls
 use Rattle.image_scan.specs.declared.refusal.Refusal.{Refusal}
 use Rattle.image_scan.specs.declared.refusal.Refusal.TheVariants.{NoJournal}
-use Rattle.image_scan.specs.declared.refusal.ScanError.{ScanError}
-use Rattle.image_scan.specs.declared.refusal.ScanError.TheVariants as errors
+use Rattle.image_scan.specs.declared.refusal.MountFault.{MountFault}
+use Rattle.image_scan.specs.declared.refusal.MountFault.TheVariants as errors
 
 -- why there is no journal
-abbrev pub error_of_place : PlaceFault → ScanError
+abbrev pub error_of_place : PlaceFault → MountFault
 error_of_place (places.Absent why) = errors.Refused (NoJournal why)
 error_of_place places.Memory = errors.Memory
 
 -- a whole journal has its first byte
-abbrev pub error_of_pull : PullFault → ScanError
+abbrev pub error_of_pull : PullFault → MountFault
 error_of_pull (pulls.Trimmed first) = errors.Memory
 error_of_pull (pulls.Ahead next) = errors.Memory
 error_of_pull pulls.View = errors.Device

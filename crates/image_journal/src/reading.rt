@@ -19,13 +19,13 @@ use crate::records::{all_entries, place_on};
 use block_view::View;
 use device_view::{DeviceView, piece_room};
 use disk_model::Body;
+use file_tree::UsnList;
 use image_check::{check_version, tree_on, volume_on};
-use image_scan::{Opening, Refusal, ScanError, open_volume};
+use image_scan::{MountFault, Opening, Refusal, open_volume};
 use log_recovery::{RecoveredView, places_of};
 use sector_device::Device;
 use state_model::{Extents, Geometry};
 use std::alloc::Global;
-use tree_model::UsnList;
 use volume_journal::first_byte;
 use volume_map::VolumeMap;
 
@@ -49,7 +49,7 @@ fn records_in<V: View>(
     per: u64,
     extents: &Extents,
     body: &mut Body,
-) -> Result<ReadJournal, ScanError>
+) -> Result<ReadJournal, MountFault>
     requires some { 0 < per }
     requires few { per ≤ 8 }
     requires small { AreSmall extents.now.runs }
@@ -57,7 +57,7 @@ fn records_in<V: View>(
     requires whole { IfSome (V.content view.old) (λ c. IsOk (journal_entries c per extents.now)) }
     ensures answer { IfSome (V.content view.old) (λ c. GivesOrFails (λ j. j) scan_cause result (Ok (records_in c per extents.now))) }
     ensures kept { KeepsView V.content V.kept V.faults view.old view.new }
-    ensures fault { IsErrOf result ScanError.Device → Rose (V.faults view.old) (V.faults view.new) }
+    ensures fault { IsErrOf result MountFault.Device → Rose (V.faults view.old) (V.faults view.new) }
     ensures counted { Counts scan_cause (V.faults view.old) (V.faults view.new) result }
 {
     let first = first_byte(per, extents);
@@ -76,14 +76,14 @@ fn records_by<V: View>(
     map: &VolumeMap,
     extents: &Extents,
     body: &mut Body,
-) -> Result<ReadJournal, ScanError>
+) -> Result<ReadJournal, MountFault>
     requires map { IsMap map.now }
     requires small { AreSmall extents.now.runs }
     requires left { journal_first map.now.per_cluster extents.now ≤ extents.now.real }
     requires place { IfSome (V.content view.old) (λ c. journal_place (upper_of c (volume_in map.now)) (volume_in map.now) ≡ Ok extents.now) }
     ensures answer { IfSome (V.content view.old) (λ c. GivesOrFails (λ j. j) scan_cause result (records_by c (volume_in map.now) extents.now)) }
     ensures kept { KeepsView V.content V.kept V.faults view.old view.new }
-    ensures fault { IsErrOf result ScanError.Device → Rose (V.faults view.old) (V.faults view.new) }
+    ensures fault { IsErrOf result MountFault.Device → Rose (V.faults view.old) (V.faults view.new) }
     ensures counted { Counts scan_cause (V.faults view.old) (V.faults view.new) result }
 {
     tree_on(alloc, view, map)?;
@@ -95,11 +95,11 @@ fn placed_records<V: View>(
     alloc: Global,
     view: &mut V,
     map: &VolumeMap,
-) -> Result<ReadJournal, ScanError>
+) -> Result<ReadJournal, MountFault>
     requires map { IsMap map.now }
     ensures answer { IfSome (V.content view.old) (λ c. GivesOrFails (λ j. j) scan_cause result (placed_records c (volume_in map.now))) }
     ensures kept { KeepsView V.content V.kept V.faults view.old view.new }
-    ensures fault { IsErrOf result ScanError.Device → Rose (V.faults view.old) (V.faults view.new) }
+    ensures fault { IsErrOf result MountFault.Device → Rose (V.faults view.old) (V.faults view.new) }
     ensures counted { Counts scan_cause (V.faults view.old) (V.faults view.new) result }
 {
     let mut body = Body::empty(alloc)?;
@@ -112,11 +112,11 @@ fn volume_records<V: View>(
     alloc: Global,
     view: &mut V,
     map: &VolumeMap,
-) -> Result<ReadJournal, ScanError>
+) -> Result<ReadJournal, MountFault>
     requires map { IsMap map.now }
     ensures answer { IfSome (V.content view.old) (λ c. GivesOrFails (λ j. j) scan_cause result (volume_records c (volume_in map.now))) }
     ensures kept { KeepsView V.content V.kept V.faults view.old view.new }
-    ensures fault { IsErrOf result ScanError.Device → Rose (V.faults view.old) (V.faults view.new) }
+    ensures fault { IsErrOf result MountFault.Device → Rose (V.faults view.old) (V.faults view.new) }
     ensures counted { Counts scan_cause (V.faults view.old) (V.faults view.new) result }
 {
     check_version(map)?;
@@ -129,13 +129,13 @@ fn loaded_records<V: View>(
     view: &mut V,
     geometry: Geometry,
     total: u64,
-) -> Result<ReadJournal, ScanError>
+) -> Result<ReadJournal, MountFault>
     requires some { 0 < geometry.per_cluster }
     requires few { geometry.per_cluster ≤ 8 }
     requires place { geometry.mft * geometry.per_cluster < 2 ^ 62 }
     ensures answer { IfSome (V.content view.old) (λ c. GivesOrFails (λ j. j) scan_cause result (loaded_records c geometry total)) }
     ensures kept { KeepsView V.content V.kept V.faults view.old view.new }
-    ensures fault { IsErrOf result ScanError.Device → Rose (V.faults view.old) (V.faults view.new) }
+    ensures fault { IsErrOf result MountFault.Device → Rose (V.faults view.old) (V.faults view.new) }
     ensures counted { Counts scan_cause (V.faults view.old) (V.faults view.new) result }
 {
     let map = volume_on(alloc, view, geometry, total)?;
@@ -147,11 +147,11 @@ fn opened_records<V: View>(
     alloc: Global,
     view: &mut V,
     opening: &Opening,
-) -> Result<ReadJournal, ScanError>
+) -> Result<ReadJournal, MountFault>
     requires opening { IsOpening opening.now }
     ensures answer { IfSome (V.content view.old) (λ c. GivesOrFails (λ j. j) scan_cause result (loaded_records (content_after opening.now c) opening.now.geometry opening.now.total)) }
     ensures kept { KeepsView V.content V.kept V.faults view.old view.new }
-    ensures fault { IsErrOf result ScanError.Device → Rose (V.faults view.old) (V.faults view.new) }
+    ensures fault { IsErrOf result MountFault.Device → Rose (V.faults view.old) (V.faults view.new) }
     ensures counted { Counts scan_cause (V.faults view.old) (V.faults view.new) result }
 {
     let places = places_of(alloc, &opening.bodies)?;
@@ -160,10 +160,10 @@ fn opened_records<V: View>(
 }
 
 // The records of a view of so many sectors.
-fn read_view<V: View>(alloc: Global, view: &mut V, sectors: u64) -> Result<ReadJournal, ScanError>
+fn read_view<V: View>(alloc: Global, view: &mut V, sectors: u64) -> Result<ReadJournal, MountFault>
     ensures answer { IfSome (V.content view.old) (λ c. GivesOrFails (λ j. j) scan_cause result (journal_in c sectors)) }
     ensures kept { KeepsView V.content V.kept V.faults view.old view.new }
-    ensures fault { IsErrOf result ScanError.Device → Rose (V.faults view.old) (V.faults view.new) }
+    ensures fault { IsErrOf result MountFault.Device → Rose (V.faults view.old) (V.faults view.new) }
     ensures counted { Counts scan_cause (V.faults view.old) (V.faults view.new) result }
 {
     let opening = open_volume(alloc, view, sectors)?;
@@ -175,10 +175,10 @@ fn read_device<D: Device>(
     alloc: Global,
     device: &mut D,
     sectors: u64,
-) -> Result<ReadJournal, ScanError>
+) -> Result<ReadJournal, MountFault>
     ensures answer { IfSome (D.gives device.old) (λ disk. GivesOrFails (λ j. j) scan_cause result (journal_in (content_of (sector_of disk)) sectors)) }
     ensures kept { KeepsDevice D.gives D.sector_count D.changes_of D.fault_count device.old device.new }
-    ensures fault { IsErrOf result ScanError.Device → HasFailed (D.fault_count device.old) (D.fault_count device.new) (D.moment_of device.new) }
+    ensures fault { IsErrOf result MountFault.Device → HasFailed (D.fault_count device.old) (D.fault_count device.new) (D.moment_of device.new) }
     ensures counted { D.moment_of device.old < last_moment → CountsOnDevice scan_cause (D.fault_count device.old) (D.fault_count device.new) (D.moment_of device.new) result }
 {
     let mut room = piece_room(alloc)?;
@@ -192,24 +192,24 @@ fn read_device<D: Device>(
 /// It reads what a check reads, and the journal once more. Its time is that of a check, and linear
 /// in the journal; its memory is that of a check, and linear in the records.
 ///
-/// - [`ScanError::Refused`]: the first refusal that applies: one of those that come before the
+/// - [`MountFault::Refused`]: the first refusal that applies: one of those that come before the
 ///   rules in a check; then [`Refusal::NoJournal`] with 1 where `$Extend` has no `$UsnJrnl`, 2
 ///   where its file has an attribute list, and 3 where one of its streams `$Max` and `$J` is
 ///   missing or out of shape; then [`Refusal::BadVolume`] with the first of the nine rules that is
 ///   broken, and the least number at which it is.
-/// - [`ScanError::Device`]: the device failed.
-/// - [`ScanError::Memory`]: want of memory, also where the journal has 2^32 - 1 records or more.
-pub fn read_journal<D: Device>(alloc: Global, device: &mut D) -> Result<ReadJournal, ScanError>
+/// - [`MountFault::Device`]: the device failed.
+/// - [`MountFault::Memory`]: want of memory, also where the journal has 2^32 - 1 records or more.
+pub fn read_journal<D: Device>(alloc: Global, device: &mut D) -> Result<ReadJournal, MountFault>
     ensures answer { IfSome (D.gives device.old) (λ disk. GivesOrFails (λ j. j) scan_cause result (journal_of disk)) }
     ensures kept { KeepsDevice D.gives D.sector_count D.changes_of D.fault_count device.old device.new }
-    ensures fault { IsErrOf result ScanError.Device → HasFailed (D.fault_count device.old) (D.fault_count device.new) (D.moment_of device.new) }
+    ensures fault { IsErrOf result MountFault.Device → HasFailed (D.fault_count device.old) (D.fault_count device.new) (D.moment_of device.new) }
     ensures counted { D.moment_of device.old < last_moment → CountsOnDevice scan_cause (D.fault_count device.old) (D.fault_count device.new) (D.moment_of device.new) result }
-    ensures none { D.sector_count device.old ≡ 0 → result ≡ Err (ScanError.Refused (Refusal.Short 1 0)) }
+    ensures none { D.sector_count device.old ≡ 0 → result ≡ Err (MountFault.Refused (Refusal.Short 1 0)) }
     ensures unasked { D.sector_count device.old ≡ 0 → device.new ≡ device.old }
 {
     let sectors = device.sectors();
     if sectors == 0 {
-        return Err(ScanError::Refused(Refusal::Short {
+        return Err(MountFault::Refused(Refusal::Short {
             sectors: 1,
             device: 0,
         }));

@@ -2,7 +2,7 @@
 ghost use Rattle.std.specs.Prelude.{◌≡◌, ◌<◌, ◌≤◌, List, length, IfOk, IfSome, IsOk, IsErrOf, Ok};
 ghost use Rattle.host_base.specs.Answers.{Gives, GivesOrFails};
 ghost use Rattle.host_base.specs.Causes.{Rose, Counts};
-ghost use Rattle.tree_model.specs.declared.journal.Usn.{Usn as UsnOf};
+ghost use Rattle.file_tree.specs.declared.journal.Usn.{Usn as UsnOf};
 ghost use Rattle.state_model.specs.Loads.{table_in};
 ghost use Rattle.state_model.specs.Trees.{all_links};
 ghost use Rattle.stream_map.specs.Runs.{AreSmall};
@@ -18,11 +18,11 @@ ghost use Rattle.image_journal.specs.Records.{place_on};
 
 use block_view::View;
 use disk_model::Body;
-use image_scan::{Refusal, ScanError};
+use file_tree::{Link, UsnList};
+use image_scan::{MountFault, Refusal};
 use record_rules::all_links;
 use state_model::Extents;
 use std::alloc::Global;
-use tree_model::{Link, UsnList};
 use upcase_order::Upcase;
 use usn_journal::{PullFault, read_from};
 use volume_journal::{PlaceFault, journal_place};
@@ -32,24 +32,24 @@ use volume_parts::upper_table;
 // The most records that are asked for at once.
 const MOST: u32 = u32::MAX;
 
-fn error_of_place(fault: PlaceFault) -> ScanError
+fn error_of_place(fault: PlaceFault) -> MountFault
     ensures value { result ≡ error_of_place fault }
 {
     match fault {
-        PlaceFault::Absent { why } => ScanError::Refused(Refusal::NoJournal { why }),
-        PlaceFault::Memory => ScanError::Memory,
+        PlaceFault::Absent { why } => MountFault::Refused(Refusal::NoJournal { why }),
+        PlaceFault::Memory => MountFault::Memory,
     }
 }
 
-fn error_of_pull(fault: PullFault) -> ScanError
+fn error_of_pull(fault: PullFault) -> MountFault
     ensures value { result ≡ error_of_pull fault }
 {
     match fault {
         // The first two aren't met from the first byte of a whole journal on.
-        PullFault::Trimmed { .. } => ScanError::Memory,
-        PullFault::Ahead { .. } => ScanError::Memory,
-        PullFault::View => ScanError::Device,
-        PullFault::Memory => ScanError::Memory,
+        PullFault::Trimmed { .. } => MountFault::Memory,
+        PullFault::Ahead { .. } => MountFault::Memory,
+        PullFault::View => MountFault::Device,
+        PullFault::Memory => MountFault::Memory,
     }
 }
 
@@ -59,7 +59,7 @@ fn named_place(
     map: &VolumeMap,
     up: &Upcase,
     links: &[Link],
-) -> Result<Extents, ScanError>
+) -> Result<Extents, MountFault>
     requires map { IsMap map.now }
     requires links { links.now ≡ all_links (table_in map.now.files.items) (length map.now.files.items) }
     ensures answer { Gives (λ e. e) scan_cause result (refused_as NoJournal (journal_place up.now (volume_in map.now))) }
@@ -76,21 +76,21 @@ fn named_place(
 /// documentation, "$UsnJrnl"). `body` is room for a body. It reads the table of upper-case units,
 /// and is linear in this and in the files' attributes.
 ///
-/// - [`ScanError::Refused`]: [`Refusal::NoJournal`] with why there is no journal.
-/// - [`ScanError::Device`]: the view failed.
-/// - [`ScanError::Memory`]: want of memory.
+/// - [`MountFault::Refused`]: [`Refusal::NoJournal`] with why there is no journal.
+/// - [`MountFault::Device`]: the view failed.
+/// - [`MountFault::Memory`]: want of memory.
 pub fn place_on<V: View>(
     alloc: Global,
     view: &mut V,
     map: &VolumeMap,
     body: &mut Body,
-) -> Result<Extents, ScanError>
+) -> Result<Extents, MountFault>
     requires map { IsMap map.now }
     ensures answer { IfSome (V.content view.old) (λ c. GivesOrFails (λ e. e) scan_cause result (place_on c (volume_in map.now))) }
     ensures inside { IfOk result (λ e. journal_first map.now.per_cluster e ≤ e.real) }
     ensures small { IfOk result (λ e. AreSmall e.runs) }
     ensures kept { KeepsView V.content V.kept V.faults view.old view.new }
-    ensures fault { IsErrOf result ScanError.Device → Rose (V.faults view.old) (V.faults view.new) }
+    ensures fault { IsErrOf result MountFault.Device → Rose (V.faults view.old) (V.faults view.new) }
     ensures counted { Counts scan_cause (V.faults view.old) (V.faults view.new) result }
 {
     let up = upper_table(alloc, view, map, body)?;
@@ -99,13 +99,13 @@ pub fn place_on<V: View>(
 }
 
 // Entries of which there are fewer than can be asked for at once.
-fn fewer(entries: UsnList) -> Result<UsnList, ScanError>
+fn fewer(entries: UsnList) -> Result<UsnList, MountFault>
     ensures value { IfOk result (λ kept. kept ≡ entries) }
     ensures few { IfOk result (λ kept. length kept < MOST) }
     ensures cause { Gives (λ (l : List UsnOf). l) scan_cause result (Ok entries) }
 {
     if entries.as_slice().len() >= MOST as usize {
-        return Err(ScanError::Memory);
+        return Err(MountFault::Memory);
     }
     Ok(entries)
 }
@@ -123,7 +123,7 @@ pub fn all_entries<V: View>(
     extents: &Extents,
     first: u64,
     body: &mut Body,
-) -> Result<UsnList, ScanError>
+) -> Result<UsnList, MountFault>
     requires some { 0 < per }
     requires few { per ≤ 8 }
     requires small { AreSmall extents.now.runs }
@@ -132,7 +132,7 @@ pub fn all_entries<V: View>(
     requires whole { IfSome (V.content view.old) (λ c. IsOk (journal_entries c per extents.now)) }
     ensures answer { IfSome (V.content view.old) (λ c. GivesOrFails (λ (l : List UsnOf). l) scan_cause result (Ok (read_entries (journal_entries c per extents.now)))) }
     ensures kept { KeepsView V.content V.kept V.faults view.old view.new }
-    ensures fault { IsErrOf result ScanError.Device → Rose (V.faults view.old) (V.faults view.new) }
+    ensures fault { IsErrOf result MountFault.Device → Rose (V.faults view.old) (V.faults view.new) }
     ensures counted { Counts scan_cause (V.faults view.old) (V.faults view.new) result }
 {
     match read_from(alloc, view, per, extents, first, MOST, body) {

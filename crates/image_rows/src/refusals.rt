@@ -3,14 +3,14 @@ use crate::devices::device;
 use disk_model::{put_bytes, put_u16, put_u64};
 use image_check::check_image;
 use image_journal::read_journal;
-use image_scan::{Refusal, ScanError, scan_image};
+use image_scan::{MountFault, Refusal, scan_image};
 use sector_device::MemoryDevice;
 use std::alloc::{AllocError, Global};
 use std::test::Fail;
 
 // A device that begins with a boot sector of 64 clusters of a sector each: the place and value of a
 // byte of it that is put, how many sectors there are, the call that fails, and the error.
-struct Row(usize, u8, usize, u64, ScanError);
+struct Row(usize, u8, usize, u64, MountFault);
 
 static ROWS: [Row; 6] = [
     Row(
@@ -18,7 +18,7 @@ static ROWS: [Row; 6] = [
         0x55,
         0,
         0,
-        ScanError::Refused(Refusal::Short {
+        MountFault::Refused(Refusal::Short {
             sectors: 1,
             device: 0,
         }),
@@ -28,7 +28,7 @@ static ROWS: [Row; 6] = [
         0x55,
         63,
         0,
-        ScanError::Refused(Refusal::Short {
+        MountFault::Refused(Refusal::Short {
             sectors: 64,
             device: 63,
         }),
@@ -38,20 +38,20 @@ static ROWS: [Row; 6] = [
         0,
         64,
         0,
-        ScanError::Refused(Refusal::NotNtfs { rule: 2 }),
+        MountFault::Refused(Refusal::NotNtfs { rule: 2 }),
     ),
     Row(
         0x0D,
         16,
         64,
         0,
-        ScanError::Refused(Refusal::Geometry {
+        MountFault::Refused(Refusal::Geometry {
             field: 13,
             value: 16,
         }),
     ),
-    Row(0x1FE, 0x55, 64, 0, ScanError::Refused(Refusal::NoRestart)),
-    Row(0x1FE, 0x55, 64, 1, ScanError::Device),
+    Row(0x1FE, 0x55, 64, 0, MountFault::Refused(Refusal::NoRestart)),
+    Row(0x1FE, 0x55, 64, 1, MountFault::Device),
 ];
 
 fn boot_sector() -> [u8; 512] {

@@ -1,2 +1,5 @@
+pub mod Alike
 pub mod Disks
+pub mod Lying
 pub mod Steps
+pub mod Stretches

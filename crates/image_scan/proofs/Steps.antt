@@ -6,7 +6,7 @@ use Rattle.host_base.proofs.Known.{both, one}
 use Rattle.disk_model.specs.Bodies.{BodyOf}
 use Rattle.disk_model.specs.Content.{Content}
 use Rattle.record_model.specs.Records.{Record}
-use Rattle.tree_model.specs.declared.link.Link.{Link}
+use Rattle.file_tree.specs.declared.link.Link.{Link}
 use Rattle.state_model.specs.declared.geometry.Geometry.{Geometry}
 use Rattle.state_model.specs.declared.geometry.MapRefusal.{MapRefusal}
 use Rattle.state_model.specs.Loads.{loaded}
@@ -18,8 +18,8 @@ use Rattle.volume_map.specs.Errors.{map_cause}
 use Rattle.volume_links.specs.Names.{long_links as long_names, loaded_links}
 use Rattle.image_scan.specs.declared.opening.Opening.{Opening}
 use Rattle.image_scan.specs.declared.refusal.Refusal.{Refusal}
-use Rattle.image_scan.specs.declared.refusal.ScanError.{ScanError}
-use Rattle.image_scan.specs.declared.refusal.ScanError.TheVariants as errors
+use Rattle.image_scan.specs.declared.refusal.MountFault.{MountFault}
+use Rattle.image_scan.specs.declared.refusal.MountFault.TheVariants as errors
 use Rattle.log_model.specs.Logs.{recovered}
 use Rattle.log_page.specs.declared.places.LogPlace.{LogPlace}
 use Rattle.log_reading.specs.declared.fault.RecoveryFault.{RecoveryFault}
@@ -34,17 +34,17 @@ use Rattle.image_scan.specs.Openings.{content_after, opened_as}
 
 -- ---- causes
 
-failed_error : {A B : Type 0} (e : ScanError) (f : Result A Refusal) (g : A → Result B Refusal) → ExplainsOrFails (scan_cause e) f → ExplainsOrFails (scan_cause e) (f >>= g)
+failed_error : {A B : Type 0} (e : MountFault) (f : Result A Refusal) (g : A → Result B Refusal) → ExplainsOrFails (scan_cause e) f → ExplainsOrFails (scan_cause e) (f >>= g)
 failed_error errors.Memory f g h = tt
 failed_error errors.Device f g h = tt
 failed_error (errors.Refused r) f g h = ap (λ x. x >>= g) h
 
-or_fails : {A : Type 0} (e : ScanError) (meant : Result A Refusal) → Explains (scan_cause e) meant → ExplainsOrFails (scan_cause e) meant
+or_fails : {A : Type 0} (e : MountFault) (meant : Result A Refusal) → Explains (scan_cause e) meant → ExplainsOrFails (scan_cause e) meant
 or_fails errors.Memory meant h = tt
 or_fails errors.Device meant h = absurd h
 or_fails (errors.Refused r) meant h = h
 
-pub gives_or_fails : {X A : Type 0} (view : X → A) (result : Result X ScanError) (meant : Result A Refusal) → Gives view scan_cause result meant → GivesOrFails view scan_cause result meant
+pub gives_or_fails : {X A : Type 0} (view : X → A) (result : Result X MountFault) (meant : Result A Refusal) → Gives view scan_cause result meant → GivesOrFails view scan_cause result meant
 gives_or_fails view (Ok x) meant h = h
 gives_or_fails view (Err e) meant h = or_fails e meant h
 
@@ -52,33 +52,33 @@ abbrev pub okay : {A : Type 0} → A → Result A Refusal
 okay x = Ok x
 
 -- an error of the first step is that of both
-pub fails_first : {X Y A B : Type 0} (known : Option Content) (view : X → A) (view' : Y → B) (e : ScanError) (f : Content → Result A Refusal) (g : Content → A → Result B Refusal)
+pub fails_first : {X Y A B : Type 0} (known : Option Content) (view : X → A) (view' : Y → B) (e : MountFault) (f : Content → Result A Refusal) (g : Content → A → Result B Refusal)
     → IfSome known (λ c. GivesOrFails {X = X} view scan_cause (Err e) (f c)) → IfSome known (λ c. GivesOrFails {X = Y} view' scan_cause (Err e) (f c >>= g c))
 fails_first known view view' e f g h = one known _ _ (λ c p. failed_error e (f c) (g c) p) h
 
 -- the second step goes on with the value of the first
-pub goes_on : {Y A B : Type 0} (known : Option Content) (view : Y → B) (x : A) (result : Result Y ScanError) (f : Content → Result A Refusal) (g : Content → A → Result B Refusal)
+pub goes_on : {Y A B : Type 0} (known : Option Content) (view : Y → B) (x : A) (result : Result Y MountFault) (f : Content → Result A Refusal) (g : Content → A → Result B Refusal)
     → IfSome known (λ c. f c ≡ Ok x) → IfSome known (λ c. GivesOrFails view scan_cause result (g c x)) → IfSome known (λ c. GivesOrFails view scan_cause result (f c >>= g c))
 goes_on known view x result f g first second = both known _ _ _ (λ c e h. rw e h) first second
 
 -- the same where the value of the first is one of the content
-pub goes_on_by : {Y A B : Type 0} (known : Option Content) (view : Y → B) (x : Content → A) (result : Result Y ScanError) (f : Content → Result A Refusal) (g : Content → A → Result B Refusal)
+pub goes_on_by : {Y A B : Type 0} (known : Option Content) (view : Y → B) (x : Content → A) (result : Result Y MountFault) (f : Content → Result A Refusal) (g : Content → A → Result B Refusal)
     → IfSome known (λ c. f c ≡ Ok (x c)) → IfSome known (λ c. GivesOrFails view scan_cause result (g c (x c))) → IfSome known (λ c. GivesOrFails view scan_cause result (f c >>= g c))
 goes_on_by known view x result f g first second = both known _ _ _ (λ c e h. rw e h) first second
 
 -- a second step whose value is one of the content too
-pub goes_on_as : {Y A B : Type 0} (known : Option Content) (view : Content → Y → B) (x : A) (result : Result Y ScanError) (f : Content → Result A Refusal) (g : Content → A → Result B Refusal)
+pub goes_on_as : {Y A B : Type 0} (known : Option Content) (view : Content → Y → B) (x : A) (result : Result Y MountFault) (f : Content → Result A Refusal) (g : Content → A → Result B Refusal)
     → IfSome known (λ c. f c ≡ Ok x) → IfSome known (λ c. GivesOrFails (view c) scan_cause result (g c x)) → IfSome known (λ c. GivesOrFails (view c) scan_cause result (f c >>= g c))
 goes_on_as known view x result f g first second = both known _ _ _ (λ c e h. rw e h) first second
 
 -- a second step that reaches nothing outside
-pub then_gives : {Y A B : Type 0} (known : Option Content) (view : Y → B) (x : A) (result : Result Y ScanError) (f : Content → Result A Refusal) (g : A → Result B Refusal)
+pub then_gives : {Y A B : Type 0} (known : Option Content) (view : Y → B) (x : A) (result : Result Y MountFault) (f : Content → Result A Refusal) (g : A → Result B Refusal)
     → IfSome known (λ c. f c ≡ Ok x) → Gives view scan_cause result (g x) → IfSome known (λ c. GivesOrFails view scan_cause result (f c >>= g))
 then_gives known view x result f g first second = one known _ _ (λ c e. rw e (gives_or_fails view result (g x) second)) first
 
 -- ---- the boot sector
 
-pub boot_read : (known : Option Content) (body : BodyOf) (bytes : List ℕ) (result : Result Boot ScanError) → bytes ≡ body.bytes → IfSome known (λ c. body ≡ c boot_place)
+pub boot_read : (known : Option Content) (body : BodyOf) (bytes : List ℕ) (result : Result Boot MountFault) → bytes ≡ body.bytes → IfSome known (λ c. body ≡ c boot_place)
     → Gives (λ b. b) scan_cause result (refused_as boot_refusal (boot_of bytes)) → IfSome known (λ c. GivesOrFails (λ b. b) scan_cause result (boot_in c))
 unfolding boot_in
 boot_read known body bytes result is read h =
@@ -93,7 +93,7 @@ map_failed faults.View meant h = tt
 map_failed faults.Memory meant h = tt
 
 -- an error of the file table, as one of the scan
-pub map_error : {X Y A : Type 0} (known : Option Content) (view : X → A) (view' : Y → A) (e : MapFault) (e' : ScanError) (f : Content → Result A MapRefusal) → e' ≡ error_of_map e
+pub map_error : {X Y A : Type 0} (known : Option Content) (view : X → A) (view' : Y → A) (e : MapFault) (e' : MountFault) (f : Content → Result A MapRefusal) → e' ≡ error_of_map e
     → IfSome known (λ c. GivesOrFails {X = X} view map_cause (Err e) (f c)) → IfSome known (λ c. GivesOrFails {X = Y} view' scan_cause (Err e') (refused_as map_refusal (f c)))
 map_error known view view' e e' f is h = one known _ _ (λ c p. rw is (map_failed e (f c) p)) h
 
@@ -112,7 +112,7 @@ log_failed logs.Fault meant g h = tt
 log_failed logs.Memory meant g h = tt
 
 -- an error of recovery, as one of the scan
-pub log_error : {X : Type 0} (known : Option Content) (view : X → Content) (place : LogPlace) (e : RecoveryFault) (e' : ScanError) → e' ≡ error_of_log e
+pub log_error : {X : Type 0} (known : Option Content) (view : X → Content) (place : LogPlace) (e : RecoveryFault) (e' : MountFault) → e' ≡ error_of_log e
     → IfSome known (λ c. RecoversLog c (recovery_in c place) (Err e)) → IfSome known (λ c. GivesOrFails {X = X} view scan_cause (Err e') (recovered_at c place))
 unfolding recovered_at
 log_error known view place e e' is h = one known _ _ (λ c p. rw is (log_failed e (recovery_in c place) (λ state. Ok (recovered c state.log)) p)) h
@@ -140,7 +140,7 @@ unfolding loaded_links links_in files_of
 links_same c g = links_by (loaded c g)
 
 -- the links that the file table gives, as the image's
-pub as_links : {X : Type 0} (known : Option Content) (view : X → List Link) (g : Geometry) (result : Result X ScanError) → IfSome known (λ c. GivesOrFails view scan_cause result (refused_as map_refusal (loaded_links c g)))
+pub as_links : {X : Type 0} (known : Option Content) (view : X → List Link) (g : Geometry) (result : Result X MountFault) → IfSome known (λ c. GivesOrFails view scan_cause result (refused_as map_refusal (loaded_links c g)))
     → IfSome known (λ c. GivesOrFails view scan_cause result (links_in c g))
 as_links known view g result h = one known _ _ (λ c p. rw (← links_same c g) p) h
 

@@ -13,10 +13,10 @@ use Rattle.volume_map.specs.declared.fault.MapFault.{MapFault}
 use Rattle.volume_map.specs.declared.fault.MapFault.TheVariants as faults
 use Rattle.image_scan.specs.declared.refusal.Refusal.{Refusal}
 use Rattle.image_scan.specs.declared.refusal.Refusal.TheVariants.{NotNtfs, Geometry, VolumeLarge, BadFixup, BadRecord, MftList, MftLarge, LogVersion, NoRestart, ForeignLog}
-use Rattle.image_scan.specs.declared.refusal.ScanError.{ScanError}
-use Rattle.image_scan.specs.declared.refusal.ScanError.TheVariants as errors
+use Rattle.image_scan.specs.declared.refusal.MountFault.{MountFault}
+use Rattle.image_scan.specs.declared.refusal.MountFault.TheVariants as errors
 
-abbrev pub scan_cause : ScanError → Cause Refusal
+abbrev pub scan_cause : MountFault → Cause Refusal
 scan_cause errors.Memory = no_memory
 scan_cause errors.Device = failed
 scan_cause (errors.Refused refusal) = refused refusal
@@ -47,16 +47,16 @@ abbrev pub refused_as : {A F : Type 0} → (F → Refusal) → Result A F → Re
 refused_as kind (Ok x) = Ok x
 refused_as kind (Err refusal) = Err (kind refusal)
 
-abbrev pub error_of_view : ViewFault → ScanError
+abbrev pub error_of_view : ViewFault → MountFault
 error_of_view views.Fault = errors.Device
 error_of_view views.Memory = errors.Memory
 
-abbrev pub error_of_map : MapFault → ScanError
+abbrev pub error_of_map : MapFault → MountFault
 error_of_map (faults.Refused refusal) = errors.Refused (map_refusal refusal)
 error_of_map faults.View = errors.Device
 error_of_map faults.Memory = errors.Memory
 
-abbrev pub error_of_log : RecoveryFault → ScanError
+abbrev pub error_of_log : RecoveryFault → MountFault
 error_of_log (logs.LogVersion major minor) = errors.Refused (LogVersion major minor)
 error_of_log logs.NoRestart = errors.Refused NoRestart
 error_of_log (logs.ForeignLog lsn) = errors.Refused (ForeignLog lsn)

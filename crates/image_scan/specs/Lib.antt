@@ -1,4 +1,5 @@
 pub mod Errors
 pub mod LogPlaces
+pub mod LogLaws
 pub mod Scans
 pub mod Openings

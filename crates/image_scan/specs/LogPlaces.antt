@@ -1,37 +1,36 @@
 -- Where a volume's log lies: the sectors of its stream, the pages that these make, and the volume's end.
-use Rattle.std.specs.Prelude.{ℕ, ◌+◌, ◌-◌, ◌*◌, ◌/◌, ◌^◌, min, max, List, [], ◌∷◌, length, Option, Some, None}
+use Rattle.std.specs.Prelude.{ℕ, ◌≡◌, ◌*◌, ◌/◌, ◌^◌, ◌≤◌, ◌<◌, min, List, [], map, length, sum_by, Option, Some, None}
+use Rattle.std.specs.List.{range_with_len}
+use Rattle.disk_model.specs.declared.block.Block.{Block}
+use Rattle.disk_model.specs.declared.block.BlockKind.TheVariants.{Plain}
 use Rattle.record_model.specs.declared.runs.Run.{Run}
 use Rattle.state_model.specs.declared.stream.Stream.{Stream}
 use Rattle.state_model.specs.declared.stream.Stream.TheVariants.{Held, Placed}
+use Rattle.state_model.specs.Streams.{holds, block_at}
 use Rattle.log_page.specs.declared.places.Extent.{Extent}
 use Rattle.log_page.specs.declared.places.LogPlace.{LogPlace}
 use Rattle.log_page.specs.Places.{page_bytes}
+use Rattle.log_reading.specs.LogPages.{sector_in, sector_below, log_sector}
 
 -- a sector after the end of each device
 abbrev pub nowhere : ℕ
 nowhere = 2 ^ 62
 
--- the first sector of a run from its cluster with this number on, of a sparse one nowhere
-abbrev pub first_sector : ℕ → Option ℕ → ℕ → ℕ
-first_sector per (Some lcn) skipped = (lcn + skipped) * per
-first_sector per None skipped = nowhere
+-- where a block begins; one that there isn't, nowhere
+abbrev pub first_of : Option Block → ℕ
+first_of (Some b) = b.first
+first_of None = nowhere
 
--- the clusters between the VCN v and a run, of which the volume has none
-unfoldable pub gap_before : ℕ → ℕ → Run → Extent
-gap_before per v r = record { first = nowhere; sectors = min (2 ^ 59) (r.vcn - v) * per }
+-- where the sector with this number of a stream in clusters lies
+unfoldable pub stream_sector : ℕ → List Run → ℕ → ℕ
+stream_sector per runs n = first_of (block_at per runs Plain n)
 
--- a run without its clusters before the VCN v
-unfoldable pub rest_of : ℕ → ℕ → Run → Extent
-rest_of per v r = record { first = first_sector per r.lcn (min r.len (v - r.vcn)); sectors = (r.len - min r.len (v - r.vcn)) * per }
+abbrev pub sector_extent : ℕ → List Run → ℕ → Extent
+sector_extent per runs n = record { first = stream_sector per runs n; sectors = 1 }
 
--- the VCN after the run, and after those before it
-abbrev pub after : ℕ → Run → ℕ
-after v r = max v (min (2 ^ 62) r.vcn + r.len)
-
--- the sectors of runs from the VCN v on, one after the other
-abbrev pub sectors_from : ℕ → ℕ → List Run → List Extent
-sectors_from per v [] = []
-sectors_from per v (r ∷ runs) = gap_before per v r ∷ rest_of per v r ∷ sectors_from per (after v r) runs
+-- the first so many sectors of a stream, each by itself
+unfoldable pub stream_sectors : ℕ → ℕ → List Run → List Extent
+stream_sectors per count runs = map (sector_extent per runs) (range_with_len 0 count)
 
 -- a log of so many pages, with these sectors, so many of whose bytes are initialised
 abbrev pub log_of : ℕ → ℕ → ℕ → ℕ → List Extent → LogPlace
@@ -40,9 +39,27 @@ log_of clusters device pages initialised runs =
 
 unfoldable pub stream_place : ℕ → ℕ → ℕ → Stream → LogPlace
 stream_place per clusters device (Held value) = log_of clusters device (length value / page_bytes) 0 []
-stream_place per clusters device (Placed e) = log_of clusters device (e.real / page_bytes) e.initialised (sectors_from per 0 e.runs)
+stream_place per clusters device (Placed e) = log_of clusters device (e.real / page_bytes) e.initialised (stream_sectors per (8 * (e.real / page_bytes)) e.runs)
 
 -- the place of the log with this stream, of a volume of so many clusters on a device of so many sectors; without a stream it has no page
 abbrev pub place_of : ℕ → ℕ → ℕ → Option Stream → LogPlace
 place_of per clusters device (Some s) = stream_place per clusters device s
 place_of per clusters device None = log_of clusters device 0 0 []
+
+-- ---- the same place by fewer runs
+
+-- Two places of one log: as many pages and bytes of it, in the same sectors of the device.
+pub record LieAlike (p q : LogPlace) : Type 0 where
+  pub sectors : (n : ℕ) → log_sector p n ≡ log_sector q n
+  pub initialised : p.initialised ≡ q.initialised
+  pub pages : p.pages ≡ q.pages
+  pub clusters : p.clusters ≡ q.clusters
+
+-- each VCN from the first of these on and before the second lies in the run, or none of them
+abbrev pub IsHeldAlike : ℕ → ℕ → Run → Type 0
+IsHeldAlike v next r = (u : ℕ) → v ≤ u → u < next → holds u u r ≡ holds v v r
+
+-- so many sectors, each of which lies on the device where the stream's does
+pub record AreSectors (per : ℕ) (runs : List Run) (count : ℕ) (sectors : List Extent) : Type 0 where
+  pub size : sum_by (λ (x : Extent). x.sectors) sectors ≡ count
+  pub lie : (device n : ℕ) → device ≤ nowhere → n < count → sector_below device (sector_in sectors n) ≡ sector_below device (Some (stream_sector per runs n))

@@ -7,12 +7,12 @@ use Rattle.disk_model.specs.declared.block.BlockKind.TheVariants.{Plain}
 use Rattle.disk_model.specs.Sectors.{sector_of}
 use Rattle.disk_model.specs.Content.{Content, content_of}
 use Rattle.record_model.specs.Records.{Record}
-use Rattle.tree_model.specs.declared.link.Link.{Link}
-use Rattle.tree_model.specs.Trees.{is_long}
+use Rattle.file_tree.specs.declared.link.Link.{Link}
+use Rattle.file_tree.specs.Trees.{is_long}
 use Rattle.state_model.specs.declared.geometry.Geometry.{Geometry}
 use Rattle.state_model.specs.declared.stream.Stream.{Stream}
 use Rattle.state_model.specs.Trees.{all_links}
-use Rattle.state_model.specs.Loads.{piece_of, judged, boot_block, data_stream, table_in, loaded}
+use Rattle.state_model.specs.Loads.{slot_of, judged, boot_block, data_stream, table_in, loaded}
 use Rattle.boot_sector.specs.declared.boot.Boot.{Boot}
 use Rattle.boot_sector.specs.BootSectors.{boot_of, clusters}
 use Rattle.log_model.specs.Logs.{recovered}
@@ -46,7 +46,7 @@ geometry_of b = record { per_cluster = b.per_cluster; mft = b.mft }
 
 -- record 2 where the boot sector says that the file table begins
 unfoldable pub log_record : Content → Geometry → Result (Option Record) Refusal
-log_record c g = refused_as map_refusal (judged 2 (piece_of (c (boot_block g 2))))
+log_record c g = refused_as map_refusal (judged 2 (slot_of (c (boot_block g 2))))
 
 -- the unnamed data of a file, if there are both
 abbrev pub data_of : Option Record → Option Stream

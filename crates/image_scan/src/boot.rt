@@ -7,7 +7,7 @@ ghost use Rattle.block_view.specs.Views.{KeepsView};
 ghost use Rattle.image_scan.specs.Errors.{scan_cause, boot_refusal, refused_as};
 ghost use Rattle.image_scan.specs.Scans.{boot_in, sized_on, boot_on};
 
-use crate::refusal::{Refusal, ScanError};
+use crate::refusal::{MountFault, Refusal};
 use block_view::View;
 use boot_sector::Boot;
 use disk_model::{Block, BlockKind, Body};
@@ -17,7 +17,7 @@ const BOOT_PLACE: Block = Block {
     kind: BlockKind::Plain,
 };
 
-fn boot_of(bytes: &[u8]) -> Result<Boot, ScanError>
+fn boot_of(bytes: &[u8]) -> Result<Boot, MountFault>
     requires { length bytes.now ≡ 512 }
     ensures answer { Gives (λ b. b) scan_cause result (refused_as boot_refusal (boot_of bytes.now)) }
     ensures profile { IfOk result IsInProfile }
@@ -26,11 +26,11 @@ fn boot_of(bytes: &[u8]) -> Result<Boot, ScanError>
 }
 
 // The fields of the first sector.
-fn read_boot<V: View>(view: &mut V, body: &mut Body) -> Result<Boot, ScanError>
+fn read_boot<V: View>(view: &mut V, body: &mut Body) -> Result<Boot, MountFault>
     ensures answer { IfSome (V.content view.old) (λ c. GivesOrFails (λ b. b) scan_cause result (boot_in c)) }
     ensures profile { IfOk result IsInProfile }
     ensures kept { KeepsView V.content V.kept V.faults view.old view.new }
-    ensures fault { IsErrOf result ScanError.Device → Rose (V.faults view.old) (V.faults view.new) }
+    ensures fault { IsErrOf result MountFault.Device → Rose (V.faults view.old) (V.faults view.new) }
     ensures counted { Counts scan_cause (V.faults view.old) (V.faults view.new) result }
 {
     view.body(BOOT_PLACE, body)?;
@@ -38,13 +38,13 @@ fn read_boot<V: View>(view: &mut V, body: &mut Body) -> Result<Boot, ScanError>
 }
 
 // Refuses a device that is shorter than its volume.
-fn sized_on(sectors: u64, boot: Boot) -> Result<Boot, ScanError>
+fn sized_on(sectors: u64, boot: Boot) -> Result<Boot, MountFault>
     requires { IsInProfile boot }
     ensures answer { Gives (λ b. b) scan_cause result (sized_on sectors boot) }
     ensures profile { IfOk result IsInProfile }
 {
     if boot.sectors > sectors {
-        return Err(ScanError::Refused(Refusal::Short {
+        return Err(MountFault::Refused(Refusal::Short {
             sectors: boot.sectors,
             device: sectors,
         }));
@@ -56,15 +56,15 @@ fn sized_on(sectors: u64, boot: Boot) -> Result<Boot, ScanError>
 /// shows, on a device of so many sectors of 512 bytes. It reads the first sector into `body`, which
 /// is room for a body, and nothing else.
 ///
-/// - [`ScanError::Refused`]: the refusal of the boot sector, or [`Refusal::Short`] with the sectors
+/// - [`MountFault::Refused`]: the refusal of the boot sector, or [`Refusal::Short`] with the sectors
 ///   of the volume and of the device, where the device has fewer.
-/// - [`ScanError::Device`]: the view failed.
-/// - [`ScanError::Memory`]: want of memory.
-pub fn boot_on<V: View>(view: &mut V, sectors: u64, body: &mut Body) -> Result<Boot, ScanError>
+/// - [`MountFault::Device`]: the view failed.
+/// - [`MountFault::Memory`]: want of memory.
+pub fn boot_on<V: View>(view: &mut V, sectors: u64, body: &mut Body) -> Result<Boot, MountFault>
     ensures answer { IfSome (V.content view.old) (λ c. GivesOrFails (λ b. b) scan_cause result (boot_on c sectors)) }
     ensures profile { IfOk result IsInProfile }
     ensures kept { KeepsView V.content V.kept V.faults view.old view.new }
-    ensures fault { IsErrOf result ScanError.Device → Rose (V.faults view.old) (V.faults view.new) }
+    ensures fault { IsErrOf result MountFault.Device → Rose (V.faults view.old) (V.faults view.new) }
     ensures counted { Counts scan_cause (V.faults view.old) (V.faults view.new) result }
 {
     let boot = read_boot(view, body)?;

@@ -15,5 +15,5 @@ mod refusal;
 mod scan;
 
 pub use opening::{Opening, open_volume};
-pub use refusal::{Refusal, ScanError};
+pub use refusal::{MountFault, Refusal};
 pub use scan::scan_image;

@@ -8,22 +8,22 @@ ghost use Rattle.state_model.specs.Loads.{data_stream};
 ghost use Rattle.log_reading.specs.LogPages.{IsLogPlace};
 ghost use Rattle.log_recovery.specs.Recovering.{content_with, IsSized};
 ghost use Rattle.image_scan.specs.Errors.{scan_cause};
+ghost use Rattle.image_scan.specs.LogPlaces.{LieAlike};
 ghost use Rattle.image_scan.specs.Scans.{data_of, log_record, log_place, recovered_at, recovered_in};
 
 use crate::place::place_of;
-use crate::refusal::ScanError;
+use crate::refusal::MountFault;
 use block_view::View;
 use disk_model::Body;
 use file_record::FileRec;
 use host_base::Memory;
 use log_page::LogPlace;
 use log_recovery::{RecoveredBlock, recover_view};
+use record_model::DATA;
 use state_model::{Geometry, Stream};
 use std::alloc::Global;
 use stream_map::stream_of;
 use volume_map::boot_record;
-
-const DATA: u32 = 0x80;
 
 #[tactic(auto, unfolding(state_model::specs::Loads::data_stream))]
 fn data_stream(alloc: Global, file: &FileRec) -> Result<Option<Stream>, Memory>
@@ -50,11 +50,11 @@ fn log_record<V: View>(
     view: &mut V,
     geometry: Geometry,
     body: &mut Body,
-) -> Result<Option<FileRec>, ScanError>
+) -> Result<Option<FileRec>, MountFault>
     requires { geometry.mft * geometry.per_cluster < 2 ^ 62 }
     ensures answer { IfSome (V.content view.old) (λ c. GivesOrFails (λ file. file) scan_cause result (log_record c geometry)) }
     ensures kept { KeepsView V.content V.kept V.faults view.old view.new }
-    ensures fault { IsErrOf result ScanError.Device → Rose (V.faults view.old) (V.faults view.new) }
+    ensures fault { IsErrOf result MountFault.Device → Rose (V.faults view.old) (V.faults view.new) }
     ensures counted { Counts scan_cause (V.faults view.old) (V.faults view.new) result }
 {
     Ok(boot_record(alloc, view, geometry, 2, body)?)
@@ -68,11 +68,12 @@ fn log_place(
     clusters: u64,
     device: u64,
     file: &Option<FileRec>,
-) -> Result<LogPlace, ScanError>
+) -> Result<LogPlace, MountFault>
+    requires some { 0 < geometry.per_cluster }
     requires few { geometry.per_cluster ≤ 8 }
-    ensures value { IfOk result (λ place. place ≡ log_place geometry clusters device file.now) }
+    ensures value { IfOk result (λ place. LieAlike place (log_place geometry clusters device file.now)) }
     ensures place { IfOk result IsLogPlace }
-    ensures memory { IfErr result (λ e. e ≡ ScanError.Memory) }
+    ensures memory { IfErr result (λ e. e ≡ MountFault.Memory) }
 {
     let stream = data_of(alloc, file)?;
     Ok(place_of(alloc, geometry.per_cluster, clusters, device, &stream)?)
@@ -83,12 +84,12 @@ fn recovered_at<V: View>(
     alloc: Global,
     view: &mut V,
     place: &LogPlace,
-) -> Result<Vec<RecoveredBlock>, ScanError>
+) -> Result<Vec<RecoveredBlock>, MountFault>
     requires place { IsLogPlace place.now }
     ensures answer { IfSome (V.content view.old) (λ c. GivesOrFails (λ bodies. content_with bodies.items c) scan_cause result (recovered_at c place.now)) }
     ensures sized { IfOk result (λ bodies. All IsSized bodies.items) }
     ensures kept { KeepsView V.content V.kept V.faults view.old view.new }
-    ensures fault { IsErrOf result ScanError.Device → Rose (V.faults view.old) (V.faults view.new) }
+    ensures fault { IsErrOf result MountFault.Device → Rose (V.faults view.old) (V.faults view.new) }
     ensures counted { Counts scan_cause (V.faults view.old) (V.faults view.new) result }
 {
     let found = recover_view(alloc, view, place)?;
@@ -99,10 +100,10 @@ fn recovered_at<V: View>(
 /// many sectors. It reads record 2 where the boot sector says that the file table begins, and the
 /// log; `body` is room for a body.
 ///
-/// - [`ScanError::Refused`]: `BadFixup` or `BadRecord` of record 2, by its rules 1 to 8; or
+/// - [`MountFault::Refused`]: `BadFixup` or `BadRecord` of record 2, by its rules 1 to 8; or
 ///   `LogVersion`, `NoRestart` or `ForeignLog`, as `recover_view` says.
-/// - [`ScanError::Device`]: the view failed.
-/// - [`ScanError::Memory`]: want of memory.
+/// - [`MountFault::Device`]: the view failed.
+/// - [`MountFault::Memory`]: want of memory.
 pub fn recovered_in<V: View>(
     alloc: Global,
     view: &mut V,
@@ -110,13 +111,14 @@ pub fn recovered_in<V: View>(
     clusters: u64,
     device: u64,
     body: &mut Body,
-) -> Result<Vec<RecoveredBlock>, ScanError>
+) -> Result<Vec<RecoveredBlock>, MountFault>
+    requires some { 0 < geometry.per_cluster }
     requires few { geometry.per_cluster ≤ 8 }
     requires place { geometry.mft * geometry.per_cluster < 2 ^ 62 }
     ensures answer { IfSome (V.content view.old) (λ c. GivesOrFails (λ bodies. content_with bodies.items c) scan_cause result (recovered_in c geometry clusters device)) }
     ensures sized { IfOk result (λ bodies. All IsSized bodies.items) }
     ensures kept { KeepsView V.content V.kept V.faults view.old view.new }
-    ensures fault { IsErrOf result ScanError.Device → Rose (V.faults view.old) (V.faults view.new) }
+    ensures fault { IsErrOf result MountFault.Device → Rose (V.faults view.old) (V.faults view.new) }
     ensures counted { Counts scan_cause (V.faults view.old) (V.faults view.new) result }
 {
     let file = log_record(alloc, view, geometry, body)?;

@@ -10,7 +10,7 @@ ghost use Rattle.image_scan.specs.Scans.{geometry_of, opened_by, opened_in};
 
 use crate::boot::boot_on;
 use crate::log::recovered_in;
-use crate::refusal::ScanError;
+use crate::refusal::MountFault;
 use block_view::View;
 use boot_sector::Boot;
 use disk_model::Body;
@@ -60,12 +60,12 @@ fn open_boot<V: View>(
     sectors: u64,
     boot: &Boot,
     body: &mut Body,
-) -> Result<Opening, ScanError>
+) -> Result<Opening, MountFault>
     requires profile { IsInProfile boot.now }
     ensures answer { IfSome (V.content view.old) (λ c. GivesOrFails (opened_as c) scan_cause result (opened_by c sectors boot.now)) }
     ensures opening { IfOk result IsOpening }
     ensures kept { KeepsView V.content V.kept V.faults view.old view.new }
-    ensures fault { IsErrOf result ScanError.Device → Rose (V.faults view.old) (V.faults view.new) }
+    ensures fault { IsErrOf result MountFault.Device → Rose (V.faults view.old) (V.faults view.new) }
     ensures counted { Counts scan_cause (V.faults view.old) (V.faults view.new) result }
 {
     let geometry = geometry_of(boot);
@@ -84,18 +84,22 @@ fn open_boot<V: View>(
 /// the boot sector, record 2 where this says that the file table begins, and the log. Nothing is
 /// written.
 ///
-/// - [`ScanError::Refused`]: the refusal of the boot sector, or `Short` with the sectors of the
+/// - [`MountFault::Refused`]: the refusal of the boot sector, or `Short` with the sectors of the
 ///   volume and of the device, where the device has fewer; then that of record 2, by its rules 1 to
 ///   8; then that of the log.
-/// - [`ScanError::Device`]: the view failed.
-/// - [`ScanError::Memory`]: want of memory.
+/// - [`MountFault::Device`]: the view failed.
+/// - [`MountFault::Memory`]: want of memory.
 ///
 /// Time is linear in the log's pages on the device, and near-linear in the bytes of its entries.
-pub fn open_volume<V: View>(alloc: Global, view: &mut V, sectors: u64) -> Result<Opening, ScanError>
+pub fn open_volume<V: View>(
+    alloc: Global,
+    view: &mut V,
+    sectors: u64,
+) -> Result<Opening, MountFault>
     ensures answer { IfSome (V.content view.old) (λ c. GivesOrFails (opened_as c) scan_cause result (opened_in c sectors)) }
     ensures opening { IfOk result IsOpening }
     ensures kept { KeepsView V.content V.kept V.faults view.old view.new }
-    ensures fault { IsErrOf result ScanError.Device → Rose (V.faults view.old) (V.faults view.new) }
+    ensures fault { IsErrOf result MountFault.Device → Rose (V.faults view.old) (V.faults view.new) }
     ensures counted { Counts scan_cause (V.faults view.old) (V.faults view.new) result }
 {
     let mut body = Body::empty(alloc)?;

@@ -1,88 +1,119 @@
 //! Where a volume's log lies.
-ghost use Rattle.std.specs.Prelude.{◌≡◌, ◌+◌, ◌*◌, ◌/◌, ◌^◌, ◌<◌, ◌≤◌, ◌++◌, ◌∷◌, [], All, IfOk, IfSome, OnOk, length};
-ghost use Rattle.record_model.specs.Pairs.{cluster_limit};
-ghost use Rattle.stream_map.specs.Runs.{IsSmall, AreSmall, HasSmallRuns};
+ghost use Rattle.std.specs.Prelude.{◌≡◌, ◌*◌, ◌^◌, ◌<◌, ◌≤◌, nat_lt, if◌then◌else◌, min, All, IfOk, IfSome, OnOk, length};
+ghost use Rattle.state_model.specs.declared.stream.Stream.TheVariants.{Placed};
+ghost use Rattle.stream_map.specs.Runs.{AreSmall, HasSmallRuns};
 ghost use Rattle.log_reading.specs.LogPages.{IsSmall as IsSmallExtent, IsLogPlace};
-ghost use Rattle.image_scan.specs.LogPlaces.{nowhere, first_sector, gap_before, rest_of, after, sectors_from, log_of, stream_place, place_of};
+ghost use Rattle.image_scan.specs.LogPlaces.{first_of, stream_sector, log_of, stream_place, place_of, LieAlike, IsHeldAlike, AreSectors};
 
-use log_page::{Extent, Extents, LogPlace};
+use disk_model::{Block, BlockKind};
+use log_page::{Extent, LogPlace, LogRuns};
 use record_model::Run;
-use state_model::Stream;
+use state_model::{Extents as StreamExtents, Stream};
 use std::alloc::{AllocError, Global};
+use stream_map::block_at;
 
 // A sector after the end of each device.
 const NOWHERE: u64 = 1 << 62;
 
-fn first_sector(per: u64, lcn: Option<u64>, skipped: u64) -> u64
-    requires few { per ≤ 8 }
-    requires small { IfSome lcn (λ lcn. lcn < cluster_limit) }
-    requires inside { skipped ≤ cluster_limit }
-    ensures value { result ≡ first_sector per lcn skipped }
-    ensures near { result ≤ 2 ^ 62 }
+// Where a block begins; one that there isn't, nowhere.
+fn first_of(block: Option<Block>) -> u64
+    ensures value { result ≡ first_of block }
 {
-    match lcn {
-        Some(lcn) => (lcn + skipped) * per,
+    match block {
+        Some(block) => block.first,
         None => NOWHERE,
     }
 }
 
-#[tactic(auto, unfolding(crate::specs::LogPlaces::gap_before))]
-fn gap_before(per: u64, v: u64, run: &Run) -> Extent
+// Where the sector with this number of a stream lies.
+#[tactic(auto, unfolding(crate::specs::LogPlaces::stream_sector))]
+fn stream_sector(per: u64, runs: &[Run], n: u64) -> u64
+    requires some { 0 < per }
     requires few { per ≤ 8 }
-    ensures value { result ≡ gap_before per v run.now }
-    ensures small { IsSmallExtent result }
+    requires small { AreSmall runs.now }
+    requires inside { n < 2 ^ 56 }
+    ensures value { result ≡ stream_sector per runs.now n }
+    ensures near { result ≤ 2 ^ 62 }
 {
-    Extent {
-        first: NOWHERE,
-        sectors: run.vcn.saturating_sub(v).min(1 << 59) * per,
+    first_of(block_at(per, runs, BlockKind::Plain, n))
+}
+
+// The nearer one of a VCN and the next one, of those above `v`.
+fn nearer(v: u64, next: u64, vcn: u64) -> u64
+    ensures value { result ≡ if nat_lt v vcn then min next vcn else next }
+{
+    if v < vcn { next.min(vcn) } else { next }
+}
+
+// The next VCN, or a nearer one above `v` at which the run begins or ends.
+fn next_of_run(v: u64, next: u64, run: &Run) -> u64
+    requires above { v < next }
+    requires below { next < 2 ^ 56 }
+    ensures above { v < result }
+    ensures below { result ≤ next }
+    ensures alike { IsHeldAlike v result run.now }
+{
+    let begin = nearer(v, next, run.vcn);
+    nearer(v, begin, run.vcn.saturating_add(run.len))
+}
+
+// The next VCN above `v` at which a run begins or ends, at most `end`. Linear in the runs.
+fn next_vcn(v: u64, end: u64, runs: &[Run]) -> u64
+    requires above { v < end }
+    requires below { end < 2 ^ 56 }
+    ensures above { v < result }
+    ensures below { result ≤ end }
+    ensures alike { All (IsHeldAlike v result) runs.now }
+{
+    let mut next = end;
+    for run in runs {
+        next = next_of_run(v, next, run);
     }
+    next
 }
 
-#[tactic(auto, unfolding(crate::specs::LogPlaces::rest_of))]
-fn rest_of(per: u64, v: u64, run: &Run) -> Extent
+// Adds the sectors of the VCNs from `v` to the next one, at which no run begins or ends between.
+fn push_sectors(
+    sectors: &mut Vec<Extent>,
+    per: u64,
+    runs: &[Run],
+    v: u64,
+    next: u64,
+) -> Result<(), AllocError>
+    requires some { 0 < per }
     requires few { per ≤ 8 }
-    requires small { IsSmall run.now }
-    ensures value { result ≡ rest_of per v run.now }
-    ensures small { IsSmallExtent result }
-{
-    let skipped = v.saturating_sub(run.vcn).min(run.len);
-    Extent {
-        first: first_sector(per, run.lcn, skipped),
-        sectors: (run.len - skipped) * per,
-    }
-}
-
-fn after(v: u64, run: &Run) -> u64
-    requires small { IsSmall run.now }
-    ensures value { result ≡ after v run.now }
-{
-    v.max(run.vcn.min(1 << 62) + run.len)
-}
-
-// Adds a run's sectors, after those of the gap before it.
-fn push_run(sectors: &mut Vec<Extent>, per: u64, v: u64, run: &Run) -> Result<(), AllocError>
-    requires few { per ≤ 8 }
-    requires small { IsSmall run.now }
-    ensures value { OnOk result (sectors.new.items ≡ sectors.old.items ++ gap_before per v run.now ∷ rest_of per v run.now ∷ []) }
+    requires small { AreSmall runs.now }
+    requires above { v < next }
+    requires below { next * per < 2 ^ 56 }
+    requires alike { All (IsHeldAlike v next) runs.now }
+    ensures value { AreSectors per runs.now (v * per) sectors.old.items → OnOk result (AreSectors per runs.now (next * per) sectors.new.items) }
     ensures small { All IsSmallExtent sectors.old.items → All IsSmallExtent sectors.new.items }
 {
-    sectors.push(gap_before(per, v, run))?;
-    sectors.push(rest_of(per, v, run))?;
+    let first = stream_sector(per, runs, v * per);
+    let count = (next - v) * per;
+    sectors.push(Extent {
+        first,
+        sectors: count,
+    })?;
     Ok(())
 }
 
-// The sectors of runs, one after the other.
-fn sectors_of(alloc: Global, per: u64, runs: &[Run]) -> Result<Vec<Extent>, AllocError>
+// The sectors of a stream's VCNs below `end`. Quadratic in the runs.
+fn sectors_of(alloc: Global, per: u64, end: u64, runs: &[Run]) -> Result<Vec<Extent>, AllocError>
+    requires some { 0 < per }
     requires few { per ≤ 8 }
     requires small { AreSmall runs.now }
-    ensures value { IfOk result (λ sectors. sectors.items ≡ sectors_from per 0 runs.now) }
+    requires below { end < 2 ^ 56 }
+    requires inside { end * per < 2 ^ 56 }
+    ensures value { IfOk result (λ sectors. AreSectors per runs.now (end * per) sectors.items) }
     ensures small { IfOk result (λ sectors. All IsSmallExtent sectors.items) }
 {
     let mut sectors = Vec::new(alloc);
     let mut v = 0;
-    for run in runs {
-        push_run(&mut sectors, per, v, run)?;
-        v = after(v, run);
+    while v < end {
+        let next = next_vcn(v, end, runs);
+        push_sectors(&mut sectors, per, runs, v, next)?;
+        v = next;
     }
     Ok(sectors)
 }
@@ -101,12 +132,32 @@ fn log_of(
     ensures place { IsLogPlace result }
 {
     LogPlace {
-        runs: Extents::from(sectors),
+        runs: LogRuns::from(sectors),
         initialised: initialised.min(4096 * pages),
         pages,
         clusters,
         device: device.min(NOWHERE),
     }
+}
+
+// Where a stream in clusters lies as a log of so many pages.
+fn placed(
+    alloc: Global,
+    per: u64,
+    clusters: u64,
+    device: u64,
+    extents: &StreamExtents,
+) -> Result<LogPlace, AllocError>
+    requires some { 0 < per }
+    requires few { per ≤ 8 }
+    requires small { AreSmall extents.now.runs }
+    ensures value { IfOk result (λ place. LieAlike place (stream_place per clusters device (Placed extents.now))) }
+    ensures place { IfOk result IsLogPlace }
+{
+    let pages = extents.real / 4096;
+    let end = (8 * pages).div_ceil(per);
+    let sectors = sectors_of(alloc, per, end, extents.runs.as_slice())?;
+    Ok(log_of(clusters, device, pages, extents.initialised, sectors))
 }
 
 #[tactic(auto, unfolding(crate::specs::LogPlaces::stream_place))]
@@ -117,9 +168,10 @@ fn stream_place(
     device: u64,
     stream: &Stream,
 ) -> Result<LogPlace, AllocError>
+    requires some { 0 < per }
     requires few { per ≤ 8 }
     requires small { HasSmallRuns stream.now }
-    ensures value { IfOk result (λ place. place ≡ stream_place per clusters device stream.now) }
+    ensures value { IfOk result (λ place. LieAlike place (stream_place per clusters device stream.now)) }
     ensures place { IfOk result IsLogPlace }
 {
     match stream {
@@ -127,17 +179,14 @@ fn stream_place(
             let pages = value.len() as u64 / 4096;
             Ok(log_of(clusters, device, pages, 0, Vec::new(alloc)))
         }
-        Stream::Placed(extents) => {
-            let sectors = sectors_of(alloc, per, extents.runs.as_slice())?;
-            let pages = extents.real / 4096;
-            Ok(log_of(clusters, device, pages, extents.initialised, sectors))
-        }
+        Stream::Placed(extents) => placed(alloc, per, clusters, device, extents),
     }
 }
 
 /// Where the log with this stream lies, of a volume of so many clusters on a device of so many
-/// sectors. `per` is the sectors of a cluster. The error is want of memory. Linear in the stream's
-/// runs.
+/// sectors. `per` is the sectors of a cluster. The error is want of memory. Quadratic in the
+/// stream's runs, which are those of one record: it asks once for each VCN at which a run begins or
+/// ends where that one lies, since of runs that overlap the first one holds.
 pub fn place_of(
     alloc: Global,
     per: u64,
@@ -145,9 +194,10 @@ pub fn place_of(
     device: u64,
     stream: &Option<Stream>,
 ) -> Result<LogPlace, AllocError>
+    requires some { 0 < per }
     requires few { per ≤ 8 }
     requires small { IfSome stream.now HasSmallRuns }
-    ensures value { IfOk result (λ place. place ≡ place_of per clusters device stream.now) }
+    ensures value { IfOk result (λ place. LieAlike place (place_of per clusters device stream.now)) }
     ensures place { IfOk result IsLogPlace }
 {
     match stream {

@@ -64,7 +64,7 @@ pub enum Refusal {
 
 /// Why a scan or a check has no answer.
 #[derive(Clone, Copy, Debug, PartialEq, Eq, Error)]
-pub enum ScanError {
+pub enum MountFault {
     #[error("no memory")]
     Memory,
     #[error("the device failed")]
@@ -73,51 +73,51 @@ pub enum ScanError {
     Refused(Refusal),
 }
 
-impl From<AllocError> for ScanError {
+impl From<AllocError> for MountFault {
     ghost use Rattle.std.specs.Prelude.{◌≡◌};
-    ghost use Rattle.image_scan.specs.declared.refusal.ScanError.TheVariants as scans;
+    ghost use Rattle.image_scan.specs.declared.refusal.MountFault.TheVariants as scans;
 
     ghost from_gives = { λ _ e. e ≡ scans.Memory };
 
     fn from(_: AllocError) -> Self {
-        ScanError::Memory
+        MountFault::Memory
     }
 }
 
-impl<T: Drop> From<AllocFailed<T>> for ScanError {
+impl<T: Drop> From<AllocFailed<T>> for MountFault {
     ghost use Rattle.std.specs.Prelude.{◌≡◌};
-    ghost use Rattle.image_scan.specs.declared.refusal.ScanError.TheVariants as scans;
+    ghost use Rattle.image_scan.specs.declared.refusal.MountFault.TheVariants as scans;
 
     ghost from_gives = { λ _ e. e ≡ scans.Memory };
 
     fn from(_: AllocFailed<T>) -> Self {
-        ScanError::Memory
+        MountFault::Memory
     }
 }
 
-impl From<host_base::Memory> for ScanError {
+impl From<host_base::Memory> for MountFault {
     ghost use Rattle.std.specs.Prelude.{◌≡◌};
-    ghost use Rattle.image_scan.specs.declared.refusal.ScanError.TheVariants as scans;
+    ghost use Rattle.image_scan.specs.declared.refusal.MountFault.TheVariants as scans;
 
     ghost from_gives = { λ _ e. e ≡ scans.Memory };
 
     fn from(_: host_base::Memory) -> Self {
-        ScanError::Memory
+        MountFault::Memory
     }
 }
 
-impl From<Failed> for ScanError {
+impl From<Failed> for MountFault {
     ghost use Rattle.std.specs.Prelude.{◌≡◌};
-    ghost use Rattle.image_scan.specs.declared.refusal.ScanError.TheVariants as scans;
+    ghost use Rattle.image_scan.specs.declared.refusal.MountFault.TheVariants as scans;
 
     ghost from_gives = { λ _ e. e ≡ scans.Device };
 
     fn from(_: Failed) -> Self {
-        ScanError::Device
+        MountFault::Device
     }
 }
 
-impl From<ViewFault> for ScanError {
+impl From<ViewFault> for MountFault {
     ghost use Rattle.std.specs.Prelude.{◌≡◌};
     ghost use Rattle.image_scan.specs.Errors.{error_of_view};
 
@@ -125,21 +125,21 @@ impl From<ViewFault> for ScanError {
 
     fn from(fault: ViewFault) -> Self {
         match fault {
-            ViewFault::Fault => ScanError::Device,
-            ViewFault::Memory => ScanError::Memory,
+            ViewFault::Fault => MountFault::Device,
+            ViewFault::Memory => MountFault::Memory,
         }
     }
 }
 
-impl From<BootFault> for ScanError {
+impl From<BootFault> for MountFault {
     ghost use Rattle.std.specs.Prelude.{◌≡◌};
     ghost use Rattle.image_scan.specs.Errors.{boot_refusal};
-    ghost use Rattle.image_scan.specs.declared.refusal.ScanError.TheVariants as scans;
+    ghost use Rattle.image_scan.specs.declared.refusal.MountFault.TheVariants as scans;
 
     ghost from_gives = { λ fault e. e ≡ scans.Refused (boot_refusal fault) };
 
     fn from(fault: BootFault) -> Self {
-        ScanError::Refused(match fault {
+        MountFault::Refused(match fault {
             BootFault::NotNtfs { rule } => Refusal::NotNtfs { rule },
             BootFault::Geometry { field, value } => Refusal::Geometry { field, value },
             BootFault::VolumeLarge { clusters } => Refusal::VolumeLarge { clusters },
@@ -163,7 +163,7 @@ impl From<MapRefusal> for Refusal {
     }
 }
 
-impl From<MapFault> for ScanError {
+impl From<MapFault> for MountFault {
     ghost use Rattle.std.specs.Prelude.{◌≡◌};
     ghost use Rattle.image_scan.specs.Errors.{error_of_map};
 
@@ -171,14 +171,14 @@ impl From<MapFault> for ScanError {
 
     fn from(fault: MapFault) -> Self {
         match fault {
-            MapFault::Refused(refusal) => ScanError::Refused(Refusal::from(refusal)),
-            MapFault::View => ScanError::Device,
-            MapFault::Memory => ScanError::Memory,
+            MapFault::Refused(refusal) => MountFault::Refused(Refusal::from(refusal)),
+            MapFault::View => MountFault::Device,
+            MapFault::Memory => MountFault::Memory,
         }
     }
 }
 
-impl From<RecoveryFault> for ScanError {
+impl From<RecoveryFault> for MountFault {
     ghost use Rattle.std.specs.Prelude.{◌≡◌};
     ghost use Rattle.image_scan.specs.Errors.{error_of_log};
 
@@ -187,12 +187,12 @@ impl From<RecoveryFault> for ScanError {
     fn from(fault: RecoveryFault) -> Self {
         match fault {
             RecoveryFault::LogVersion { major, minor } => {
-                ScanError::Refused(Refusal::LogVersion { major, minor })
+                MountFault::Refused(Refusal::LogVersion { major, minor })
             }
-            RecoveryFault::NoRestart => ScanError::Refused(Refusal::NoRestart),
-            RecoveryFault::ForeignLog { lsn } => ScanError::Refused(Refusal::ForeignLog { lsn }),
-            RecoveryFault::Fault => ScanError::Device,
-            RecoveryFault::Memory => ScanError::Memory,
+            RecoveryFault::NoRestart => MountFault::Refused(Refusal::NoRestart),
+            RecoveryFault::ForeignLog { lsn } => MountFault::Refused(Refusal::ForeignLog { lsn }),
+            RecoveryFault::Fault => MountFault::Device,
+            RecoveryFault::Memory => MountFault::Memory,
         }
     }
 }

@@ -7,13 +7,13 @@ use Rattle.host_base.proofs.Known.{both, one}
 use Rattle.disk_model.specs.Content.{Content}
 use Rattle.record_model.specs.declared.entry.Entry.{Entry}
 use Rattle.record_model.specs.Nodes.{Node}
-use Rattle.tree_model.specs.declared.link.Link.{Link}
+use Rattle.file_tree.specs.declared.link.Link.{Link}
 use Rattle.index_model.specs.declared.side.Side.{Side}
 use Rattle.index_model.specs.declared.side.Side.TheVariants.{Unnamed, Before, Same, Behind}
 use Rattle.index_model.specs.Indexes.{entry_link}
 use Rattle.index_model.specs.Walks.{Event, Child, Deep, Faulty, Named, Found, below, beside, behind, found_event, entry_sought, kid_sought, sought_in, inside}
 use Rattle.index_model.specs.Breaks.{HasMet}
-use Rattle.index_plan.specs.Reading.{Reads}
+use Rattle.index_plan.specs.Reading.{NodeReads}
 use Rattle.index_tree.specs.Faults.{IsRead}
 use Rattle.index_tree.proofs.Searching.{side_at, met_at, sought_next, sought_end}
 use Rattle.index_tree.proofs.Steps.{none_left}
@@ -59,21 +59,21 @@ more_stay k node old new h v had =
 pub stay_both : (a b d : Map) → StayHeld a b → StayHeld b d → StayHeld a d
 stay_both a b d f g v h = g v (f v h)
 
-all_stay : (read : Reads) (met : List Event) (a b : Map) → AllHeld read met a → StayHeld a b → AllHeld read met b
+all_stay : (read : NodeReads) (met : List Event) (a b : Map) → AllHeld read met a → StayHeld a b → AllHeld read met b
 all_stay read met a b all stay v entries m is = stay v (all v entries m is)
 
 -- ---- a child
 
-abbrev KidHeld : List ℕ → List ℕ → (Content → Reads) → ℕ → ℕ → Map → Content → Type 0
+abbrev KidHeld : List ℕ → List ℕ → (Content → NodeReads) → ℕ → ℕ → Map → Content → Type 0
 KidHeld upper name f levels child held c = (above : ℕ) → AllHeld (f c) (kid_sought upper name (f c) levels above child) held
 
 -- nothing hangs on level 17
-pub deep_held : (known : Option Content) (upper name : List ℕ) (f : Content → Reads) (levels child : ℕ) (held : Map) → levels ≡ 0 → IfSome known (KidHeld upper name f levels child held)
+pub deep_held : (known : Option Content) (upper name : List ℕ) (f : Content → NodeReads) (levels child : ℕ) (held : Map) → levels ≡ 0 → IfSome known (KidHeld upper name f levels child held)
 deep_held None upper name f levels child held none = tt
 deep_held (Some c) upper name f zero child held none = λ above v entries m is. absurd m
 deep_held (Some c) upper name f (suc n) child held none = absurd cc
 
-faulty_held : (upper name : List ℕ) (read : Reads) (levels child : ℕ) (held : Map) (r : Result (List Entry) ℕ) → IsRead r None → read child ≡ r → (above : ℕ) → AllHeld read (kid_sought upper name read levels above child) held
+faulty_held : (upper name : List ℕ) (read : NodeReads) (levels child : ℕ) (held : Map) (r : Result (List Entry) ℕ) → IsRead r None → read child ≡ r → (above : ℕ) → AllHeld read (kid_sought upper name read levels above child) held
 faulty_held upper name read levels child held (Ok entries) is e = absurd is
 faulty_held upper name read zero child held (Err rule) is e = λ above v entries m ok. absurd m
 faulty_held upper name read (suc n) child held (Err rule) is e = λ above v entries m ok.
@@ -87,11 +87,11 @@ faulty_held upper name read (suc n) child held (Err rule) is e = λ above v entr
     clash a b rule entries e f g = cc
 
 -- a node that breaks a rule isn't owed
-pub unread_held : (known now : Option Content) (upper name : List ℕ) (f : Content → Reads) (levels child : ℕ) (o : Option Node) (held : Map) → now ≡ known → o ≡ None → IfSome known (λ c. IsRead (f c child) o) → IfSome known (KidHeld upper name f levels child held)
+pub unread_held : (known now : Option Content) (upper name : List ℕ) (f : Content → NodeReads) (levels child : ℕ) (o : Option Node) (held : Map) → now ≡ known → o ≡ None → IfSome known (λ c. IsRead (f c child) o) → IfSome known (KidHeld upper name f levels child held)
 unread_held None now upper name f levels child o held same is read = tt
 unread_held (Some c) now upper name f levels child o held same is read = faulty_held upper name (f c) levels child held (f c child) (subst (IsRead (f c child)) is read) refl
 
-node_held : (upper name : List ℕ) (read : Reads) (levels child : ℕ) (node : Node) (a b : Map) → 1 ≤ levels → read child ≡ Ok node.entries → ((above : ℕ) → AllHeld read (sought_in upper name read (levels - 1) above node.entries) a) → HoldsMore child node a b → (above : ℕ) → AllHeld read (kid_sought upper name read levels above child) b
+node_held : (upper name : List ℕ) (read : NodeReads) (levels child : ℕ) (node : Node) (a b : Map) → 1 ≤ levels → read child ≡ Ok node.entries → ((above : ℕ) → AllHeld read (sought_in upper name read (levels - 1) above node.entries) a) → HoldsMore child node a b → (above : ℕ) → AllHeld read (kid_sought upper name read levels above child) b
 node_held upper name read zero child node a b pos is inner more = absurd (omega arith)
 node_held upper name read (suc n) child node a b pos is inner more = λ above v entries m ok.
     let count : suc n - 1 ≡ n = omega arith in
@@ -102,11 +102,11 @@ node_held upper name read (suc n) child node a b pos is inner more = λ above v 
           more_stay child node a b more v (subst (λ (k : ℕ). AllHeld read (sought_in upper name read k child node.entries) a) count (inner child) v entries met ok)
     ]
 
-abbrev InHeld : List ℕ → List ℕ → (Content → Reads) → ℕ → List Entry → Map → Content → Type 0
+abbrev InHeld : List ℕ → List ℕ → (Content → NodeReads) → ℕ → List Entry → Map → Content → Type 0
 InHeld upper name f levels entries held c = (above : ℕ) → AllHeld (f c) (sought_in upper name (f c) levels above entries) held
 
 -- a node, once those below it are held
-pub child_held : (known now : Option Content) (upper name : List ℕ) (f : Content → Reads) (levels child : ℕ) (node : Node) (o : Option Node) (entries : List Entry) (a b : Map) → now ≡ known → 1 ≤ levels → o ≡ Some node → entries ≡ node.entries → IfSome known (λ c. IsRead (f c child) o) → IfSome now (InHeld upper name f (levels - 1) entries a) → HoldsMore child node a b → IfSome known (KidHeld upper name f levels child b)
+pub child_held : (known now : Option Content) (upper name : List ℕ) (f : Content → NodeReads) (levels child : ℕ) (node : Node) (o : Option Node) (entries : List Entry) (a b : Map) → now ≡ known → 1 ≤ levels → o ≡ Some node → entries ≡ node.entries → IfSome known (λ c. IsRead (f c child) o) → IfSome now (InHeld upper name f (levels - 1) entries a) → HoldsMore child node a b → IfSome known (KidHeld upper name f levels child b)
 child_held None now upper name f levels child node o entries a b same pos is those read inner more = tt
 child_held (Some c) now upper name f levels child node o entries a b same pos is those read inner more =
     node_held upper name (f c) levels child node a b pos (subst (IsRead (f c child)) is read)
@@ -114,22 +114,22 @@ child_held (Some c) now upper name f levels child node o entries a b same pos is
 
 -- ---- what hangs below an entry
 
-abbrev BelowHeld : List ℕ → List ℕ → (Content → Reads) → ℕ → Option ℕ → Map → Content → Type 0
+abbrev BelowHeld : List ℕ → List ℕ → (Content → NodeReads) → ℕ → Option ℕ → Map → Content → Type 0
 BelowHeld upper name f levels down held c = (above : ℕ) → AllHeld (f c) (below (kid_sought upper name (f c) levels above) down) held
 
-pub none_below : (known : Option Content) (upper name : List ℕ) (f : Content → Reads) (levels : ℕ) (down : Option ℕ) (held : Map) → down ≡ None → IfSome known (BelowHeld upper name f levels down held)
+pub none_below : (known : Option Content) (upper name : List ℕ) (f : Content → NodeReads) (levels : ℕ) (down : Option ℕ) (held : Map) → down ≡ None → IfSome known (BelowHeld upper name f levels down held)
 none_below None upper name f levels down held is = tt
 none_below (Some c) upper name f levels None held is = λ above v entries m ok. absurd m
 none_below (Some c) upper name f levels (Some child) held is = absurd cc
 
-pub some_below : (known : Option Content) (upper name : List ℕ) (f : Content → Reads) (levels child : ℕ) (down : Option ℕ) (held : Map) → down ≡ Some child → IfSome known (KidHeld upper name f levels child held) → IfSome known (BelowHeld upper name f levels down held)
+pub some_below : (known : Option Content) (upper name : List ℕ) (f : Content → NodeReads) (levels child : ℕ) (down : Option ℕ) (held : Map) → down ≡ Some child → IfSome known (KidHeld upper name f levels child held) → IfSome known (BelowHeld upper name f levels down held)
 some_below known upper name f levels child down held is h = subst (λ (d : Option ℕ). IfSome known (BelowHeld upper name f levels d held)) (sym is) h
 
-abbrev BesideHeld : List ℕ → List ℕ → (Content → Reads) → ℕ → Side → Option ℕ → Map → Content → Type 0
+abbrev BesideHeld : List ℕ → List ℕ → (Content → NodeReads) → ℕ → Side → Option ℕ → Map → Content → Type 0
 BesideHeld upper name f levels side down held c = (above : ℕ) → AllHeld (f c) (beside side (below (kid_sought upper name (f c) levels above) down)) held
 
 -- nothing is met below an entry before the name
-pub before_held : (known : Option Content) (upper name : List ℕ) (f : Content → Reads) (levels : ℕ) (side : Side) (down : Option ℕ) (held : Map) → side ≡ Before → IfSome known (BesideHeld upper name f levels side down held)
+pub before_held : (known : Option Content) (upper name : List ℕ) (f : Content → NodeReads) (levels : ℕ) (side : Side) (down : Option ℕ) (held : Map) → side ≡ Before → IfSome known (BesideHeld upper name f levels side down held)
 before_held None upper name f levels side down held is = tt
 before_held (Some c) upper name f levels Unnamed down held is = absurd cc
 before_held (Some c) upper name f levels Before down held is = λ above v entries m ok. absurd m
@@ -142,29 +142,29 @@ beside_one x Before events h = absurd h
 beside_one x Same events h = h
 beside_one x Behind events h = h
 
-pub beside_held : (known : Option Content) (upper name : List ℕ) (f : Content → Reads) (levels : ℕ) (side : Side) (down : Option ℕ) (held : Map) → IfSome known (BelowHeld upper name f levels down held) → IfSome known (BesideHeld upper name f levels side down held)
+pub beside_held : (known : Option Content) (upper name : List ℕ) (f : Content → NodeReads) (levels : ℕ) (side : Side) (down : Option ℕ) (held : Map) → IfSome known (BelowHeld upper name f levels down held) → IfSome known (BesideHeld upper name f levels side down held)
 beside_held known upper name f levels side down held h = one known _ _ (λ c all above v entries m ok. all above v entries (beside_one v side _ m) ok) h
 
 -- ---- an entry
 
-abbrev EntryHeld : List ℕ → List ℕ → (Content → Reads) → ℕ → Side → Option Link → Option ℕ → Map → Content → Type 0
+abbrev EntryHeld : List ℕ → List ℕ → (Content → NodeReads) → ℕ → Side → Option Link → Option ℕ → Map → Content → Type 0
 EntryHeld upper name f levels side link down held c = (above : ℕ) → AllHeld (f c) (entry_sought side link (below (kid_sought upper name (f c) levels above) down)) held
 
 -- a key is no node
-pub entry_held : (known : Option Content) (upper name : List ℕ) (f : Content → Reads) (levels : ℕ) (side : Side) (link : Option Link) (down : Option ℕ) (held : Map) → IfSome known (BesideHeld upper name f levels side down held) → IfSome known (EntryHeld upper name f levels side link down held)
+pub entry_held : (known : Option Content) (upper name : List ℕ) (f : Content → NodeReads) (levels : ℕ) (side : Side) (link : Option Link) (down : Option ℕ) (held : Map) → IfSome known (BesideHeld upper name f levels side down held) → IfSome known (EntryHeld upper name f levels side link down held)
 entry_held known upper name f levels side link down held h = one known _ _ (λ c all above v entries m ok. elim (met_either v (beside side (below (kid_sought upper name (f c) levels above) down)) (found_event side link) m) [ inl inner ↦ all above v entries inner ok | inr key ↦ absurd (not_found v side link key) ]) h
 
 -- ---- the entries of a node
 
 -- what all entries lead to is held, or the entries that are left lead there
-abbrev pub HeldOrLeft : List ℕ → List ℕ → (Content → Reads) → ℕ → List Entry → List Entry → Map → Content → Type 0
+abbrev pub HeldOrLeft : List ℕ → List ℕ → (Content → NodeReads) → ℕ → List Entry → List Entry → Map → Content → Type 0
 HeldOrLeft upper name f levels all left held c = (above x : ℕ) (n : List Entry) → HasMet x (sought_in upper name (f c) levels above all) → f c x ≡ Ok n → HasMet x (sought_in upper name (f c) levels above left) ⊎ IsHeld x held
 
-pub none_held : (known : Option Content) (upper name : List ℕ) (f : Content → Reads) (levels : ℕ) (entries left : List Entry) (held : Map) → left ≡ entries → IfSome known (HeldOrLeft upper name f levels entries left held)
+pub none_held : (known : Option Content) (upper name : List ℕ) (f : Content → NodeReads) (levels : ℕ) (entries left : List Entry) (held : Map) → left ≡ entries → IfSome known (HeldOrLeft upper name f levels entries left held)
 none_held None upper name f levels entries left held same = tt
 none_held (Some c) upper name f levels entries left held same = λ above x n m ok. inl (subst (λ (es : List Entry). HasMet x (sought_in upper name (f c) levels above es)) (sym same) m)
 
-here_or_later : (upper name : List ℕ) (read : Reads) (levels v : ℕ) (entries : List Entry) (k : ℕ) (e : Entry) → k < length entries → e ≡ get_or entries k e → (x : ℕ) → HasMet x (sought_in upper name read levels v (drop k entries)) → HasMet x (met_at upper name read levels v e) ⊎ HasMet x (behind (side_at upper name e) (sought_in upper name read levels v (drop (k + 1) entries)))
+here_or_later : (upper name : List ℕ) (read : NodeReads) (levels v : ℕ) (entries : List Entry) (k : ℕ) (e : Entry) → k < length entries → e ≡ get_or entries k e → (x : ℕ) → HasMet x (sought_in upper name read levels v (drop k entries)) → HasMet x (met_at upper name read levels v e) ⊎ HasMet x (behind (side_at upper name e) (sought_in upper name read levels v (drop (k + 1) entries)))
 here_or_later upper name read levels v entries k e inside is x m =
     let here : drop k entries ≡ e ∷ drop (k + 1) entries = rw (add-one) (drop-cons entries k e inside ∙ ap (λ y. y ∷ drop (suc k) entries) (sym is)) in
     met_either x (met_at upper name read levels v e) (behind (side_at upper name e) (sought_in upper name read levels v (drop (k + 1) entries))) (subst (λ (es : List Event). HasMet x es) (ap (λ (es : List Entry). sought_in upper name read levels v es) here ∙ sought_next upper name read levels v e (drop (k + 1) entries)) m)
@@ -182,7 +182,7 @@ behind_none x Same later is h = absurd cc
 behind_none x Behind later is h = h
 
 -- one entry more
-pub one_held : (known now : Option Content) (upper name : List ℕ) (f : Content → Reads) (levels : ℕ) (entries : List Entry) (k : ℕ) (e : Entry) (a b : Map) → now ≡ known → k < length entries → e ≡ get_or entries k e → StayHeld a b
+pub one_held : (known now : Option Content) (upper name : List ℕ) (f : Content → NodeReads) (levels : ℕ) (entries : List Entry) (k : ℕ) (e : Entry) (a b : Map) → now ≡ known → k < length entries → e ≡ get_or entries k e → StayHeld a b
     → IfSome known (HeldOrLeft upper name f levels entries (drop k entries) a)
     → IfSome now (EntryHeld upper name f levels (side_at upper name e) (entry_link e) e.down b)
     → IfSome known (HeldOrLeft upper name f levels entries (drop (k + 1) entries) b)
@@ -197,7 +197,7 @@ one_held known now upper name f levels entries k e a b same inside is stay rest 
     (subst (λ (o : Option Content). IfSome o (EntryHeld upper name f levels (side_at upper name e) (entry_link e) e.down b)) same here)
 
 -- the last entry that a search comes to
-pub last_held : (known now : Option Content) (upper name : List ℕ) (f : Content → Reads) (levels : ℕ) (entries : List Entry) (k : ℕ) (e : Entry) (a b : Map) → now ≡ known → k < length entries → e ≡ get_or entries k e → StayHeld a b → side_at upper name e ≡ Behind
+pub last_held : (known now : Option Content) (upper name : List ℕ) (f : Content → NodeReads) (levels : ℕ) (entries : List Entry) (k : ℕ) (e : Entry) (a b : Map) → now ≡ known → k < length entries → e ≡ get_or entries k e → StayHeld a b → side_at upper name e ≡ Behind
     → IfSome known (HeldOrLeft upper name f levels entries (drop k entries) a)
     → IfSome now (EntryHeld upper name f levels (side_at upper name e) (entry_link e) e.down b)
     → IfSome known (InHeld upper name f levels entries b)
@@ -212,7 +212,7 @@ last_held known now upper name f levels entries k e a b same inside is stay ends
     (subst (λ (o : Option Content). IfSome o (EntryHeld upper name f levels (side_at upper name e) (entry_link e) e.down b)) same here)
 
 -- no entry is left
-pub whole_held : (known : Option Content) (upper name : List ℕ) (f : Content → Reads) (levels : ℕ) (entries : List Entry) (k : ℕ) (a : Map) → length entries ≤ k
+pub whole_held : (known : Option Content) (upper name : List ℕ) (f : Content → NodeReads) (levels : ℕ) (entries : List Entry) (k : ℕ) (a : Map) → length entries ≤ k
     → IfSome known (HeldOrLeft upper name f levels entries (drop k entries) a)
     → IfSome known (InHeld upper name f levels entries a)
 whole_held known upper name f levels entries k a end rest =

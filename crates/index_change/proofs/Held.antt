@@ -6,13 +6,13 @@ use Rattle.std.specs.Cmp.{nat_cmp_is}
 use Rattle.std.specs.declared.cmp.Ordering.TheVariants.{Less, Greater}
 use Rattle.std.proofs.lemmas.Bool.{cases_eq, cases_lt}
 use Rattle.record_model.specs.Nodes.{Node}
-use Rattle.index_plan.specs.Reading.{Reads}
-use Rattle.index_change.specs.Holding.{Holds}
+use Rattle.index_plan.specs.Reading.{NodeReads}
+use Rattle.index_change.specs.Holding.{HoldsNodesOf}
 
 some_is : (o : Option Node) (n m : Node) → o ≡ Some n → o ≡ Some m → m ≡ n
 some_is o n m e f = let g : ◌≡◌ {A = Option Node} (Some n) (Some m) = sym e ∙ f in cc
 
-pub held_more : (read : Reads) (old new : BTreeMap ℕ Node) (k : ℕ) (node : Node) → read k ≡ Ok node.entries → Holds read old → get nat_cmp new k ≡ Some node → ((v : ℕ) → (k ≡ v → ⊥) → get nat_cmp new v ≡ get nat_cmp old v) → Holds read new
+pub held_more : (read : NodeReads) (old new : BTreeMap ℕ Node) (k : ℕ) (node : Node) → read k ≡ Ok node.entries → HoldsNodesOf read old → get nat_cmp new k ≡ Some node → ((v : ℕ) → (k ≡ v → ⊥) → get nat_cmp new v ≡ get nat_cmp old v) → HoldsNodesOf read new
 held_more read old new k node is holds here others v n got =
     elim (cases_eq k v) [
       | inl e ↦ let same : n ≡ node = some_is (get nat_cmp new k) node n here (ap (get nat_cmp new) e ∙ got) in ap read (sym e) ∙ is ∙ ap (λ (m : Node). Ok m.entries) (sym same)

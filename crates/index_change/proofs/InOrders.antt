@@ -7,12 +7,12 @@ use Rattle.std.specs.declared.cmp.Ordering.TheVariants.{Less, Equal, Greater}
 use Rattle.std.proofs.lemmas.Bool.{and_parts, not-true}
 use Rattle.std.proofs.lemmas.List.Elements.{All-nil, All-cons, All-head, All-tail}
 use Rattle.record_model.specs.Values.{is_file_name, units_of}
-use Rattle.tree_model.specs.declared.link.Link.{Link}
-use Rattle.tree_model.specs.Names.{name_order}
+use Rattle.file_tree.specs.declared.link.Link.{Link}
+use Rattle.file_tree.specs.Names.{name_order}
 use Rattle.upcase_order.proofs.NameLaws.{equal_units}
 use Rattle.index_model.specs.declared.key.Key.{Key}
 use Rattle.index_model.specs.Indexes.{links_of, precedes, rises}
-use Rattle.index_plan.specs.declared.side.Side.TheVariants as sides
+use Rattle.index_plan.specs.declared.side.KeySide.TheVariants as sides
 use Rattle.index_plan.specs.Seeking.{rank, InOrder}
 use Rattle.index_change.specs.Orders.{link_of, is_entry_of, stands_by, stands}
 use Rattle.index_change.proofs.Lacking.{rises_without}

@@ -12,7 +12,7 @@ use Rattle.record_model.specs.declared.entry.Entry.{Entry as Raw}
 use Rattle.record_model.specs.Nodes.{Node as NodeOf}
 use Rattle.record_model.specs.StdValues.{file_name_of, file_name_fields, file_name_fault}
 use Rattle.record_model.specs.Values.{is_file_name}
-use Rattle.tree_model.specs.declared.link.Link.{Link}
+use Rattle.file_tree.specs.declared.link.Link.{Link}
 use Rattle.index_model.specs.declared.key.Key.{Key}
 use Rattle.index_model.specs.Trees.{Tree, walk}
 use Rattle.index_model.specs.Indexes.{Place, node_of_block, entry_link, named, links_of}
@@ -22,28 +22,28 @@ use Rattle.index_plan.specs.declared.fault.ReadFault.{ReadFault}
 use Rattle.index_plan.specs.declared.fault.ReadFault.TheVariants as reading
 use Rattle.index_plan.specs.Faults.{ReadFails, read_cause}
 use Rattle.index_plan.specs.Lists.{own_key}
-use Rattle.index_plan.specs.Reading.{Reads}
+use Rattle.index_plan.specs.Reading.{NodeReads}
 use Rattle.index_tree.specs.declared.fault.TreeFault.{TreeFault}
 use Rattle.index_tree.specs.declared.fault.TreeFault.TheVariants.{Node, Present, Absent, Deep, View}
 use Rattle.index_change.specs.declared.plan.DirPlan.{DirPlan}
 use Rattle.index_tree.specs.Calls.{FindGives, is_sought}
 use Rattle.index_tree.specs.Faults.{IsRead}
 use Rattle.index_change.specs.Heights.{tallest, if_read, height_below, height_of}
-use Rattle.index_change.specs.Holding.{Holds}
+use Rattle.index_change.specs.Holding.{HoldsNodesOf}
 use Rattle.index_change.specs.Orders.{is_of, link_of, has_entry}
 use Rattle.index_change.specs.Plans.{PutsNew, InsertGives}
 use Rattle.index_change.proofs.Lawful.{link_child}
 
 -- ---- nodes that are held
 
-holds_at : (f : Content → Reads) (c : Content) (vcn : ℕ) (held : BTreeMap ℕ NodeOf) (node : NodeOf) (result : Result (List Raw) ReadFault) → Holds (f c) held → get nat_cmp held vcn ≡ Some node → IfOk result (λ copy. copy ≡ node.entries) → IfErr result (λ e. e ≡ reading.Memory) → GivesOrFails (λ (n : List Raw). n) read_cause result (f c vcn)
+holds_at : (f : Content → NodeReads) (c : Content) (vcn : ℕ) (held : BTreeMap ℕ NodeOf) (node : NodeOf) (result : Result (List Raw) ReadFault) → HoldsNodesOf (f c) held → get nat_cmp held vcn ≡ Some node → IfOk result (λ copy. copy ≡ node.entries) → IfErr result (λ e. e ≡ reading.Memory) → GivesOrFails (λ (n : List Raw). n) read_cause result (f c vcn)
 holds_at f c vcn held node (Ok copy) holds got ok err = holds vcn node got ∙ ap (λ (l : List Raw). made l) (sym ok)
   where
     made : List Raw → Result (List Raw) ℕ
     made l = Ok l
 holds_at f c vcn held node (Err e) holds got ok err = subst (λ (x : ReadFault). GivesOrFails {X = List Raw} {Y = List Raw} (λ (n : List Raw). n) read_cause (Err x) (f c vcn)) (sym err) tt
 
-pub read_known : (known : Option Content) (f : Content → Reads) (vcn : ℕ) (held : BTreeMap ℕ NodeOf) (node : NodeOf) (result : Result (List Raw) ReadFault) → ForSome known (λ c. Holds (f c) held) → get nat_cmp held vcn ≡ Some node → IfOk result (λ copy. copy ≡ node.entries) → IfErr result (λ e. e ≡ reading.Memory) → IfSome (option_map f known) (λ r. GivesOrFails (λ (n : List Raw). n) read_cause result (r vcn))
+pub read_known : (known : Option Content) (f : Content → NodeReads) (vcn : ℕ) (held : BTreeMap ℕ NodeOf) (node : NodeOf) (result : Result (List Raw) ReadFault) → ForSome known (λ c. HoldsNodesOf (f c) held) → get nat_cmp held vcn ≡ Some node → IfOk result (λ copy. copy ≡ node.entries) → IfErr result (λ e. e ≡ reading.Memory) → IfSome (option_map f known) (λ r. GivesOrFails (λ (n : List Raw). n) read_cause result (r vcn))
 read_known None f vcn held node result holds got ok err = tt
 read_known (Some c) f vcn held node result holds got ok err = holds_at f c vcn held node result (holds c refl) got ok err
 
@@ -51,14 +51,14 @@ pub read_quiet : {T : Type 0} (result : Result T ReadFault) → IfErr result (λ
 read_quiet (Ok x) err = record { later = omega arith; counted = refl }
 read_quiet (Err e) err = record { later = omega arith; counted = subst (λ (x : ReadFault). CountsCause 0 0 (read_cause x)) (sym err) refl }
 
-abbrev pub Adds : (Content → Reads) → BTreeMap ℕ NodeOf → BTreeMap ℕ NodeOf → Content → Type 0
-Adds f old new c = Holds (f c) old → Holds (f c) new
+abbrev pub Adds : (Content → NodeReads) → BTreeMap ℕ NodeOf → BTreeMap ℕ NodeOf → Content → Type 0
+Adds f old new c = HoldsNodesOf (f c) old → HoldsNodesOf (f c) new
 
-pub adds_both : (known now : Option Content) (f : Content → Reads) (a b d : BTreeMap ℕ NodeOf) → now ≡ known → IfSome known (Adds f a b) → IfSome now (Adds f b d) → IfSome known (Adds f a d)
+pub adds_both : (known now : Option Content) (f : Content → NodeReads) (a b d : BTreeMap ℕ NodeOf) → now ≡ known → IfSome known (Adds f a b) → IfSome now (Adds f b d) → IfSome known (Adds f a d)
 adds_both None now f a b d same first second = tt
 adds_both (Some c) now f a b d same first second = λ h. subst (λ (o : Option Content). IfSome o (Adds f b d)) same second (first h)
 
-pub adds_node : (known now : Option Content) (f : Content → Reads) (child : ℕ) (node : NodeOf) (o : Option NodeOf) (a b d : BTreeMap ℕ NodeOf) → now ≡ known → o ≡ Some node → IfSome known (λ c. IsRead (f c child) o) → IfSome now (Adds f a b) → ((read : Reads) → read child ≡ Ok node.entries → Holds read b → Holds read d) → IfSome known (Adds f a d)
+pub adds_node : (known now : Option Content) (f : Content → NodeReads) (child : ℕ) (node : NodeOf) (o : Option NodeOf) (a b d : BTreeMap ℕ NodeOf) → now ≡ known → o ≡ Some node → IfSome known (λ c. IsRead (f c child) o) → IfSome now (Adds f a b) → ((read : NodeReads) → read child ≡ Ok node.entries → HoldsNodesOf read b → HoldsNodesOf read d) → IfSome known (Adds f a d)
 adds_node None now f child node o a b d same is read first last = tt
 adds_node (Some c) now f child node o a b d same is read first last = λ h. last (f c) (subst (IsRead (f c child)) is read) (subst (λ (k : Option Content). IfSome k (Adds f a b)) same first h)
 

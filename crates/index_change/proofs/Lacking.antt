@@ -4,9 +4,9 @@ use Rattle.std.specs.List.{cons_option}
 use Rattle.std.specs.Cmp.{upto}
 use Rattle.std.specs.Ordering.{is_gt}
 use Rattle.std.proofs.lemmas.Bool.{and_parts, not-true}
-use Rattle.tree_model.specs.declared.link.Link.{Link}
-use Rattle.tree_model.specs.Names.{name_order}
-use Rattle.tree_model.proofs.NameOrders.{name_order_total}
+use Rattle.file_tree.specs.declared.link.Link.{Link}
+use Rattle.file_tree.specs.Names.{name_order}
+use Rattle.file_tree.proofs.NameOrders.{name_order_total}
 use Rattle.index_model.specs.declared.key.Key.{Key}
 use Rattle.index_model.specs.Indexes.{key_link, links_of, precedes, rises}
 use Rattle.index_change.specs.Orders.{link_of, is_same_link, has_link}

@@ -23,7 +23,7 @@ use Rattle.record_model.proofs.NodeSpelling.{node_signed, length-node_spelling, 
 use Rattle.record_model.proofs.NodeTables.{ok_from_node}
 use Rattle.index_node.proofs.Placing.{all_put}
 use Rattle.index_root.specs.Roots.{new_node}
-use Rattle.index_model.specs.Indexes.{Place, block_at, entries_in, is_index_body, node_of_body, node_of_part, node_of_block, nodes_of, some_entries}
+use Rattle.index_model.specs.Indexes.{Place, node_block, entries_of_node, is_index_body, node_of_body, node_of_part, node_of_block, nodes_of, some_entries}
 use Rattle.index_plan.specs.declared.write.Write.{Write}
 use Rattle.index_plan.specs.Paths.{chosen, over}
 use Rattle.index_change.specs.Changing.{IsLaidOut, PutsNode, PutNodes}
@@ -137,9 +137,9 @@ spelled_node v entries torn whole fits =
     let is_one : is_index_body body ≡ true =
     ap (λ (b : Bool). b && not torn && is_signed Index (node_spelling n)) size ∙ ap (λ (b : Bool). not b && is_signed Index (node_spelling n)) whole ∙ node_signed n in
     let own : (field 0x10 8 (node_spelling n) == v) ≡ true = eq-eqb (field 0x10 8 (node_spelling n)) v spells.vcn in
-    ap (λ (b : Bool). needs b 1 >>= λ _. needs (field 0x10 8 (node_spelling n) == v) 2 >>= λ _. entries_in (node_at (node_spelling n))) is_one
-    ∙ ap (λ (b : Bool). needs b 2 >>= λ _. entries_in (node_at (node_spelling n))) own
-    ∙ ap entries_in (ok_from_node (node_spelling n) n spells)
+    ap (λ (b : Bool). needs b 1 >>= λ _. needs (field 0x10 8 (node_spelling n) == v) 2 >>= λ _. entries_of_node (node_at (node_spelling n))) is_one
+    ∙ ap (λ (b : Bool). needs b 2 >>= λ _. entries_of_node (node_at (node_spelling n))) own
+    ∙ ap entries_of_node (ok_from_node (node_spelling n) n spells)
 
 change_node : (p : Place) (v : ℕ) (w : Write) (c : Change) → v ≡ w.vcn → PutsNode p w c → some_entries (node_of_body v (record { bytes = c.new; torn = false })) ≡ Some w.entries
 change_node p v w c is put =
@@ -162,10 +162,10 @@ block_same : (b c : Block) → b ≡ c → same_block b c ≡ true
 block_same b c e = ap (same_block b) (sym e) ∙ same_block-self b
 
 -- a change is of a node's block exactly where it is of the node
-pub same_place : (p : Place) (n : ℕ → ℕ) (v : ℕ) (b : Block) (w : Write) (c : Change) → IsLaidOut p n → 0 < n v → 0 < n w.vcn → block_at p v ≡ Some b → PutsNode p w c → same_block b c.block ≡ nat_eq v w.vcn
+pub same_place : (p : Place) (n : ℕ → ℕ) (v : ℕ) (b : Block) (w : Write) (c : Change) → IsLaidOut p n → 0 < n v → 0 < n w.vcn → node_block p v ≡ Some b → PutsNode p w c → same_block b c.block ≡ nat_eq v w.vcn
 same_place p n v b w c laid here there at put =
     elim (cases_eq v w.vcn) [
-      | inl e ↦ block_same b c.block (some_block (block_at p v) b c.block at (ap (block_at p) e ∙ put.block)) ∙ sym (eq-eqb v w.vcn e)
+      | inl e ↦ block_same b c.block (some_block (node_block p v) b c.block at (ap (node_block p) e ∙ put.block)) ∙ sym (eq-eqb v w.vcn e)
       | inr ne ↦ other (same_block b c.block) refl ne ∙ sym (ne_eqb v w.vcn ne)
     ]
   where
@@ -178,7 +178,7 @@ abbrev pub AreUsed : (ℕ → ℕ) → List Write → Type 0
 AreUsed n [] = Unit {0}
 AreUsed n (w ∷ writes) = (0 < n w.vcn) × AreUsed n writes
 
-nodes_last : (p : Place) (n : ℕ → ℕ) (v : ℕ) (b : Block) (writes : List Write) (changes : List Change) (x : BodyOf) → IsLaidOut p n → 0 < n v → AreUsed n writes → block_at p v ≡ Some b → PutNodes p writes changes → some_entries (node_of_body v (last_body changes b x)) ≡ last_node writes v (some_entries (node_of_body v x))
+nodes_last : (p : Place) (n : ℕ → ℕ) (v : ℕ) (b : Block) (writes : List Write) (changes : List Change) (x : BodyOf) → IsLaidOut p n → 0 < n v → AreUsed n writes → node_block p v ≡ Some b → PutNodes p writes changes → some_entries (node_of_body v (last_body changes b x)) ≡ last_node writes v (some_entries (node_of_body v x))
 nodes_last p n v b [] [] x laid here each at put = refl
 nodes_last p n v b [] (c ∷ changes) x laid here each at put = absurd put
 nodes_last p n v b (w ∷ writes) [] x laid here each at put = absurd put
@@ -192,15 +192,15 @@ nodes_last p n v b (w ∷ writes) (c ∷ changes) x laid here each at put =
         ∙ change_node p v w c (eqb-true v w.vcn e) put.0
     choose false e = ap (λ (s : Bool). some_entries (node_of_body v (if s then record { bytes = c.new; torn = false } else x))) (same_place p n v b w c laid here each.0 at put.0 ∙ e)
 
-nowhere : (p : Place) (v : ℕ) (writes : List Write) (changes : List Change) → block_at p v ≡ None → PutNodes p writes changes → last_node writes v None ≡ None
+nowhere : (p : Place) (v : ℕ) (writes : List Write) (changes : List Change) → node_block p v ≡ None → PutNodes p writes changes → last_node writes v None ≡ None
 nowhere p v [] [] at put = refl
 nowhere p v [] (c ∷ changes) at put = absurd put
 nowhere p v (w ∷ writes) [] at put = absurd put
 nowhere p v (w ∷ writes) (c ∷ changes) at put =
-    ap (λ (s : Bool). last_node writes v (chosen s w.entries None)) (ne_eqb v w.vcn (λ e. let g : ◌≡◌ {A = Option Block} None (Some c.block) = sym at ∙ ap (block_at p) e ∙ put.0.block in cc))
+    ap (λ (s : Bool). last_node writes v (chosen s w.entries None)) (ne_eqb v w.vcn (λ e. let g : ◌≡◌ {A = Option Block} None (Some c.block) = sym at ∙ ap (node_block p) e ∙ put.0.block in cc))
     ∙ nowhere p v writes changes at put.1
 
-nodes_at : (p : Place) (n : ℕ → ℕ) (v : ℕ) (o : Option Block) (c : Content) (writes : List Write) (changes : List Change) → IsLaidOut p n → 0 < n v → AreUsed n writes → HasSizes c → block_at p v ≡ o → PutNodes p writes changes → some_entries (node_of_part (content_after changes c) v o) ≡ last_node writes v (some_entries (node_of_part c v o))
+nodes_at : (p : Place) (n : ℕ → ℕ) (v : ℕ) (o : Option Block) (c : Content) (writes : List Write) (changes : List Change) → IsLaidOut p n → 0 < n v → AreUsed n writes → HasSizes c → node_block p v ≡ o → PutNodes p writes changes → some_entries (node_of_part (content_after changes c) v o) ≡ last_node writes v (some_entries (node_of_part c v o))
 nodes_at p n v None c writes changes laid here each sized at put = sym (nowhere p v writes changes at put)
 nodes_at p n v (Some b) c writes changes laid here each sized at put =
     let size : length (c b).bytes ≡ 4096 = sized b ∙ ap (λ k. 512 * sectors k) (laid.index v b here at) in
@@ -209,4 +209,4 @@ nodes_at p n v (Some b) c writes changes laid here each sized at put =
 -- the nodes of a content after the changes are those after the writes, at the VCNs that are used
 pub nodes_after : (p : Place) (n : ℕ → ℕ) (c : Content) (writes : List Write) (changes : List Change) → IsLaidOut p n → AreUsed n writes → HasSizes c → PutNodes p writes changes → (v : ℕ) → 0 < n v → nodes_of (node_of_block (content_after changes c) p) v ≡ over (nodes_of (node_of_block c p)) (reverse writes) v
 unfolding node_of_block
-nodes_after p n c writes changes laid each sized put v here = nodes_at p n v (block_at p v) c writes changes laid here each sized refl put ∙ sym (over_last (nodes_of (node_of_block c p)) writes v)
+nodes_after p n c writes changes laid each sized put v here = nodes_at p n v (node_block p v) c writes changes laid here each sized refl put ∙ sym (over_last (nodes_of (node_of_block c p)) writes v)

@@ -14,7 +14,7 @@ use Rattle.record_model.specs.Nodes.{Node, node_at, root_at, SpellEntries}
 use Rattle.record_model.proofs.NodeTables.{node_from_ok, root_from_ok}
 use Rattle.index_model.specs.declared.key.Key.{Key}
 use Rattle.index_model.specs.Trees.{Tree, Leaf, Down, Entry, DownEntry, walk, raw, raws_of, Stands}
-use Rattle.index_model.specs.Indexes.{Place, block_at, entries_in, is_index_body, node_of_body, node_of_part, node_of_block, nodes_of, some_entries, named, key_link}
+use Rattle.index_model.specs.Indexes.{Place, node_block, entries_of_node, is_index_body, node_of_body, node_of_part, node_of_block, nodes_of, some_entries, named, key_link}
 use Rattle.index_model.specs.Laws.{HoldsIndex}
 use Rattle.index_change.specs.Orders.{link_of}
 
@@ -39,7 +39,7 @@ needs_ok : {A : Type 0} (b : Bool) (rule : ℕ) (r : Result A ℕ) (y : A) → (
 needs_ok true rule r y h = h
 needs_ok false rule r y h = absurd cc
 
-entries_lawful : (body : List ℕ) (r : Result Node ℕ) (entries : List Raw) → node_at body ≡ r → entries_in r ≡ Ok entries → Lawful entries
+entries_lawful : (body : List ℕ) (r : Result Node ℕ) (entries : List Raw) → node_at body ≡ r → entries_of_node r ≡ Ok entries → Lawful entries
 entries_lawful body (Ok n) entries is e = let h = node_from_ok body n is in let same : n.entries ≡ entries = cc in subst Lawful same (lawful_spelled h.holds.spellings n.entries h.holds.spelled)
 entries_lawful body (Err rule) entries is e = absurd cc
 
@@ -47,7 +47,7 @@ body_lawful : (v : ℕ) (b : BodyOf) (entries : List Raw) → node_of_body v b �
 unfolding node_of_body
 body_lawful v b entries e =
     entries_lawful b.bytes (node_at b.bytes) entries refl
-    (needs_ok (field 0x10 8 b.bytes == v) 2 (entries_in (node_at b.bytes)) entries (needs_ok (is_index_body b) 1 (needs (field 0x10 8 b.bytes == v) 2 >>= λ _. entries_in (node_at b.bytes)) entries e))
+    (needs_ok (field 0x10 8 b.bytes == v) 2 (entries_of_node (node_at b.bytes)) entries (needs_ok (is_index_body b) 1 (needs (field 0x10 8 b.bytes == v) 2 >>= λ _. entries_of_node (node_at b.bytes)) entries e))
 
 part_lawful : (c : Content) (v : ℕ) (o : Option Block) (entries : List Raw) → node_of_part c v o ≡ Ok entries → Lawful entries
 part_lawful c v None entries e = absurd cc
@@ -59,7 +59,7 @@ ReadsLawful read = (v : ℕ) (entries : List Raw) → read v ≡ Ok entries → 
 
 pub block_lawful : (c : Content) (p : Place) → ReadsLawful (node_of_block c p)
 unfolding node_of_block
-block_lawful c p v entries e = part_lawful c v (block_at p v) entries e
+block_lawful c p v entries e = part_lawful c v (node_block p v) entries e
 
 pub some_read : (r : Result (List Raw) ℕ) (entries : List Raw) → some_entries r ≡ Some entries → r ≡ Ok entries
 some_read (Ok x) entries e = cc

@@ -7,20 +7,21 @@ use Rattle.std.specs.declared.cmp.Ordering.{Ordering}
 use Rattle.std.specs.declared.cmp.Ordering.TheVariants.{Less, Equal, Greater}
 use Rattle.std.proofs.lemmas.Bool.{and_parts, eqb-true}
 use Rattle.host_base.specs.declared.file_ref.FileRef.{FileRef}
+use Rattle.host_base.specs.FileRefs.{same_reference}
 use Rattle.record_model.specs.Values.{is_file_name, parent_of, space_of, units_of}
-use Rattle.tree_model.specs.declared.link.Link.{Link}
-use Rattle.tree_model.specs.Names.{name_order, same_units}
+use Rattle.file_tree.specs.declared.link.Link.{Link}
+use Rattle.file_tree.specs.Names.{name_order, same_units}
 use Rattle.upcase_order.proofs.NameLaws.{equal_units, equal_same, units_equal}
 use Rattle.index_model.specs.declared.key.Key.{Key}
-use Rattle.index_plan.specs.declared.side.Side.{Side}
-use Rattle.index_plan.specs.declared.side.Side.TheVariants as sides
+use Rattle.index_plan.specs.declared.side.KeySide.{KeySide}
+use Rattle.index_plan.specs.declared.side.KeySide.TheVariants as sides
 use Rattle.index_tree.specs.Calls.{is_sought}
-use Rattle.index_change.specs.Orders.{link_of, is_same_file, is_entry_of, stands_by, stands, is_same_link, has_link}
+use Rattle.index_change.specs.Orders.{link_of, is_entry_of, stands_by, stands, is_same_link, has_link}
 
 ref_of : ℕ → ℕ → FileRef
 ref_of number seq = record { number = number; seq = seq }
 
-same_file_is : (a b : FileRef) → is_same_file a b ≡ true → a ≡ b
+same_file_is : (a b : FileRef) → same_reference a b ≡ true → a ≡ b
 unfolding ref_of
 same_file_is a b e =
     let parts = and_parts (a.number == b.number) (a.seq == b.seq) e in
@@ -40,9 +41,9 @@ link_is l m c p s n =
 -- a link that is the same by its parts is this one
 pub same_link_is : (l m : Link) → is_same_link l m ≡ true → m ≡ l
 same_link_is l m e =
-    let a = and_parts (is_same_file m.child l.child && is_same_file m.parent l.parent && (m.space == l.space)) (same_units m.name l.name) e in
-    let b = and_parts (is_same_file m.child l.child && is_same_file m.parent l.parent) (m.space == l.space) a.0 in
-    let d = and_parts (is_same_file m.child l.child) (is_same_file m.parent l.parent) b.0 in
+    let a = and_parts (same_reference m.child l.child && same_reference m.parent l.parent && (m.space == l.space)) (same_units m.name l.name) e in
+    let b = and_parts (same_reference m.child l.child && same_reference m.parent l.parent) (m.space == l.space) a.0 in
+    let d = and_parts (same_reference m.child l.child) (same_reference m.parent l.parent) b.0 in
     link_is l m (same_file_is m.child l.child d.0) (same_file_is m.parent l.parent d.1) (eqb-true m.space l.space b.1) ((bytes_decides m.name l.name).0 a.1)
 
 -- ---- the search for a name finds it
@@ -70,7 +71,7 @@ here_is Equal true e = (refl, refl)
 here_is Equal false e = absurd cc
 here_is Greater b e = absurd cc
 
-lawful_here : (b : Bool) (s : Side) → (if b then s else sides.Beside) ≡ sides.Here → s ≡ sides.Here
+lawful_here : (b : Bool) (s : KeySide) → (if b then s else sides.Beside) ≡ sides.Here → s ≡ sides.Here
 lawful_here true s e = e
 lawful_here false s e = absurd cc
 
@@ -82,6 +83,6 @@ pub here_link : (upper : List ℕ) (l : Link) (k : Key) → stands upper l k ≡
 unfolding link_of
 here_link upper l k e =
     let s = here_is (name_order upper l.name (units_of k.value)) (is_entry_of l k) (lawful_here (is_file_name k.value) (stands_by (name_order upper l.name (units_of k.value)) (is_entry_of l k)) e) in
-    let b = and_parts (is_same_file k.child l.child && is_same_file (parent_of k.value) l.parent) (space_of k.value == l.space) s.1 in
-    let d = and_parts (is_same_file k.child l.child) (is_same_file (parent_of k.value) l.parent) b.0 in
+    let b = and_parts (same_reference k.child l.child && same_reference (parent_of k.value) l.parent) (space_of k.value == l.space) s.1 in
+    let d = and_parts (same_reference k.child l.child) (same_reference (parent_of k.value) l.parent) b.0 in
     link_is l (link_of k) (same_file_is k.child l.child d.0) (same_file_is (parent_of k.value) l.parent d.1) (eqb-true (space_of k.value) l.space b.1) (sym (equal_units upper l.name (units_of k.value) s.0))

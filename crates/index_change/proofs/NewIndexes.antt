@@ -8,7 +8,7 @@ use Rattle.block_view.specs.Changes.{content_after}
 use Rattle.record_model.specs.declared.entry.Entry.{Entry as Raw}
 use Rattle.record_model.specs.Nodes.{root_at}
 use Rattle.record_model.specs.Values.{is_file_name}
-use Rattle.tree_model.specs.declared.link.Link.{Link}
+use Rattle.file_tree.specs.declared.link.Link.{Link}
 use Rattle.index_model.specs.declared.key.Key.{Key}
 use Rattle.index_model.specs.Trees.{Tree, Leaf, Down, Entry, DownEntry, walk, held, times, levels, one_if, raws_of, Stands}
 use Rattle.index_model.specs.Indexes.{Place, node_of_block, nodes_of, some_entries, links_of, rises}

@@ -7,7 +7,7 @@ use Rattle.disk_model.specs.declared.block.Change.{Change}
 use Rattle.disk_model.specs.Sectors.{same_block}
 use Rattle.disk_model.proofs.Frames.{same_block-is}
 use Rattle.index_model.specs.Trees.{times, same, one_if}
-use Rattle.index_model.specs.Indexes.{Place, block_at}
+use Rattle.index_model.specs.Indexes.{Place, node_block}
 use Rattle.index_plan.specs.declared.write.Write.{Write}
 use Rattle.index_plan.specs.Paths.{written_vcns}
 use Rattle.index_change.specs.Changing.{IsLaidOut, PutNodes, changes_in}
@@ -26,7 +26,7 @@ unfolding same
 one_is x y b e = ap one_if e
 
 -- the changes of a node's block are as many as its writes
-as_often : (p : Place) (n : ℕ → ℕ) (v : ℕ) (b : Block) (writes : List Write) (changes : List Change) → IsLaidOut p n → 0 < n v → AreUsed n writes → block_at p v ≡ Some b → PutNodes p writes changes → changes_in b changes ≡ times v (written_vcns writes)
+as_often : (p : Place) (n : ℕ → ℕ) (v : ℕ) (b : Block) (writes : List Write) (changes : List Change) → IsLaidOut p n → 0 < n v → AreUsed n writes → node_block p v ≡ Some b → PutNodes p writes changes → changes_in b changes ≡ times v (written_vcns writes)
 as_often p n v b [] [] laid here each at put = refl
 as_often p n v b [] (c ∷ changes) laid here each at put = absurd put
 as_often p n v b (w ∷ writes) [] laid here each at put = absurd put

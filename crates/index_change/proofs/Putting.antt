@@ -8,9 +8,9 @@ use Rattle.std.specs.declared.cmp.Ordering.{Ordering}
 use Rattle.std.specs.declared.cmp.Ordering.TheVariants.{Less, Equal, Greater}
 use Rattle.std.proofs.lemmas.Bool.{and_parts, both_ways, not-true}
 use Rattle.record_model.specs.Values.{is_file_name, units_of}
-use Rattle.tree_model.specs.declared.link.Link.{Link}
-use Rattle.tree_model.specs.Names.{name_order, comes_before}
-use Rattle.tree_model.proofs.NameOrders.{name_order_total}
+use Rattle.file_tree.specs.declared.link.Link.{Link}
+use Rattle.file_tree.specs.Names.{name_order, comes_before}
+use Rattle.file_tree.proofs.NameOrders.{name_order_total}
 use Rattle.index_model.specs.declared.key.Key.{Key}
 use Rattle.index_model.specs.Indexes.{key_link, links_of, precedes, rises}
 use Rattle.index_plan.specs.Search.{put, GoesAll, Rises}

@@ -8,9 +8,9 @@ use Rattle.disk_model.specs.declared.block.Change.{Change}
 use Rattle.disk_model.specs.Content.{Content, HasSizes}
 use Rattle.block_view.specs.Changes.{content_after}
 use Rattle.record_model.specs.declared.entry.Entry.{Entry as Raw}
-use Rattle.record_model.specs.Nodes.{root_at}
-use Rattle.tree_model.specs.declared.link.Link.{Link}
-use Rattle.index_model.specs.Trees.{Tree, Leaf, walk, times, levels, one_if, last_raw}
+use Rattle.record_model.specs.Nodes.{root_at, last_entry}
+use Rattle.file_tree.specs.declared.link.Link.{Link}
+use Rattle.index_model.specs.Trees.{Tree, Leaf, walk, times, levels, one_if}
 use Rattle.index_model.specs.Indexes.{Place, node_of_block, links_of, rises}
 use Rattle.index_model.specs.Walks.{Broken}
 use Rattle.index_model.specs.Laws.{HoldsIndex}
@@ -163,8 +163,8 @@ module _ (p : Place) (upper value : List ℕ) (used : ℕ) (l : Link) (fresh : L
 
   bare : (c : Content) (t : Tree) (plan : DirPlan) → IsEmptied clusters (vcns t) plan → HoldsIndex (content_after plan.changes.items c) p upper plan.root Leaf
   bare c t plan made = record {
-    entries = last_raw None ∷ [];
-    root_read = ap root_at made.root ∙ root_law.read clusters (last_raw None ∷ []) made.spelled;
+    entries = last_entry None ∷ [];
+    root_read = ap root_at made.root ∙ root_law.read clusters (last_entry None ∷ []) made.spelled;
     is_index = record { root_is = refl; stands = tt; once = λ v. omega arith; height = omega arith; ordered = refl };
   }
 

@@ -8,7 +8,7 @@ use Rattle.index_model.specs.Walks.{Broken}
 use Rattle.index_tree.specs.declared.fault.TreeFault.{TreeFault}
 use Rattle.index_tree.specs.declared.fault.TreeFault.TheVariants.{Node, Present, Absent, Deep, View}
 use Rattle.index_tree.specs.Faults.{tree_cause}
-use Rattle.tree_model.specs.declared.link.Link.{Link}
+use Rattle.file_tree.specs.declared.link.Link.{Link}
 use Rattle.index_change.specs.Faults.{AfterFind, DeepAfterWalk, IsOfView}
 
 broken_of : ℕ → ℕ → Broken

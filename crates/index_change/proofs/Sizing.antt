@@ -13,13 +13,12 @@ use Rattle.disk_model.specs.Bodies.{BodyOf}
 use Rattle.disk_model.specs.Content.{Content}
 use Rattle.disk_model.specs.Numbers.{field}
 use Rattle.record_model.specs.declared.entry.Entry.{Entry as Raw}
-use Rattle.record_model.specs.Nodes.{Node, node_at, root_at, child_flag, entry_length, entries_length, down_flag, first_entry, used_end, entry_bytes, SpellsDown, SpellsEntry, SpellsLast, SpellEntries, HoldsEntries}
+use Rattle.record_model.specs.Nodes.{Node, node_at, root_at, child_flag, entry_length, entries_length, down_flag, first_entry, used_end, entry_bytes, SpellsDown, SpellsEntry, SpellsLast, SpellEntries, HoldsEntries, last_entry}
 use Rattle.record_model.specs.Values.{is_file_name, units_of}
 use Rattle.record_model.proofs.Attributes.{length-units_at}
 use Rattle.record_model.proofs.FileNames.{lawful_parts}
 use Rattle.record_model.proofs.NodeTables.{node_from_ok, root_from_ok}
-use Rattle.index_model.specs.Indexes.{Place, block_at, entries_in, is_index_body, node_of_body, node_of_part, node_of_block}
-use Rattle.index_model.specs.Trees.{last_raw}
+use Rattle.index_model.specs.Indexes.{Place, node_block, entries_of_node, is_index_body, node_of_body, node_of_part, node_of_block}
 use Rattle.index_plan.specs.Growth.{fits_in}
 use Rattle.index_plan.specs.Room.{IsShort, HasKeys, Sized}
 use Rattle.index_plan.proofs.Halves.{fits_bytes}
@@ -105,7 +104,7 @@ entries_inside node entries h =
 
 -- ---- nodes
 
-node_sized : (body : List ℕ) (r : Result Node ℕ) (entries : List Raw) → length body ≡ 4096 → node_at body ≡ r → entries_in r ≡ Ok entries → Sized entries
+node_sized : (body : List ℕ) (r : Result Node ℕ) (entries : List Raw) → length body ≡ 4096 → node_at body ≡ r → entries_of_node r ≡ Ok entries → Sized entries
 node_sized body (Ok n) entries size is e =
     let h = (node_from_ok body n is).holds in
     let same : n.entries ≡ entries = cc in
@@ -120,8 +119,8 @@ needs_ok false rule r y h = absurd cc
 body_sized : (v : ℕ) (b : BodyOf) (entries : List Raw) → node_of_body v b ≡ Ok entries → Sized entries
 unfolding node_of_body
 body_sized v b entries e =
-    let first = needs_ok (is_index_body b) 1 (needs (field 0x10 8 b.bytes == v) 2 >>= λ _. entries_in (node_at b.bytes)) entries e in
-    let second = needs_ok (field 0x10 8 b.bytes == v) 2 (entries_in (node_at b.bytes)) entries first.1 in
+    let first = needs_ok (is_index_body b) 1 (needs (field 0x10 8 b.bytes == v) 2 >>= λ _. entries_of_node (node_at b.bytes)) entries e in
+    let second = needs_ok (field 0x10 8 b.bytes == v) 2 (entries_of_node (node_at b.bytes)) entries first.1 in
     let parts = and_parts (length b.bytes == 4096 && not b.torn) _ first.0 in
     let size = and_parts (length b.bytes == 4096) (not b.torn) parts.0 in
     node_sized b.bytes (node_at b.bytes) entries (eqb-true (length b.bytes) 4096 size.0) refl second.1
@@ -133,7 +132,7 @@ part_sized c v (Some b) entries e = body_sized v (c b) entries e
 -- the nodes that lie in a content have the size of a block
 pub block_sized : (c : Content) (p : Place) (v : ℕ) (entries : List Raw) → node_of_block c p v ≡ Ok entries → Sized entries
 unfolding node_of_block
-block_sized c p v entries e = part_sized c v (block_at p v) entries e
+block_sized c p v entries e = part_sized c v (node_block p v) entries e
 
 -- ---- the root
 
@@ -154,15 +153,15 @@ some_long [] entries h = absurd h
 some_long (s ∷ spellings) [] h = absurd h
 some_long (s ∷ spellings) (e ∷ entries) h = omega (arith, entry_some e, sum_by-cons entry_length e entries)
 
-bare_bytes : entry_length (last_raw None) ≡ 0x10
+bare_bytes : entry_length (last_entry None) ≡ 0x10
 unfolding entry_length
 bare_bytes = omega arith
 
 -- a root has room for its last entry alone
-pub bare_fits : (used : ℕ) (value : List ℕ) (root : List Raw) → root_at value ≡ Ok root → fits_in (root_room used value) (last_raw None ∷ []) ≡ true
+pub bare_fits : (used : ℕ) (value : List ℕ) (root : List Raw) → root_at value ≡ Ok root → fits_in (root_room used value) (last_entry None ∷ []) ≡ true
 unfolding root_room
 bare_fits used value root e =
     let h = root_from_ok value root e in
     let inside = entries_inside (drop 0x10 value) root h.holds in
     let some = some_long h.holds.spellings root h.holds.spelled in
-    (fits_bytes (root_room used value) (last_raw None ∷ [])).1 (omega (arith, bare_bytes, inside, some, length-drop 0x10 value, h.size))
+    (fits_bytes (root_room used value) (last_entry None ∷ [])).1 (omega (arith, bare_bytes, inside, some, length-drop 0x10 value, h.size))

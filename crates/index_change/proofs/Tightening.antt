@@ -8,12 +8,13 @@ use Rattle.disk_model.specs.Content.{Content}
 use Rattle.record_model.specs.declared.entry.Entry.{Entry as Raw}
 use Rattle.record_model.specs.Nodes.{root_at, entry_length, entries_length}
 use Rattle.record_model.specs.Values.{is_file_name}
-use Rattle.tree_model.specs.declared.link.Link.{Link}
+use Rattle.file_tree.specs.declared.link.Link.{Link}
 use Rattle.index_model.specs.declared.key.Key.{Key}
 use Rattle.index_model.specs.Trees.{Tree, Leaf, Down, Entry, DownEntry, walk, levels, one_if, raw, raws_of, Stands}
 use Rattle.index_model.specs.Indexes.{Place as Region, node_of_block, nodes_of}
 use Rattle.index_model.specs.Laws.{HoldsIndex}
 use Rattle.index_model.proofs.Complete.{some_levels}
+use Rattle.index_model.specs.Walks.{root_vcn}
 use Rattle.index_plan.specs.declared.write.Write.{Write}
 use Rattle.index_plan.specs.Paths.{Path, Here, Below, Behind, subtree}
 use Rattle.index_plan.specs.Plans.{Plan, Spot}
@@ -21,10 +22,9 @@ use Rattle.index_plan.specs.Growth.{fits_in}
 use Rattle.index_plan.specs.Lists.{Rise, rise, place, spot, way, overfull, overfull_by}
 use Rattle.index_plan.specs.declared.plan.Rooted.{Rooted}
 use Rattle.index_plan.specs.Room.{Sized, tight_count, EachSpotSized, EachNodeSized}
-use Rattle.index_plan.specs.Search.{place_of}
+use Rattle.index_plan.specs.Search.{path_to}
 use Rattle.index_plan.specs.declared.place.Place.{Place}
-use Rattle.index_plan.specs.declared.side.Side.TheVariants as sides
-use Rattle.index_plan.specs.Reading.{root_vcn}
+use Rattle.index_plan.specs.declared.side.KeySide.TheVariants as sides
 use Rattle.index_plan.specs.Seeking.{NoneHere, seek_of}
 use Rattle.index_plan.specs.Takings.{last_chain, first_chain, drawn, none_drawn, key_of, plan_with, too_full}
 use Rattle.index_plan.specs.Laws.{Sought, TakesFew, TakesFewOut}
@@ -109,12 +109,12 @@ all_seventeen fresh enough = omega (arith, length-take {A = ℕ})
 
 -- ---- an index without blocks
 
-no_way : (g : Key → Bool) (t : Tree) → has_blocks t ≡ false → way (place_of g t) t ≡ []
+no_way : (g : Key → Bool) (t : Tree) → has_blocks t ≡ false → way (path_to g t) t ≡ []
 no_way g Leaf e = refl
 no_way g (Down v t) e = absurd cc
 no_way g (Entry key rest) e = choose (g key) (no_way g rest e)
   where
-    choose : (b : Bool) → way (place_of g rest) rest ≡ [] → way (if b then Here else Behind (place_of g rest)) (Entry key rest) ≡ []
+    choose : (b : Bool) → way (path_to g rest) rest ≡ [] → way (if b then Here else Behind (path_to g rest)) (Entry key rest) ≡ []
     choose true later = refl
     choose false later = later
 no_way g (DownEntry v t key rest) e = absurd cc
@@ -151,7 +151,7 @@ module _ (c : Content) (p : Region) (upper value : List ℕ) (used : ℕ) (fresh
   -- a level is needed only where the record would have more than 1,024 used bytes with 600 more
   with_blocks : (key : Key) → is_file_name key.value ≡ true → IsTrue (needs_level upper (root_room used value) key (seventeen fresh) t) → 1024 < used + 600
   with_blocks key lawful more =
-      let to = place_of (goes upper (link_of key).name) t in
+      let to = path_to (goes upper (link_of key).name) t in
       let short = way_short to t in
       as_root 600 (level_law.inserts (root_room used value) (raws_of t) (place to) (way to t) key (record { writes = []; fresh = seventeen fresh }) refl (way_sized (node_of_block c p) (block_sized c p) to t h.is_index.stands)
       (omega (arith, short, h.is_index.height, all_seventeen fresh enough)) (short_key key.value lawful) more)
@@ -159,7 +159,7 @@ module _ (c : Content) (p : Region) (upper value : List ℕ) (used : ℕ) (fresh
   without_blocks : (key : Key) → has_blocks t ≡ false → IsTrue (needs_level upper (root_room used value) key (seventeen fresh) t) → 1024 < used + entry_length (raw key None)
   unfolding start_of
   without_blocks key none more =
-      let to = place_of (goes upper (link_of key).name) t in
+      let to = path_to (goes upper (link_of key).name) t in
       as_root (entry_length (raw key None)) (own_level (root_room used value) (raws_of t) (place to) key (seventeen fresh) (way to t) (no_way (goes upper (link_of key).name) t none) more)
 
   pub tight_if_higher : (key : Key) → is_file_name key.value ≡ true → IsTrue (needs_level upper (root_room used value) key (seventeen fresh) t) → 1024 < used + bytes_more key t
@@ -179,11 +179,11 @@ module _ (c : Content) (p : Region) (upper value : List ℕ) (used : ℕ) (fresh
   -- ---- blocks that are taken
 
   pub few_taken : (clusters : ℕ) (key : Key) (r : Rooted) (plan : DirPlan) → TakesFew (node_of_block c p) (goes upper (link_of key).name) key (record { writes = []; fresh = seventeen fresh }) root (root_room used value) r → IsMade p clusters (seventeen fresh) [] r plan
-      → length plan.taken.items ≤ tight_count (way (place_of (goes upper (link_of key).name) t) t) + one_if (needs_level upper (root_room used value) key (seventeen fresh) t)
+      → length plan.taken.items ≤ tight_count (way (path_to (goes upper (link_of key).name) t) t) + one_if (needs_level upper (root_room used value) key (seventeen fresh) t)
   unfolding start_of
   few_taken clusters key r plan takes made =
       let g = goes upper (link_of key).name in
-      let to = place_of g t in
+      let to = path_to g t in
       let plan0 : Plan = record { writes = []; fresh = seventeen fresh } in
       let f = subst (λ (rt : List Raw). TakesFew (node_of_block c p) g key plan0 rt (root_room used value) r) (root_raws c p upper value root t read h) takes in
       let n = f (way to t) (read_way (node_of_block c p) g t (as_plan (node_of_block c p) t h.is_index.stands) h.is_index.height) in

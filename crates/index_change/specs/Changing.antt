@@ -8,7 +8,7 @@ use Rattle.disk_model.specs.Content.{Content}
 use Rattle.disk_model.specs.Sectors.{same_block, sectors}
 use Rattle.record_model.specs.Nodes.{node_spelling, FitsNode}
 use Rattle.index_model.specs.Trees.{Tree, held, times, one_if}
-use Rattle.index_model.specs.Indexes.{Place, block_at}
+use Rattle.index_model.specs.Indexes.{Place, node_block}
 use Rattle.index_root.specs.Roots.{new_node}
 use Rattle.index_plan.specs.declared.write.Write.{Write}
 
@@ -18,12 +18,12 @@ uses t fresh v = held v t + times v fresh
 
 -- the blocks of VCNs that are used are index blocks, and no two of these have the same one
 pub record IsLaidOut (p : Place) (count : ℕ → ℕ) : Type 0 where
-  pub index : (v : ℕ) (b : Block) → 0 < count v → block_at p v ≡ Some b → b.kind ≡ Index
-  pub apart : (v w : ℕ) (b : Block) → 0 < count v → 0 < count w → block_at p v ≡ Some b → block_at p w ≡ Some b → v ≡ w
+  pub index : (v : ℕ) (b : Block) → 0 < count v → node_block p v ≡ Some b → b.kind ≡ Index
+  pub apart : (v w : ℕ) (b : Block) → 0 < count v → 0 < count w → node_block p v ≡ Some b → node_block p w ≡ Some b → v ≡ w
 
 -- the change puts the node into its block as it is written, whole
 pub record PutsNode (p : Place) (w : Write) (c : Change) : Type 0 where
-  pub block : block_at p w.vcn ≡ Some c.block
+  pub block : node_block p w.vcn ≡ Some c.block
   pub whole : c.offset ≡ 0
   pub fits : FitsNode (new_node w.vcn w.entries)
   pub new : c.new ≡ node_spelling (new_node w.vcn w.entries)

@@ -6,11 +6,11 @@ use Rattle.record_model.specs.Nodes.{Node}
 use Rattle.record_model.specs.declared.entry.Entry.{Entry}
 use Rattle.index_model.specs.Walks.{Event}
 use Rattle.index_model.specs.Breaks.{HasMet}
-use Rattle.index_plan.specs.Reading.{Reads}
+use Rattle.index_plan.specs.Reading.{NodeReads}
 
 -- each node that is held is read so
-abbrev pub Holds : Reads → BTreeMap ℕ Node → Type 0
-Holds read held = (v : ℕ) (n : Node) → get nat_cmp held v ≡ Some n → read v ≡ Ok n.entries
+abbrev pub HoldsNodesOf : NodeReads → BTreeMap ℕ Node → Type 0
+HoldsNodesOf read held = (v : ℕ) (n : Node) → get nat_cmp held v ≡ Some n → read v ≡ Ok n.entries
 
 -- some node is held by this VCN
 abbrev pub IsHeld : ℕ → BTreeMap ℕ Node → Type 0
@@ -21,7 +21,7 @@ abbrev pub StayHeld : BTreeMap ℕ Node → BTreeMap ℕ Node → Type 0
 StayHeld before now = (v : ℕ) → IsHeld v before → IsHeld v now
 
 -- of the nodes that were met, each that breaks no rule is held
-abbrev pub AllHeld : Reads → List Event → BTreeMap ℕ Node → Type 0
+abbrev pub AllHeld : NodeReads → List Event → BTreeMap ℕ Node → Type 0
 AllHeld read met held = (v : ℕ) (entries : List Entry) → HasMet v met → read v ≡ Ok entries → IsHeld v held
 
 -- what is held once a node more is: this one by its VCN, and by the others what was held

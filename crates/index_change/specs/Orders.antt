@@ -4,12 +4,13 @@ use Rattle.std.specs.List.{filter, list_any}
 use Rattle.std.specs.declared.cmp.Ordering.{Ordering}
 use Rattle.std.specs.declared.cmp.Ordering.TheVariants.{Less, Equal, Greater}
 use Rattle.host_base.specs.declared.file_ref.FileRef.{FileRef}
+use Rattle.host_base.specs.FileRefs.{same_reference}
 use Rattle.record_model.specs.Values.{is_file_name, parent_of, space_of, units_of}
-use Rattle.tree_model.specs.declared.link.Link.{Link}
-use Rattle.tree_model.specs.Names.{comes_before, name_order, same_units}
+use Rattle.file_tree.specs.declared.link.Link.{Link}
+use Rattle.file_tree.specs.Names.{comes_before, name_order, same_units}
 use Rattle.index_model.specs.declared.key.Key.{Key}
-use Rattle.index_plan.specs.declared.side.Side.{Side}
-use Rattle.index_plan.specs.declared.side.Side.TheVariants as sides
+use Rattle.index_plan.specs.declared.side.KeySide.{KeySide}
+use Rattle.index_plan.specs.declared.side.KeySide.TheVariants as sides
 use Rattle.index_tree.specs.Calls.{is_sought}
 
 -- the link that a key stands for, where its value is that of a file name
@@ -26,7 +27,7 @@ put_link upper l [] = l ∷ []
 put_link upper l (k ∷ links) = if comes_before upper l.name k.name then l ∷ k ∷ links else k ∷ put_link upper l links
 
 abbrev pub is_of : FileRef → Link → Bool
-is_of file l = (l.child.number == file.number) && (l.child.seq == file.seq)
+is_of file l = same_reference l.child file
 
 -- some link has this name, by the table of upper-case units, and names this file
 abbrev pub has_entry : List ℕ → Link → List Link → Bool
@@ -34,26 +35,23 @@ has_entry upper l links = list_any (is_of l.child) (filter (is_sought upper l.na
 
 -- ---- links that are looked for
 
-abbrev pub is_same_file : FileRef → FileRef → Bool
-is_same_file a b = (a.number == b.number) && (a.seq == b.seq)
-
 -- the key has the file, the directory and the namespace of the link
 abbrev pub is_entry_of : Link → Key → Bool
-is_entry_of l k = is_same_file k.child l.child && is_same_file (parent_of k.value) l.parent && (space_of k.value == l.space)
+is_entry_of l k = same_reference k.child l.child && same_reference (parent_of k.value) l.parent && (space_of k.value == l.space)
 
-abbrev pub stands_by : Ordering → Bool → Side
+abbrev pub stands_by : Ordering → Bool → KeySide
 stands_by Less here = sides.Before
 stands_by Equal true = sides.Here
 stands_by Equal false = sides.Beside
 stands_by Greater here = sides.Behind
 
 -- where a link stands against a key: by the order of names, and beside those of equal units
-abbrev pub stands : List ℕ → Link → Key → Side
+abbrev pub stands : List ℕ → Link → Key → KeySide
 stands upper l k = if is_file_name k.value then stands_by (name_order upper l.name (units_of k.value)) (is_entry_of l k) else sides.Beside
 
 -- two links are the same
 abbrev pub is_same_link : Link → Link → Bool
-is_same_link l m = is_same_file m.child l.child && is_same_file m.parent l.parent && (m.space == l.space) && same_units m.name l.name
+is_same_link l m = same_reference m.child l.child && same_reference m.parent l.parent && (m.space == l.space) && same_units m.name l.name
 
 -- some link is this one
 abbrev pub has_link : Link → List Link → Bool

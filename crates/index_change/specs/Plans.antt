@@ -4,10 +4,10 @@ use Rattle.disk_model.specs.declared.block.Block.{Block}
 use Rattle.disk_model.specs.Bytes.{up8}
 use Rattle.disk_model.specs.Content.{Content}
 use Rattle.block_view.specs.Changes.{content_after}
-use Rattle.tree_model.specs.declared.link.Link.{Link}
+use Rattle.file_tree.specs.declared.link.Link.{Link}
 use Rattle.index_model.specs.declared.key.Key.{Key}
-use Rattle.record_model.specs.Nodes.{entry_length}
-use Rattle.index_model.specs.Trees.{Tree, Leaf, Down, Entry, DownEntry, walk, held, times, levels, one_if, raw, last_raw, raws_of}
+use Rattle.record_model.specs.Nodes.{entry_length, last_entry}
+use Rattle.index_model.specs.Trees.{Tree, Leaf, Down, Entry, DownEntry, walk, held, times, levels, one_if, raw, raws_of}
 use Rattle.index_model.specs.Indexes.{Place, links_of}
 use Rattle.index_model.specs.Walks.{Broken, walk_of}
 use Rattle.index_model.specs.Breaks.{BreaksWalk, BreaksSearch}
@@ -19,7 +19,7 @@ use Rattle.index_plan.specs.Growth.{fits_in}
 use Rattle.index_plan.specs.Lists.{overfull, place, way}
 use Rattle.index_plan.specs.Paths.{written_vcns}
 use Rattle.index_plan.specs.Room.{tight_count}
-use Rattle.index_plan.specs.Search.{place_of, put}
+use Rattle.index_plan.specs.Search.{path_to, put}
 use Rattle.index_root.specs.Roots.{root_spelling, HaveSpelling}
 use Rattle.index_tree.specs.declared.fault.TreeFault.{TreeFault}
 use Rattle.index_tree.specs.declared.fault.TreeFault.TheVariants.{Node, Present, Absent, Deep, View}
@@ -45,7 +45,7 @@ seventeen fresh = take 17 fresh
 abbrev pub needs_level : List ℕ → ℕ → Key → List ℕ → Tree → Bool
 needs_level upper room key fresh t =
     let before = goes upper (link_of key).name in
-    overfull room (raws_of t) (place (place_of before t)) (inserted_by (place_of before t) key fresh t)
+    overfull room (raws_of t) (place (path_to before t)) (inserted_by (path_to before t) key fresh t)
 
 -- whether nodes hang below the root
 abbrev pub has_blocks : Tree → Bool
@@ -77,7 +77,7 @@ pub record NewIndex (c : Content) (p : Place) (upper value : List ℕ) (used : �
   pub numbers : (v : ℕ) → held v tree + times v plan.freed.items ≡ held v t + times v plan.taken.items
   pub height : levels tree ≤ levels t + one_if more
   pub has_room : more ≡ false → (fits_in (root_room used value) (raws_of tree) ≡ true) ⊎ (raws_of tree ≡ raws_of t)
-  pub one_entry : more ≡ true → (levels t < 16) × ((f : ℕ) × (raws_of tree ≡ last_raw (Some f) ∷ []))
+  pub one_entry : more ≡ true → (levels t < 16) × ((f : ℕ) × (raws_of tree ≡ last_entry (Some f) ∷ []))
   pub written : length plan.changes.items ≤ 33
   pub apart : (b : Block) → changes_in b plan.changes.items ≤ 1
   pub few : length plan.taken.items ≤ 17
@@ -99,7 +99,7 @@ pub record IsMade (p : Place) (clusters : ℕ) (fresh gone : List ℕ) (r : Root
 -- block on the way to the key's place that has fewer than 600 free bytes, or for the level.
 pub record TakesLittle (upper value : List ℕ) (used : ℕ) (key : Key) (fresh : List ℕ) (t : Tree) (plan : DirPlan) : Type 0 where
   pub level : IsTrue (needs_level upper (root_room used value) key (seventeen fresh) t) → 1024 < used + bytes_more key t
-  pub taken : length plan.taken.items ≤ tight_count (way (place_of (goes upper (link_of key).name) t) t) + one_if (needs_level upper (root_room used value) key (seventeen fresh) t)
+  pub taken : length plan.taken.items ≤ tight_count (way (path_to (goes upper (link_of key).name) t) t) + one_if (needs_level upper (root_room used value) key (seventeen fresh) t)
 
 -- the node breaks that rule, so there is no index
 abbrev pub BreaksPlan : Content → Place → List ℕ → List ℕ → List ℕ → Broken → Type 0

@@ -1,9 +1,10 @@
 -- What plans that take a link out of an index are.
 use Rattle.std.specs.Prelude.{◌≡◌, ◌≤◌, ◌+◌, ◌<◌, ℕ, ⊤, Bool, true, false, IsTrue, List, [], ◌∷◌, ◌++◌, length, None, Result, Ok, Err}
+use Rattle.record_model.specs.Nodes.{last_entry}
 use Rattle.disk_model.specs.Content.{Content}
-use Rattle.tree_model.specs.declared.link.Link.{Link}
+use Rattle.file_tree.specs.declared.link.Link.{Link}
 use Rattle.index_model.specs.declared.key.Key.{Key}
-use Rattle.index_model.specs.Trees.{Tree, Leaf, walk, levels, one_if, last_raw}
+use Rattle.index_model.specs.Trees.{Tree, Leaf, walk, levels, one_if}
 use Rattle.index_model.specs.Indexes.{Place, links_of}
 use Rattle.index_model.specs.Laws.{HoldsIndex}
 use Rattle.index_plan.specs.Laws.{Once, Sought, full_without}
@@ -50,8 +51,8 @@ pub record TakesLittleOut (upper : List ℕ) (room : ℕ) (l : Link) (fresh : Li
 
 -- how an index becomes a root that has no entries and no blocks: those that it had are freed
 pub record IsEmptied (clusters : ℕ) (blocks : List ℕ) (plan : DirPlan) : Type 0 where
-  pub root : plan.root ≡ root_spelling clusters (last_raw None ∷ [])
-  pub spelled : HaveSpelling (last_raw None ∷ [])
+  pub root : plan.root ≡ root_spelling clusters (last_entry None ∷ [])
+  pub spelled : HaveSpelling (last_entry None ∷ [])
   pub unchanged : plan.changes.items ≡ []
   pub none_taken : plan.taken.items ≡ []
   pub freed : plan.freed.items ≡ blocks

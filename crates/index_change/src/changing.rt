@@ -87,7 +87,7 @@ fn change_of<V: View>(
     ensures kept { V.kept v.new ≡ V.kept v.old }
     ensures cause { FailsAsView (V.faults v.old) (V.faults v.new) result }
 {
-    let Some(block) = dir.block_at(write.vcn) else {
+    let Some(block) = dir.node_block(write.vcn) else {
         return Err(ViewFault::Memory);
     };
     let body = body_of(alloc, v, block)?;

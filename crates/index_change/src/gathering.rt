@@ -1,7 +1,7 @@
 ghost use Rattle.std.specs.Prelude.{◌≡◌, ℕ, IfOk, IfSome, OnOk};
 ghost use Rattle.index_model.specs.Indexes.{node_of_block, entry_link};
 ghost use Rattle.index_model.specs.Walks.{below, beside, entry_sought, kid_sought, root_vcn, side_of, sought_in};
-ghost use Rattle.index_change.specs.Holding.{AllHeld, Holds, StayHeld};
+ghost use Rattle.index_change.specs.Holding.{AllHeld, HoldsNodesOf, StayHeld};
 ghost use Rattle.index_tree.specs.Places.{place_of};
 ghost use Rattle.index_tree.specs.Faults.{FailsAsView};
 
@@ -34,7 +34,7 @@ impl<'a> Gatherer<'a> {
         child: u64,
         held: &mut Held,
     ) -> Result<(), ViewFault>
-        ensures right { OnOk result (IfSome (V.content v.old) (λ c. Holds (node_of_block c (place_of self.now.dir.now)) held.old → Holds (node_of_block c (place_of self.now.dir.now)) held.new)) }
+        ensures right { OnOk result (IfSome (V.content v.old) (λ c. HoldsNodesOf (node_of_block c (place_of self.now.dir.now)) held.old → HoldsNodesOf (node_of_block c (place_of self.now.dir.now)) held.new)) }
         ensures stay { OnOk result (StayHeld held.old held.new) }
         ensures met { OnOk result (IfSome (V.content v.old) (λ c. (above : ℕ) → AllHeld (node_of_block c (place_of self.now.dir.now)) (kid_sought self.now.up.now self.now.name.now (node_of_block c (place_of self.now.dir.now)) levels above child) held.new)) }
         ensures same { V.content v.new ≡ V.content v.old }
@@ -61,7 +61,7 @@ impl<'a> Gatherer<'a> {
         down: Option<u64>,
         held: &mut Held,
     ) -> Result<(), ViewFault>
-        ensures right { OnOk result (IfSome (V.content v.old) (λ c. Holds (node_of_block c (place_of self.now.dir.now)) held.old → Holds (node_of_block c (place_of self.now.dir.now)) held.new)) }
+        ensures right { OnOk result (IfSome (V.content v.old) (λ c. HoldsNodesOf (node_of_block c (place_of self.now.dir.now)) held.old → HoldsNodesOf (node_of_block c (place_of self.now.dir.now)) held.new)) }
         ensures stay { OnOk result (StayHeld held.old held.new) }
         ensures met { OnOk result (IfSome (V.content v.old) (λ c. (above : ℕ) → AllHeld (node_of_block c (place_of self.now.dir.now)) (below (kid_sought self.now.up.now self.now.name.now (node_of_block c (place_of self.now.dir.now)) levels above) down) held.new)) }
         ensures same { V.content v.new ≡ V.content v.old }
@@ -84,7 +84,7 @@ impl<'a> Gatherer<'a> {
         down: Option<u64>,
         held: &mut Held,
     ) -> Result<(), ViewFault>
-        ensures right { OnOk result (IfSome (V.content v.old) (λ c. Holds (node_of_block c (place_of self.now.dir.now)) held.old → Holds (node_of_block c (place_of self.now.dir.now)) held.new)) }
+        ensures right { OnOk result (IfSome (V.content v.old) (λ c. HoldsNodesOf (node_of_block c (place_of self.now.dir.now)) held.old → HoldsNodesOf (node_of_block c (place_of self.now.dir.now)) held.new)) }
         ensures stay { OnOk result (StayHeld held.old held.new) }
         ensures met { OnOk result (IfSome (V.content v.old) (λ c. (above : ℕ) → AllHeld (node_of_block c (place_of self.now.dir.now)) (beside side (below (kid_sought self.now.up.now self.now.name.now (node_of_block c (place_of self.now.dir.now)) levels above) down)) held.new)) }
         ensures same { V.content v.new ≡ V.content v.old }
@@ -106,7 +106,7 @@ impl<'a> Gatherer<'a> {
         entry: &Entry,
         held: &mut Held,
     ) -> Result<Side, ViewFault>
-        ensures right { OnOk result (IfSome (V.content v.old) (λ c. Holds (node_of_block c (place_of self.now.dir.now)) held.old → Holds (node_of_block c (place_of self.now.dir.now)) held.new)) }
+        ensures right { OnOk result (IfSome (V.content v.old) (λ c. HoldsNodesOf (node_of_block c (place_of self.now.dir.now)) held.old → HoldsNodesOf (node_of_block c (place_of self.now.dir.now)) held.new)) }
         ensures stay { OnOk result (StayHeld held.old held.new) }
         ensures met { OnOk result (IfSome (V.content v.old) (λ c. (above : ℕ) → AllHeld (node_of_block c (place_of self.now.dir.now)) (entry_sought (side_of self.now.up.now self.now.name.now (entry_link entry.now)) (entry_link entry.now) (below (kid_sought self.now.up.now self.now.name.now (node_of_block c (place_of self.now.dir.now)) levels above) entry.now.down)) held.new)) }
         ensures side { IfOk result (λ side. side ≡ side_of self.now.up.now self.now.name.now (entry_link entry.now)) }
@@ -129,7 +129,7 @@ impl<'a> Gatherer<'a> {
         entries: &[Entry],
         held: &mut Held,
     ) -> Result<(), ViewFault>
-        ensures right { OnOk result (IfSome (V.content v.old) (λ c. Holds (node_of_block c (place_of self.now.dir.now)) held.old → Holds (node_of_block c (place_of self.now.dir.now)) held.new)) }
+        ensures right { OnOk result (IfSome (V.content v.old) (λ c. HoldsNodesOf (node_of_block c (place_of self.now.dir.now)) held.old → HoldsNodesOf (node_of_block c (place_of self.now.dir.now)) held.new)) }
         ensures stay { OnOk result (StayHeld held.old held.new) }
         ensures met { OnOk result (IfSome (V.content v.old) (λ c. (above : ℕ) → AllHeld (node_of_block c (place_of self.now.dir.now)) (sought_in self.now.up.now self.now.name.now (node_of_block c (place_of self.now.dir.now)) levels above entries.now) held.new)) }
         ensures same { V.content v.new ≡ V.content v.old }
@@ -157,7 +157,7 @@ pub fn gather<V: View>(
     name: &[u16],
     root: &EntryList,
 ) -> Result<Held, ViewFault>
-    ensures right { IfSome (V.content v.old) (λ c. IfOk result (Holds (node_of_block c (place_of dir.now)))) }
+    ensures right { IfSome (V.content v.old) (λ c. IfOk result (HoldsNodesOf (node_of_block c (place_of dir.now)))) }
     ensures met { IfSome (V.content v.old) (λ c. IfOk result (AllHeld (node_of_block c (place_of dir.now)) (sought_in up.now name.now (node_of_block c (place_of dir.now)) 15 root_vcn root.now))) }
     ensures same { V.content v.new ≡ V.content v.old }
     ensures kept { V.kept v.new ≡ V.kept v.old }

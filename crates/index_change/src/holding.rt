@@ -2,9 +2,9 @@ ghost use Rattle.std.specs.Prelude.{◌≡◌, ◌<◌, IfErr, IfOk, OnOk, Ok, l
 ghost use Rattle.std.specs.Option.{ForSome};
 ghost use Rattle.index_model.specs.Indexes.{node_of_block};
 ghost use Rattle.index_plan.specs.declared.fault.ReadFault.TheVariants.{Memory as no_memory};
-ghost use Rattle.index_plan.specs.Reading.{Reads};
+ghost use Rattle.index_plan.specs.Reading.{NodeReads};
 ghost use Rattle.index_plan.specs.Room.{Sized};
-ghost use Rattle.index_change.specs.Holding.{Holds, HoldsMore};
+ghost use Rattle.index_change.specs.Holding.{HoldsNodesOf, HoldsMore};
 ghost use Rattle.index_tree.specs.Places.{place_of};
 
 use block_view::View;
@@ -23,7 +23,7 @@ pub type Held = BTreeMap<u64, Node>;
 /// Logarithmic in the nodes that are held.
 pub fn hold(held: &mut Held, vcn: u64, node: Node) -> Result<(), AllocError>
     ensures more { OnOk result (HoldsMore vcn node held.old held.new) }
-    ensures right { (read : Reads) → read vcn ≡ Ok node.entries → Holds read held.old → OnOk result (Holds read held.new) }
+    ensures right { (read : NodeReads) → read vcn ≡ Ok node.entries → HoldsNodesOf read held.old → OnOk result (HoldsNodesOf read held.new) }
 {
     match held.insert(vcn, node) {
         Ok(_) => Ok(()),
@@ -69,7 +69,7 @@ pub struct HeldNodes<'a, V: View> {
     pub v: &'a V,
     pub dir: &'a DirPlace,
     pub held: &'a Held,
-    pub ghost right: { ForSome (V.content v.now) (λ c. Holds (node_of_block c (place_of dir.now)) held.now) },
+    pub ghost right: { ForSome (V.content v.now) (λ c. HoldsNodesOf (node_of_block c (place_of dir.now)) held.now) },
 }
 
 impl<'a, V: View> Nodes for HeldNodes<'a, V> {

@@ -12,7 +12,7 @@ ghost use Rattle.index_plan.specs.Reading.{nodes_of};
 ghost use Rattle.index_change.specs.Changing.{AllWereOld};
 ghost use Rattle.index_change.specs.Faults.{AfterFind, DeepAfterWalk, IsOfView, Planned};
 ghost use Rattle.index_tree.specs.Faults.{FailsByView};
-ghost use Rattle.index_change.specs.Holding.{Holds};
+ghost use Rattle.index_change.specs.Holding.{HoldsNodesOf};
 ghost use Rattle.index_change.specs.Orders.{goes, is_of, link_of};
 ghost use Rattle.index_tree.specs.Places.{place_of};
 ghost use Rattle.index_change.specs.Plans.{clusters_of, root_room, seventeen, IsMade, InsertGives, PutsNew};
@@ -26,13 +26,13 @@ use crate::holding::{Held, HeldNodes, copy_of};
 use crate::naming::Before;
 use crate::plan::DirPlan;
 use block_view::{View, ViewFault};
+use file_tree::Link;
 use host_base::FileRef;
 use index_model::Key;
 use index_plan::{Draft, PlanFault, Rooted};
 use index_tree::{DirPlace, TreeFault, entry_link, find, read_root, walk};
 use record_model::{Entry, EntryList};
 use std::alloc::{AllocError, Global};
-use tree_model::Link;
 use upcase_order::Upcase;
 
 // Plans that put an entry into an index.
@@ -53,7 +53,7 @@ fn plan_over<V: View>(
     requires some { 0 < length root }
     requires unwritten { draft.writes ≡ [] }
     requires enough { 17 ≤ length draft.fresh }
-    requires held { ForSome (V.content v.now) (λ c. Holds (node_of_block c (place_of dir.now)) held.now) }
+    requires held { ForSome (V.content v.now) (λ c. HoldsNodesOf (node_of_block c (place_of dir.now)) held.now) }
     ensures planned { IfSome (V.content v.now) (λ c. IfOk result (InsertsInto (nodes_of (node_of_block c (place_of dir.now))) (goes before.now.up.now before.now.name.now) key draft.fresh root room)) }
     ensures level { IfSome (V.content v.now) (λ c. IfOk result (λ _. LevelFits (nodes_of (node_of_block c (place_of dir.now))) (goes before.now.up.now before.now.name.now) key draft.fresh root room height)) }
     ensures taken { IfSome (V.content v.now) (λ c. IfOk result (λ planned. length key.value ≤ 576 → TakesFew (node_of_block c (place_of dir.now)) (goes before.now.up.now before.now.name.now) key draft root room planned)) }
@@ -89,7 +89,7 @@ impl<'a> Insertion<'a> {
     // The plan where the index has so many levels.
     fn plan<V: View>(&self, v: &V, held: &Held, height: u32) -> Result<Rooted, PlanFault>
         requires enough { 17 ≤ length self.now.fresh.now }
-        requires held { ForSome (V.content v.now) (λ c. Holds (node_of_block c (place_of self.now.dir.now)) held.now) }
+        requires held { ForSome (V.content v.now) (λ c. HoldsNodesOf (node_of_block c (place_of self.now.dir.now)) held.now) }
         ensures planned { IfSome (V.content v.now) (λ c. IfOk result (InsertsInto (nodes_of (node_of_block c (place_of self.now.dir.now))) (goes self.now.up.now self.now.name.now) (own_key self.now.key.now) (seventeen self.now.fresh.now) self.now.root.now (root_room self.now.dir.now.used self.now.dir.now.root))) }
         ensures level { IfSome (V.content v.now) (λ c. IfOk result (λ _. LevelFits (nodes_of (node_of_block c (place_of self.now.dir.now))) (goes self.now.up.now self.now.name.now) (own_key self.now.key.now) (seventeen self.now.fresh.now) self.now.root.now (root_room self.now.dir.now.used self.now.dir.now.root) height)) }
         ensures taken { IfSome (V.content v.now) (λ c. IfOk result (λ planned. length self.now.key.now.key ≤ 576 → TakesFew (node_of_block c (place_of self.now.dir.now)) (goes self.now.up.now self.now.name.now) (own_key self.now.key.now) (record { writes = []; fresh = seventeen self.now.fresh.now }) self.now.root.now (root_room self.now.dir.now.used self.now.dir.now.root) planned)) }
@@ -136,7 +136,7 @@ impl<'a> Insertion<'a> {
     // first.
     fn with_level<V: View>(&self, v: &mut V, held: &Held) -> Result<DirPlan, TreeFault>
         requires enough { 17 ≤ length self.now.fresh.now }
-        requires held { ForSome (V.content v.old) (λ c. Holds (node_of_block c (place_of self.now.dir.now)) held.now) }
+        requires held { ForSome (V.content v.old) (λ c. HoldsNodesOf (node_of_block c (place_of self.now.dir.now)) held.now) }
         requires root { root_at self.now.dir.now.root ≡ Ok self.now.root.now }
         requires key { is_file_name self.now.key.now.key ≡ true }
         requires name { self.now.name.now ≡ (link_of (own_key self.now.key.now)).name }

@@ -1,17 +1,17 @@
 ghost use Rattle.std.specs.Prelude.{◌≡◌, ◌+◌, ◌*◌, ◌≤◌, true, length};
 ghost use Rattle.record_model.specs.Attributes.{units_at};
 ghost use Rattle.record_model.specs.Values.{is_file_name, units_of};
-ghost use Rattle.tree_model.specs.Names.{comes_before, name_order};
-ghost use Rattle.index_change.specs.Orders.{is_same_file, is_entry_of, stands_by};
+ghost use Rattle.file_tree.specs.Names.{comes_before, name_order};
+ghost use Rattle.index_change.specs.Orders.{is_entry_of, stands_by};
 
 use byteorder::{ByteOrder, LittleEndian};
 use disk_model::{u8_at, u64_at};
-use host_base::FileRef;
-use index_plan::{Side, Target, Test};
+use file_tree::Link;
+use host_base::{FileRef, is_same_reference};
+use index_plan::{KeySide, Target, Test};
 use record_model::Entry;
 use std::cmp::Ordering;
 use std_values::is_file_name;
-use tree_model::Link;
 use upcase_order::Upcase;
 
 // Names in keys, which are compared where they stand: that takes no memory.
@@ -83,33 +83,26 @@ impl<'a> Test for Before<'a> {
     }
 }
 
-/// Whether two references are the same.
-pub fn is_same_file(a: FileRef, b: FileRef) -> bool
-    ensures { result ≡ is_same_file a b }
-{
-    a.number == b.number && a.seq == b.seq
-}
-
 // Whether a key is that of a link whose name it has.
 #[tactic(auto, using(crate::proofs::KeyUnits::key_size), unfolding(record_model::specs::Values::parent_of, record_model::specs::Values::space_of))]
 fn is_entry_of(link: &Link, child: FileRef, key: &[u8]) -> bool
     requires { is_file_name key.now ≡ true }
     ensures { result ≡ is_entry_of link.now (record { child = child; value = key.now }) }
 {
-    is_same_file(child, link.child)
-        && is_same_file(FileRef::unpack(u64_at(key, 0)), link.parent)
+    is_same_reference(child, link.child)
+        && is_same_reference(FileRef::unpack(u64_at(key, 0)), link.parent)
         && u8_at(key, 0x41) == link.space
 }
 
 // Where a link stands against a key, by how the names stand and whether the key is that of the
 // link.
-fn stands_by(order: Ordering, here: bool) -> Side
+fn stands_by(order: Ordering, here: bool) -> KeySide
     ensures { result ≡ stands_by order here }
 {
     match order {
-        Ordering::Less => Side::Before,
-        Ordering::Equal => { if here { Side::Here } else { Side::Beside } }
-        Ordering::Greater => Side::Behind,
+        Ordering::Less => KeySide::Before,
+        Ordering::Equal => { if here { KeySide::Here } else { KeySide::Beside } }
+        Ordering::Greater => KeySide::Behind,
     }
 }
 
@@ -125,10 +118,10 @@ impl<'a> Target for Wanted<'a> {
 
     ghost side = { λ w k. stands w.up.now w.link.now k };
 
-    fn side(&self, entry: &Entry) -> Side {
+    fn side(&self, entry: &Entry) -> KeySide {
         let key = entry.key.as_slice();
         if !is_file_name(key) {
-            return Side::Beside;
+            return KeySide::Beside;
         }
         let here = is_entry_of(self.link, entry.child, key);
         stands_by(order_to(self.up, self.link.name.units(), key), here)

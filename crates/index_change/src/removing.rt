@@ -1,11 +1,10 @@
 ghost use Rattle.std.specs.Prelude.{All, ◌≡◌, ◌≤◌, ◌∷◌, IfErr, IfOk, IfSome, Ok, None, [], true, length};
 ghost use Rattle.std.specs.Option.{ForSome};
 ghost use Rattle.block_view.specs.Changes.{Fits};
-ghost use Rattle.record_model.specs.Nodes.{root_at};
+ghost use Rattle.record_model.specs.Nodes.{root_at, last_entry};
 ghost use Rattle.record_model.specs.Values.{is_file_name};
 ghost use Rattle.index_model.specs.Indexes.{node_of_block};
 ghost use Rattle.index_model.specs.Walks.{find_of, walk_of};
-ghost use Rattle.index_model.specs.Trees.{last_raw};
 ghost use Rattle.index_plan.specs.Faults.{OnDeep};
 ghost use Rattle.index_plan.specs.Laws.{NeedsLevelWithout, RemovesFrom, TakesFewOut};
 ghost use Rattle.index_plan.specs.Lists.{own_key};
@@ -15,7 +14,7 @@ ghost use Rattle.index_tree.specs.Places.{place_of};
 ghost use Rattle.index_change.specs.Amounts.{keys_of};
 ghost use Rattle.index_change.specs.Changing.{AllWereOld};
 ghost use Rattle.index_change.specs.Faults.{AfterFind, DeepAfterWalk, IsOfView, Planned};
-ghost use Rattle.index_change.specs.Holding.{Holds};
+ghost use Rattle.index_change.specs.Holding.{HoldsNodesOf};
 ghost use Rattle.index_change.specs.Orders.{has_link, is_same_link, link_of, stands};
 ghost use Rattle.index_change.specs.Plans.{clusters_of, root_room, seventeen, IsMade};
 ghost use Rattle.index_change.specs.Removals.{IsEmptied, RemoveGives, TakesLink};
@@ -26,15 +25,15 @@ use crate::finishing::{finish, root_value};
 use crate::gathering::gather;
 use crate::height::height_of;
 use crate::holding::{Held, HeldNodes, copy_of};
-use crate::naming::{Wanted, is_same_file};
+use crate::naming::Wanted;
 use crate::plan::DirPlan;
 use block_view::{View, ViewFault};
-use host_base::{Bytes, FileRef};
+use file_tree::Link;
+use host_base::is_same_reference;
 use index_plan::{Draft, Numbers, PlanFault, Rooted};
 use index_tree::{DirPlace, TreeFault, entry_link, find, walk};
-use record_model::{Entry, EntryList};
+use record_model::{Entry, EntryList, last_entry};
 use std::alloc::{AllocError, Global};
-use tree_model::Link;
 use upcase_order::Upcase;
 
 // Plans that take an entry out of an index.
@@ -53,7 +52,7 @@ fn removal_over<V: View>(
 ) -> Result<(Rooted, Numbers), PlanFault>
     requires unwritten { draft.writes ≡ [] }
     requires enough { 17 ≤ length draft.fresh }
-    requires held { ForSome (V.content v.now) (λ c. Holds (node_of_block c (place_of dir.now)) held.now) }
+    requires held { ForSome (V.content v.now) (λ c. HoldsNodesOf (node_of_block c (place_of dir.now)) held.now) }
     ensures planned { IfSome (V.content v.now) (λ c. IfOk result (λ p. RemovesFrom (nodes_of (node_of_block c (place_of dir.now))) (stands wanted.now.up.now wanted.now.link.now) draft.fresh root room height p.0 p.1)) }
     ensures taken { IfSome (V.content v.now) (λ c. IfOk result (λ p. TakesFewOut (node_of_block c (place_of dir.now)) (stands wanted.now.up.now wanted.now.link.now) draft root room p.0)) }
     ensures deep { IfErr result (λ e. OnDeep e (λ h. (h ≡ height) × (16 ≤ height) × IfSome (V.content v.now) (λ c. NeedsLevelWithout (nodes_of (node_of_block c (place_of dir.now))) (stands wanted.now.up.now wanted.now.link.now) draft.fresh root room))) }
@@ -62,23 +61,12 @@ fn removal_over<V: View>(
     index_plan::plan_remove(&mut nodes, alloc, wanted, root, draft, room, height)
 }
 
-// The last entry of a node that has no child.
-fn last_entry(alloc: Global) -> Entry
-    ensures { result ≡ last_raw None }
-{
-    Entry {
-        child: FileRef { number: 0, seq: 0 },
-        key: Bytes::new(alloc),
-        down: None,
-    }
-}
-
 // The root without entries.
 fn bare_root(alloc: Global) -> Result<EntryList, AllocError>
-    ensures { IfOk result (λ root. root ≡ last_raw None ∷ []) }
+    ensures { IfOk result (λ root. root ≡ last_entry None ∷ []) }
 {
     let mut root = EntryList::new(alloc);
-    root.push(last_entry(alloc))?;
+    root.push(last_entry(alloc, None))?;
     Ok(root)
 }
 
@@ -109,7 +97,7 @@ impl<'a> Removal<'a> {
     // The plan where the index has so many levels.
     fn plan<V: View>(&self, v: &V, held: &Held, height: u32) -> Result<(Rooted, Numbers), PlanFault>
         requires enough { 17 ≤ length self.now.fresh.now }
-        requires held { ForSome (V.content v.now) (λ c. Holds (node_of_block c (place_of self.now.dir.now)) held.now) }
+        requires held { ForSome (V.content v.now) (λ c. HoldsNodesOf (node_of_block c (place_of self.now.dir.now)) held.now) }
         ensures planned { IfSome (V.content v.now) (λ c. IfOk result (λ p. RemovesFrom (nodes_of (node_of_block c (place_of self.now.dir.now))) (stands self.now.up.now self.now.link.now) (seventeen self.now.fresh.now) self.now.root.now (root_room self.now.dir.now.used self.now.dir.now.root) height p.0 p.1)) }
         ensures taken { IfSome (V.content v.now) (λ c. IfOk result (λ p. TakesFewOut (node_of_block c (place_of self.now.dir.now)) (stands self.now.up.now self.now.link.now) (record { writes = []; fresh = seventeen self.now.fresh.now }) self.now.root.now (root_room self.now.dir.now.used self.now.dir.now.root) p.0)) }
         ensures deep { IfErr result (λ e. OnDeep e (λ h. (h ≡ height) × (16 ≤ height) × IfSome (V.content v.now) (λ c. NeedsLevelWithout (nodes_of (node_of_block c (place_of self.now.dir.now))) (stands self.now.up.now self.now.link.now) (seventeen self.now.fresh.now) self.now.root.now (root_room self.now.dir.now.used self.now.dir.now.root)))) }
@@ -149,7 +137,7 @@ impl<'a> Removal<'a> {
     // first.
     fn with_level<V: View>(&self, v: &mut V, held: &Held) -> Result<DirPlan, TreeFault>
         requires enough { 17 ≤ length self.now.fresh.now }
-        requires held { ForSome (V.content v.old) (λ c. Holds (node_of_block c (place_of self.now.dir.now)) held.now) }
+        requires held { ForSome (V.content v.old) (λ c. HoldsNodesOf (node_of_block c (place_of self.now.dir.now)) held.now) }
         requires root { root_at self.now.dir.now.root ≡ Ok self.now.root.now }
         requires keys { ForSome (V.content v.old) (λ c. 2 ≤ keys_of (node_of_block c (place_of self.now.dir.now)) self.now.root.now) }
         ensures value { IfSome (V.content v.old) (λ c. TakesLink c (place_of self.now.dir.now) self.now.up.now self.now.dir.now.root self.now.dir.now.used self.now.link.now self.now.fresh.now result) }
@@ -223,8 +211,8 @@ impl<'a> Removal<'a> {
 fn is_same_link(l: &Link, m: &Link) -> bool
     ensures { result ≡ is_same_link l.now m.now }
 {
-    is_same_file(m.child, l.child)
-        && is_same_file(m.parent, l.parent)
+    is_same_reference(m.child, l.child)
+        && is_same_reference(m.parent, l.parent)
         && m.space == l.space
         && m.name.units() == l.name.units()
 }

@@ -1,9 +1,9 @@
 -- A level comes only where the record has no room for the entry that reached the root.
 use Rattle.std.proofs.Common.{◌≡◌, ℕ, ◌+◌, ◌≤◌, ◌<◌, Bool, true, false, List, [], ◌∷◌, Option, Some, None, refl, sym, ap, ◌∙◌, subst, arith, length, insert, if◌then◌else◌}
 use Rattle.record_model.specs.declared.entry.Entry.{Entry as Raw}
-use Rattle.record_model.specs.Nodes.{entry_length, entries_length}
+use Rattle.record_model.specs.Nodes.{entry_length, entries_length, last_entry}
 use Rattle.index_model.specs.declared.key.Key.{Key}
-use Rattle.index_model.specs.Trees.{Tree, raw, last_raw, raws_of, levels, one_if}
+use Rattle.index_model.specs.Trees.{Tree, raw, raws_of, levels, one_if}
 use Rattle.index_model.proofs.OneTree.{same_tree}
 use Rattle.index_plan.specs.Growth.{fits_in}
 use Rattle.index_plan.specs.Laws.{inserted_by}
@@ -11,7 +11,7 @@ use Rattle.index_plan.specs.Lists.{Rise, rise, place, way, overfull, overfull_by
 use Rattle.index_plan.specs.Paths.{Path, over}
 use Rattle.index_plan.specs.Plans.{Spot}
 use Rattle.index_plan.specs.Room.{EachSpotSized}
-use Rattle.index_plan.specs.Search.{place_of}
+use Rattle.index_plan.specs.Search.{path_to}
 use Rattle.index_plan.proofs.Fitting.{bytes_is, short_bytes, ShortPending, Fitting, rise_fits}
 use Rattle.index_plan.proofs.Growing.{some_is}
 use Rattle.index_plan.proofs.Halves.{fits_bytes, insert_bytes}
@@ -86,7 +86,7 @@ no_room room t new fresh p low sized enough short full =
     }
 
 abbrev Lowered : Tree → Type 0
-Lowered after = (f : ℕ) × (raws_of after ≡ last_raw (Some f) ∷ [])
+Lowered after = (f : ℕ) × (raws_of after ≡ last_entry (Some f) ∷ [])
 
 cause : (room : ℕ) (t : Tree) (new : Key) (fresh : List ℕ) (p : Path) → levels t ≤ 16 → EachSpotSized (way p t) → 17 ≤ length fresh → length new.value ≤ 576 → overfull room (raws_of t) (place p) (inserted_by p new fresh t) ≡ true → LevelCause room t new (way p t) (inserted_by p new fresh t)
 cause room t new fresh p low sized enough short e =
@@ -110,13 +110,13 @@ level_added nodes goes new fresh t after room planned st once rises low sized en
     let n = inserts t refl st once rises low in
     let same : levels n.tree ≡ levels after = ap levels (same_tree (over nodes planned.plan.writes) n.tree after (sym n.root ∙ root_is) n.stands stands) in
     let h = n.height in
-    higher room t after new fresh (place_of goes t) low sized enough short more (omega arith) (λ e. let o = n.one_entry e enough in (o.0, sym root_is ∙ o.1))
+    higher room t after new fresh (path_to goes t) low sized enough short more (omega arith) (λ e. let o = n.one_entry e enough in (o.0, sym root_is ∙ o.1))
 
 pub level_needed : LevelNeeded
 level_needed nodes goes new fresh t room st low sized enough short needs =
-    cause room t new fresh (place_of goes t) low sized enough short (needs t refl st low)
+    cause room t new fresh (path_to goes t) low sized enough short (needs t refl st low)
 
 pub root_lowered : RootIsLowered
 root_lowered nodes goes new fresh t room planned entry st once rises low enough inserts takes lt =
     let n = inserts t refl st once rises low in
-    n.one_entry (root_full room (raws_of t) (place (place_of goes t)) (inserted_by (place_of goes t) new fresh t) entry takes lt) enough
+    n.one_entry (root_full room (raws_of t) (place (path_to goes t)) (inserted_by (path_to goes t) new fresh t) entry takes lt) enough

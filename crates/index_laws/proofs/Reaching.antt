@@ -13,7 +13,7 @@ use Rattle.index_plan.specs.Lists.{Rise, written, halved, halved_if, settle, ste
 use Rattle.index_plan.specs.Paths.{Path, Here, Below, Behind}
 use Rattle.index_plan.specs.Plans.{Plan, Spot}
 use Rattle.index_plan.specs.Room.{IsShort, Sized, EachSpotSized, is_tight}
-use Rattle.index_plan.specs.Search.{place_of}
+use Rattle.index_plan.specs.Search.{path_to}
 use Rattle.index_plan.proofs.Fitting.{bytes_is, short_bytes, ShortPending, Fitting, rise_fits}
 use Rattle.index_plan.proofs.Growing.{level_one}
 use Rattle.index_plan.proofs.Halves.{bytes, fits_bytes, insert_bytes}
@@ -118,15 +118,15 @@ way_few (Behind p) (DownEntry v t key rest) = let h = way_few p rest in omega ar
 
 -- ---- even ways
 
-even_one : (goes : Key → Bool) (n : ℕ) (t : Tree) → HasEvenWays n t → way (place_of goes t) t ≡ [] → n ≡ 1
+even_one : (goes : Key → Bool) (n : ℕ) (t : Tree) → HasEvenWays n t → way (path_to goes t) t ≡ [] → n ≡ 1
 even_one goes n Leaf even none = even
 even_one goes n (Down v t) even none = absurd cc
 even_one goes n (Entry key rest) even none = even.0
 even_one goes n (DownEntry v t key rest) even none = at (goes key) none (λ none'. even_one goes n rest even.2 none')
   where
-    at : (b : Bool) → way (if b then Below (place_of goes t) else Behind (place_of goes rest)) (DownEntry v t key rest) ≡ [] → (way (place_of goes rest) rest ≡ [] → n ≡ 1) → n ≡ 1
+    at : (b : Bool) → way (if b then Below (path_to goes t) else Behind (path_to goes rest)) (DownEntry v t key rest) ≡ [] → (way (path_to goes rest) rest ≡ [] → n ≡ 1) → n ≡ 1
     at true none' later = absurd cc
     at false none' later = later none'
 
-pub even_leaf : (goes : Key → Bool) (t : Tree) → HasEvenWays (levels t) t → IsLeafThere (way (place_of goes t) t) → levels t ≡ 1
+pub even_leaf : (goes : Key → Bool) (t : Tree) → HasEvenWays (levels t) t → IsLeafThere (way (path_to goes t) t) → levels t ≡ 1
 even_leaf goes t even none = even_one goes (levels t) t even none

@@ -5,10 +5,11 @@ use Rattle.std.specs.Prelude.{option_to_list, is_some}
 use Rattle.std.proofs.lemmas.List.{append-nil, append_assoc}
 use Rattle.std.proofs.lemmas.List.Elements.{filter_map-append}
 use Rattle.record_model.specs.declared.entry.Entry.{Entry as Raw}
-use Rattle.tree_model.specs.declared.link.Link.{Link}
+use Rattle.record_model.specs.Nodes.{last_entry}
+use Rattle.file_tree.specs.declared.link.Link.{Link}
 use Rattle.index_model.specs.declared.key.Key.{Key}
-use Rattle.index_model.specs.Trees.{Tree, Leaf, Down, Entry, DownEntry, walk, one_if, same, held, levels as height, raw, last_raw, raws_of, Stands}
-use Rattle.index_model.specs.Indexes.{Place, block_at, some_entries, nodes_of, entry_link, key_link, links_of, rises}
+use Rattle.index_model.specs.Trees.{Tree, Leaf, Down, Entry, DownEntry, walk, one_if, same, held, levels as height, raw, raws_of, Stands}
+use Rattle.index_model.specs.Indexes.{Place, node_block, some_entries, nodes_of, entry_link, key_link, links_of, rises}
 use Rattle.index_model.specs.Walks.{Event, Met, all_judged, is_fresh, with_mark, with_link, below, inside, named_event, entry_met, kid_met, met_in}
 use Rattle.index_model.proofs.Orders.{rises_next}
 use Rattle.index_model.proofs.Marks.{met_before, marked, may_meet}
@@ -60,7 +61,7 @@ passes_child p upper read levels v child m entries keys nodes (Ok others) reads 
 passes_child p upper read levels v child m entries keys nodes (Err rule) reads is fresh a = absurd cc
 
 -- what lies in a node is inside the allocation
-pub node_inside : (p : Place) (read : ℕ → Result (List Raw) ℕ) → Shaped p read → (child : ℕ) (entries : List Raw) (r : Result (List Raw) ℕ) → read child ≡ r → some_entries r ≡ Some entries → is_some (block_at p child) ≡ true
+pub node_inside : (p : Place) (read : ℕ → Result (List Raw) ℕ) → Shaped p read → (child : ℕ) (entries : List Raw) (r : Result (List Raw) ℕ) → read child ≡ r → some_entries r ≡ Some entries → is_some (node_block p child) ≡ true
 node_inside p read shaped child entries (Ok others) reads is = (shaped child others reads).1
 node_inside p read shaped child entries (Err rule) reads is = absurd cc
 
@@ -76,9 +77,9 @@ pub key_links : (k : Key) (down : Option ℕ) (keys : List Key) → links_of (k 
 key_links k down keys = ap (λ o. cons_option o (links_of keys)) (sym (raw_link k down)) ∙ sym (cons_is (entry_link (raw k down)) (links_of keys))
 
 -- a last entry
-last_events : (read : ℕ → Result (List Raw) ℕ) (levels v : ℕ) (down : Option ℕ) → met_in read levels v (last_raw down ∷ []) ≡ below (kid_met read levels v) down
+last_events : (read : ℕ → Result (List Raw) ℕ) (levels v : ℕ) (down : Option ℕ) → met_in read levels v (last_entry down ∷ []) ≡ below (kid_met read levels v) down
 last_events read levels v down =
-    met_in_next read levels v (last_raw down) []
+    met_in_next read levels v (last_entry down) []
     ∙ ap (λ o. (below (kid_met read levels v) down ++ named_event v o) ++ met_in read levels v []) (last_link down)
     ∙ ap (λ l. (below (kid_met read levels v) down ++ []) ++ l) (met_in_end read levels v)
     ∙ append-nil (below (kid_met read levels v) down ++ []) ∙ append-nil (below (kid_met read levels v) down)

@@ -8,11 +8,11 @@ use Rattle.disk_model.specs.declared.block.Block.{Block}
 use Rattle.disk_model.specs.Content.{Content}
 use Rattle.record_model.specs.declared.entry.Entry.{Entry}
 use Rattle.record_model.specs.Nodes.{root_at}
-use Rattle.tree_model.specs.declared.link.Link.{Link}
+use Rattle.file_tree.specs.declared.link.Link.{Link}
 use Rattle.index_model.specs.declared.side.Side.{Side}
 use Rattle.index_model.specs.declared.side.Side.TheVariants.{Unnamed, Before, Same, Behind}
 use Rattle.index_model.specs.Trees.{one_if, same}
-use Rattle.index_model.specs.Indexes.{Place, number_of, block_at, node_of_part, node_of_block, entry_link, precedes}
+use Rattle.index_model.specs.Indexes.{Place, number_of, node_block, node_of_part, node_of_block, entry_link, precedes}
 use Rattle.index_model.specs.Walks.{Broken, root_vcn, Event, Child, Deep, Faulty, Named, Found, Met, final, follows, is_fresh, with_mark, with_link, entered, keyed, judged, all_judged, nothing_met, below, inside, at_child, at_deep, named_event, entry_met, entries_met, kid_met, met_in, met_from, beside, found_event, entry_sought, behind, side_of, entries_sought, kid_sought, sought_in, walk_of, find_of}
 use Rattle.index_model.specs.Breaks.{HasChild, HasLink, Hangs, at_root, below_node, HasMet, links_met, Breaks, by_bytes, by_child, by_depth, by_order, BreaksBelow, BreaksWalk, BreaksSearch}
 use Rattle.index_model.proofs.Marks.{met_before, marked, nothing_before, same_not}
@@ -45,13 +45,13 @@ fault_in p upper m (e ∷ events) b h = at_first (λ n. fault_in p upper n event
 record Left (p : Place) (m n : Met) (events : List Event) : Type 0 where
   pub links : n.links ≡ m.links ++ links_met events
   pub marks : (x : ℕ) → met_before p n x ≡ true → (met_before p m x ≡ true) ⊎ HasMet x events
-  pub inside_all : (x : ℕ) → HasMet x events → is_some (block_at p x) ≡ true
+  pub inside_all : (x : ℕ) → HasMet x events → is_some (node_block p x) ≡ true
 
 met_one : (b d : Bool) (n : ℕ) → one_if b ≡ one_if d + n → n ≡ 0 → b ≡ true → d ≡ true
 met_one b true n e z h = refl
 met_one b false n e z h = absurd (let one : one_if b ≡ 1 = ap one_if h in omega arith)
 
-fresh_inside : (p : Place) (m : Met) (v : ℕ) → is_fresh p m v ≡ true → (o : Bool) → is_some (block_at p v) ≡ o → o ≡ true
+fresh_inside : (p : Place) (m : Met) (v : ℕ) → is_fresh p m v ≡ true → (o : Bool) → is_some (node_block p v) ≡ o → o ≡ true
 fresh_inside p m v h true is = refl
 fresh_inside p m v h false is = let a = rw is at h in cc
 
@@ -79,7 +79,7 @@ left p upper m n (Child v child ∷ events) h =
         | inr later ↦ inr (inr later)
       ];
       inside_all = λ x k. elim k [
-        | inl e ↦ let P : ℕ → Type 0 = λ y. is_some (block_at p y) ≡ true in subst P (sym e) (fresh_inside p m child f.0 _ refl)
+        | inl e ↦ let P : ℕ → Type 0 = λ y. is_some (node_block p y) ≡ true in subst P (sym e) (fresh_inside p m child f.0 _ refl)
         | inr later ↦ rest.inside_all x later
       ];
     }
@@ -254,7 +254,7 @@ needs_false : {A : Type 0} (x : Bool) (r b : Broken) (y : A) → (needs x r >>= 
 needs_false true r b y h = absurd cc
 needs_false false r b y h = (refl, cc)
 
-not_fresh : (p : Place) (m : Met) (v : ℕ) (o : Option Block) → block_at p v ≡ o → is_fresh p m v ≡ false → (block_at p v ≡ None) ⊎ (met_before p m v ≡ true)
+not_fresh : (p : Place) (m : Met) (v : ℕ) (o : Option Block) → node_block p v ≡ o → is_fresh p m v ≡ false → (node_block p v ≡ None) ⊎ (met_before p m v ≡ true)
 not_fresh p m v None is h = inl is
 not_fresh p m v (Some b) is h = inr (rw is (was_met (get_or m.marks (number_of p v) true) (rw is at h)))
   where
@@ -268,11 +268,11 @@ none_first p x h = let one : one_if (met_before p (nothing_met p) x) ≡ 1 = ap 
 met_among : (p : Place) (n : Met) (before : List Event) → Left p (nothing_met p) n before → (x : ℕ) → met_before p n x ≡ true → HasMet x before
 met_among p n before left x h = elim (left.marks x h) [ inl first ↦ absurd (none_first p x first) | inr later ↦ later ]
 
-by_own_bytes : (c : Content) (p : Place) (upper : List ℕ) (root : List Entry) (events : List Event) (v rule : ℕ) (o : Option Block) → HungBelow (node_of_block c p) root v → block_at p v ≡ o → is_some o ≡ true → node_of_part c v o ≡ Err rule → Breaks c p upper root events (record { vcn = v; rule = rule })
+by_own_bytes : (c : Content) (p : Place) (upper : List ℕ) (root : List Entry) (events : List Event) (v rule : ℕ) (o : Option Block) → HungBelow (node_of_block c p) root v → node_block p v ≡ o → is_some o ≡ true → node_of_part c v o ≡ Err rule → Breaks c p upper root events (record { vcn = v; rule = rule })
 by_own_bytes c p upper root events v rule None hung is h e = absurd cc
 by_own_bytes c p upper root events v rule (Some b) hung is h e = let a = hung.1 in by_bytes a.0 hung.0 v rule a.1 b a.2 a.3 is e
 
-read_part : (c : Content) (p : Place) (v rule : ℕ) → node_of_block c p v ≡ Err rule → node_of_part c v (block_at p v) ≡ Err rule
+read_part : (c : Content) (p : Place) (v rule : ℕ) → node_of_block c p v ≡ Err rule → node_of_part c v (node_block p v) ≡ Err rule
 unfolding node_of_block
 read_part c p v rule e = e
 
@@ -285,7 +285,7 @@ breaks_at : (c : Content) (p : Place) (upper : List ℕ) (root : List Entry) (ev
 breaks_at c p upper root events before (Child v child) later m b placed left t h =
     let f = needs_false (is_fresh p m child) (record { vcn = v; rule = 7 }) b (with_mark p m child) h in
     let P : Broken → Type 0 = λ d. Breaks c p upper root events d in
-    let cause : (block_at p child ≡ None) ⊎ HasMet child before = elim (not_fresh p m child _ refl f.0) [ inl out ↦ inl out | inr met ↦ inr (met_among p m before left child met) ] in
+    let cause : (node_block p child ≡ None) ⊎ HasMet child before = elim (not_fresh p m child _ refl f.0) [ inl out ↦ inl out | inr met ↦ inr (met_among p m before left child met) ] in
     let a = t.0 in
     subst P f.1 (by_child a.0 v child a.1 before later a.2 a.3 placed cause)
 breaks_at c p upper root events before (Deep v) later m b placed left t h =
@@ -297,7 +297,7 @@ breaks_at c p upper root events before (Faulty v rule) later m b placed left t h
     let is : record { vcn = v; rule = rule } ≡ b = cc in
     let P : Broken → Type 0 = λ d. Breaks c p upper root events d in
     let met : HasMet v before = elim t.0 [ inl none ↦ absurd none | inr here ↦ here ] in
-    subst P is (by_own_bytes c p upper root events v rule (block_at p v) t.1 refl (left.inside_all v met) (read_part c p v rule t.2))
+    subst P is (by_own_bytes c p upper root events v rule (node_block p v) t.1 refl (left.inside_all v met) (read_part c p v rule t.2))
 breaks_at c p upper root events before (Named v l) later m b placed left t h =
     let f = needs_false (follows upper (final m.links) l) (record { vcn = v; rule = 8 }) b (with_link m l) h in
     let P : Broken → Type 0 = λ d. Breaks c p upper root events d in

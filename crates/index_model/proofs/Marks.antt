@@ -6,19 +6,19 @@ use Rattle.std.proofs.lemmas.List.{get_or-set_same, get_or-set_other, get_or-rep
 use Rattle.std.proofs.lemmas.Nat.{div-add-mod'}
 use Rattle.disk_model.specs.declared.block.Block.{Block}
 use Rattle.index_model.specs.Trees.{one_if, same}
-use Rattle.index_model.specs.Indexes.{Place, number_of, block_at}
+use Rattle.index_model.specs.Indexes.{Place, number_of, node_block}
 use Rattle.index_model.specs.Walks.{Met, is_fresh, with_mark, nothing_met}
 
 -- the block with this VCN was met
 abbrev pub met_before : Place → Met → ℕ → Bool
-met_before p m v = is_some (block_at p v) && get_or m.marks (number_of p v) true
+met_before p m v = is_some (node_block p v) && get_or m.marks (number_of p v) true
 
 test_held : (b : Bool) (o : Option Block) → is_some (if b then o else None) ≡ true → b ≡ true
 test_held true o h = refl
 test_held false o h = absurd cc
 
-pub inside : (p : Place) (v : ℕ) → is_some (block_at p v) ≡ true → (0 < p.step) × (v % p.step ≡ 0)
-unfolding block_at
+pub inside : (p : Place) (v : ℕ) → is_some (node_block p v) ≡ true → (0 < p.step) × (v % p.step ≡ 0)
+unfolding node_block
 inside p v h =
     let a = and_parts (nat_lt 0 p.step) (v % p.step == 0) (test_held (nat_lt 0 p.step && v % p.step == 0) (slice_get p.blocks (number_of p v)) h) in
     (ltb-true 0 p.step a.0, eqb-true (v % p.step) 0 a.1)
@@ -26,7 +26,7 @@ inside p v h =
 number_is : (p : Place) (v : ℕ) → 0 < p.step → number_of p v ≡ v / p.step
 number_is p v h = let e : (p.step == 0) ≡ false = ne_eqb p.step 0 (λ z. omega arith) in rw e
 
-pub one_number : (p : Place) (v w : ℕ) → is_some (block_at p v) ≡ true → is_some (block_at p w) ≡ true → number_of p v ≡ number_of p w → v ≡ w
+pub one_number : (p : Place) (v w : ℕ) → is_some (node_block p v) ≡ true → is_some (node_block p w) ≡ true → number_of p v ≡ number_of p w → v ≡ w
 one_number p v w hv hw e =
     let a = inside p v hv in
     let b = inside p w hw in
@@ -41,8 +41,8 @@ not_past [] k h = absurd cc
 not_past (b ∷ marks) zero h = omega arith
 not_past (b ∷ marks) (suc k) h = let r = not_past marks k h in omega arith
 
-fresh_parts : (p : Place) (m : Met) (v : ℕ) → is_fresh p m v ≡ true → (is_some (block_at p v) ≡ true) × (get_or m.marks (number_of p v) true ≡ false)
-fresh_parts p m v h = let a = and_parts (is_some (block_at p v)) (not (get_or m.marks (number_of p v) true)) h in (a.0, not-true _ a.1)
+fresh_parts : (p : Place) (m : Met) (v : ℕ) → is_fresh p m v ≡ true → (is_some (node_block p v) ≡ true) × (get_or m.marks (number_of p v) true ≡ false)
+fresh_parts p m v h = let a = and_parts (is_some (node_block p v)) (not (get_or m.marks (number_of p v) true)) h in (a.0, not-true _ a.1)
 
 same_is : (x v : ℕ) → x ≡ v → same x v ≡ 1
 unfolding same
@@ -57,11 +57,11 @@ mark_here p m v h =
     let a = fresh_parts p m v h in
     (rw (a.0, a.1) refl, rw (a.0) (get_or-set_same m.marks (number_of p v) true true (not_past m.marks (number_of p v) a.1)))
 
-mark_other : (p : Place) (m : Met) (v x : ℕ) → is_fresh p m v ≡ true → (x ≡ v → ⊥) → (b : Bool) → is_some (block_at p x) ≡ b → met_before p (with_mark p m v) x ≡ met_before p m x
+mark_other : (p : Place) (m : Met) (v x : ℕ) → is_fresh p m v ≡ true → (x ≡ v → ⊥) → (b : Bool) → is_some (node_block p x) ≡ b → met_before p (with_mark p m v) x ≡ met_before p m x
 mark_other p m v x h ne true has =
     let a = fresh_parts p m v h in
     let other : number_of p x ≢ number_of p v = (λ e. ne (one_number p x v has a.0 e)) in
-    ap (λ b. is_some (block_at p x) && b) (get_or-set_other m.marks (number_of p v) (number_of p x) true true other)
+    ap (λ b. is_some (node_block p x) && b) (get_or-set_other m.marks (number_of p v) (number_of p x) true true other)
 mark_other p m v x h ne false has = rw has refl
 
 -- one block more was met
@@ -75,7 +75,7 @@ marked p m v x h = elim (cases_eq x v) [
 ]
 
 -- a VCN that may be met
-pub may_meet : (p : Place) (m : Met) (v : ℕ) → is_some (block_at p v) ≡ true → one_if (met_before p m v) + same v v ≤ 1 → is_fresh p m v ≡ true
+pub may_meet : (p : Place) (m : Met) (v : ℕ) → is_some (node_block p v) ≡ true → one_if (met_before p m v) + same v v ≤ 1 → is_fresh p m v ≡ true
 may_meet p m v has few = rw has (not_met (get_or m.marks (number_of p v) true) (rw has at few))
   where
     not_met : (b : Bool) → one_if (true && b) + same v v ≤ 1 → not b ≡ true
@@ -91,11 +91,11 @@ in_list [] k h = absurd cc
 in_list (b ∷ bs) zero h = omega arith
 in_list (b ∷ bs) (suc k) h = let r = in_list bs k h in omega arith
 
-in_blocks : (p : Place) (v : ℕ) → is_some (block_at p v) ≡ true → number_of p v < length p.blocks
-unfolding block_at
+in_blocks : (p : Place) (v : ℕ) → is_some (node_block p v) ≡ true → number_of p v < length p.blocks
+unfolding node_block
 in_blocks p v h = in_list p.blocks (number_of p v) (held_by (nat_lt 0 p.step && v % p.step == 0) (slice_get p.blocks (number_of p v)) h)
 
-none_at_first : (p : Place) (v : ℕ) (b : Bool) → is_some (block_at p v) ≡ b → met_before p (nothing_met p) v ≡ false
+none_at_first : (p : Place) (v : ℕ) (b : Bool) → is_some (node_block p v) ≡ b → met_before p (nothing_met p) v ≡ false
 none_at_first p v true has = rw has (get_or-replicate (length p.blocks) (number_of p v) false true (in_blocks p v has))
 none_at_first p v false has = rw has refl
 

@@ -1,8 +1,9 @@
 -- Nodes and a root stand for one tree at most.
 use Rattle.std.proofs.Common.{◌≡◌, ℕ, List, [], ◌∷◌, Option, Some, None, refl, sym, ap, ◌∙◌}
 use Rattle.record_model.specs.declared.entry.Entry.{Entry as Raw}
+use Rattle.record_model.specs.Nodes.{last_entry}
 use Rattle.index_model.specs.declared.key.Key.{Key}
-use Rattle.index_model.specs.Trees.{Tree, Leaf, Down, Entry, DownEntry, raw, last_raw, raws_of, Stands}
+use Rattle.index_model.specs.Trees.{Tree, Leaf, Down, Entry, DownEntry, raw, raws_of, Stands}
 
 first_same : (x y : Raw) (xs ys : List Raw) → x ∷ xs ≡ y ∷ ys → x ≡ y
 first_same x y xs ys e = cc
@@ -39,25 +40,25 @@ same_node nodes v w xs ys e f g = let h : ◌≡◌ {A = Option (List Raw)} (Som
 
 pub same_tree : (nodes : ℕ → Option (List Raw)) (t s : Tree) → raws_of t ≡ raws_of s → Stands nodes t → Stands nodes s → t ≡ s
 same_tree nodes Leaf Leaf e f g = refl
-same_tree nodes Leaf (Down w s) e f g = absurd (let d = same_down (last_raw None) (last_raw (Some w)) [] [] e in cc)
-same_tree nodes Leaf (Entry l more) e f g = absurd (some_entries more (sym (rest_same (last_raw None) (raw l None) [] (raws_of more) e)))
-same_tree nodes Leaf (DownEntry w s l more) e f g = absurd (some_entries more (sym (rest_same (last_raw None) (raw l (Some w)) [] (raws_of more) e)))
-same_tree nodes (Down v t) Leaf e f g = absurd (let d = same_down (last_raw (Some v)) (last_raw None) [] [] e in cc)
+same_tree nodes Leaf (Down w s) e f g = absurd (let d = same_down (last_entry None) (last_entry (Some w)) [] [] e in cc)
+same_tree nodes Leaf (Entry l more) e f g = absurd (some_entries more (sym (rest_same (last_entry None) (raw l None) [] (raws_of more) e)))
+same_tree nodes Leaf (DownEntry w s l more) e f g = absurd (some_entries more (sym (rest_same (last_entry None) (raw l (Some w)) [] (raws_of more) e)))
+same_tree nodes (Down v t) Leaf e f g = absurd (let d = same_down (last_entry (Some v)) (last_entry None) [] [] e in cc)
 same_tree nodes (Down v t) (Down w s) e f g =
-    let n : v ≡ w = same_number v w (same_down (last_raw (Some v)) (last_raw (Some w)) [] [] e) in
+    let n : v ≡ w = same_number v w (same_down (last_entry (Some v)) (last_entry (Some w)) [] [] e) in
     let below : t ≡ s = same_tree nodes t s (same_node nodes v w (raws_of t) (raws_of s) n f.0 g.0) f.1 g.1 in
     cc
-same_tree nodes (Down v t) (Entry l more) e f g = absurd (some_entries more (sym (rest_same (last_raw (Some v)) (raw l None) [] (raws_of more) e)))
-same_tree nodes (Down v t) (DownEntry w s l more) e f g = absurd (some_entries more (sym (rest_same (last_raw (Some v)) (raw l (Some w)) [] (raws_of more) e)))
-same_tree nodes (Entry k rest) Leaf e f g = absurd (some_entries rest (rest_same (raw k None) (last_raw None) (raws_of rest) [] e))
-same_tree nodes (Entry k rest) (Down w s) e f g = absurd (some_entries rest (rest_same (raw k None) (last_raw (Some w)) (raws_of rest) [] e))
+same_tree nodes (Down v t) (Entry l more) e f g = absurd (some_entries more (sym (rest_same (last_entry (Some v)) (raw l None) [] (raws_of more) e)))
+same_tree nodes (Down v t) (DownEntry w s l more) e f g = absurd (some_entries more (sym (rest_same (last_entry (Some v)) (raw l (Some w)) [] (raws_of more) e)))
+same_tree nodes (Entry k rest) Leaf e f g = absurd (some_entries rest (rest_same (raw k None) (last_entry None) (raws_of rest) [] e))
+same_tree nodes (Entry k rest) (Down w s) e f g = absurd (some_entries rest (rest_same (raw k None) (last_entry (Some w)) (raws_of rest) [] e))
 same_tree nodes (Entry k rest) (Entry l more) e f g =
     let key : k ≡ l = same_key k l None None (raws_of rest) (raws_of more) e in
     let later : rest ≡ more = same_tree nodes rest more (rest_same (raw k None) (raw l None) (raws_of rest) (raws_of more) e) f g in
     cc
 same_tree nodes (Entry k rest) (DownEntry w s l more) e f g = absurd (let d = same_down (raw k None) (raw l (Some w)) (raws_of rest) (raws_of more) e in cc)
-same_tree nodes (DownEntry v t k rest) Leaf e f g = absurd (some_entries rest (rest_same (raw k (Some v)) (last_raw None) (raws_of rest) [] e))
-same_tree nodes (DownEntry v t k rest) (Down w s) e f g = absurd (some_entries rest (rest_same (raw k (Some v)) (last_raw (Some w)) (raws_of rest) [] e))
+same_tree nodes (DownEntry v t k rest) Leaf e f g = absurd (some_entries rest (rest_same (raw k (Some v)) (last_entry None) (raws_of rest) [] e))
+same_tree nodes (DownEntry v t k rest) (Down w s) e f g = absurd (some_entries rest (rest_same (raw k (Some v)) (last_entry (Some w)) (raws_of rest) [] e))
 same_tree nodes (DownEntry v t k rest) (Entry l more) e f g = absurd (let d = same_down (raw k (Some v)) (raw l None) (raws_of rest) (raws_of more) e in cc)
 same_tree nodes (DownEntry v t k rest) (DownEntry w s l more) e f g =
     let n : v ≡ w = same_number v w (same_down (raw k (Some v)) (raw l (Some w)) (raws_of rest) (raws_of more) e) in

@@ -5,9 +5,10 @@ use Rattle.std.specs.Prelude.{option_to_list}
 use Rattle.std.proofs.lemmas.List.{append-nil, append_assoc}
 use Rattle.std.proofs.lemmas.List.Elements.{filter_map-append}
 use Rattle.record_model.specs.declared.entry.Entry.{Entry as Raw}
-use Rattle.tree_model.specs.declared.link.Link.{Link}
+use Rattle.record_model.specs.Nodes.{last_entry}
+use Rattle.file_tree.specs.declared.link.Link.{Link}
 use Rattle.index_model.specs.declared.key.Key.{Key}
-use Rattle.index_model.specs.Trees.{Tree, Leaf, Down, Entry, DownEntry, walk, one_if, same, held, levels as height, raw, last_raw, raws_of, Stands}
+use Rattle.index_model.specs.Trees.{Tree, Leaf, Down, Entry, DownEntry, walk, one_if, same, held, levels as height, raw, raws_of, Stands}
 use Rattle.index_model.specs.Indexes.{Place, some_entries, nodes_of, entry_link, key_link, links_of, rises}
 use Rattle.index_model.specs.Walks.{Met, all_judged, entered, keyed, is_fresh, with_mark, with_link, final, follows, below, inside, named_event, entry_met, kid_met, met_in}
 use Rattle.index_model.proofs.Orders.{rises_more}
@@ -85,7 +86,7 @@ later_links : (e : Raw) (keys : List Key) → option_to_list (entry_link e) ++ l
 later_links e keys = cons_is (entry_link e) (links_of keys) ∙ ap (λ o. cons_option o (links_of keys)) (link_is e)
 
 -- a last entry
-last_walked : (p : Place) (upper : List ℕ) (read : ℕ → Result (List Raw) ℕ) (levels : ℕ) (down : Option ℕ) (m k n : Met) → HungBelow p upper read levels down m k → Grown p upper k n [] (λ x. 0) → Walked p upper read (suc levels) (last_raw down ∷ []) m n
+last_walked : (p : Place) (upper : List ℕ) (read : ℕ → Result (List Raw) ℕ) (levels : ℕ) (down : Option ℕ) (m k n : Met) → HungBelow p upper read levels down m k → Grown p upper k n [] (λ x. 0) → Walked p upper read (suc levels) (last_entry down ∷ []) m n
 last_walked p upper read levels None m k n h g = record {
   tree = Leaf;
   entries_are = refl;

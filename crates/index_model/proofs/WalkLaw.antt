@@ -5,7 +5,7 @@ use Rattle.host_base.specs.Answers.{◌>>=◌}
 use Rattle.disk_model.specs.Content.{Content}
 use Rattle.record_model.specs.declared.entry.Entry.{Entry}
 use Rattle.record_model.specs.Nodes.{root_at}
-use Rattle.tree_model.specs.declared.link.Link.{Link}
+use Rattle.file_tree.specs.declared.link.Link.{Link}
 use Rattle.index_model.specs.Trees.{Tree, walk, one_if}
 use Rattle.index_model.specs.Indexes.{Place, node_of_block, nodes_of, links_of, rises, IsIndex}
 use Rattle.index_model.specs.Walks.{Broken, Met, all_judged, met_in, met_from, nothing_met, root_vcn, walk_of}

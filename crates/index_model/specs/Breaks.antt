@@ -4,8 +4,8 @@ use Rattle.disk_model.specs.declared.block.Block.{Block}
 use Rattle.disk_model.specs.Content.{Content}
 use Rattle.record_model.specs.declared.entry.Entry.{Entry}
 use Rattle.record_model.specs.Nodes.{root_at}
-use Rattle.tree_model.specs.declared.link.Link.{Link}
-use Rattle.index_model.specs.Indexes.{Place, block_at, node_of_body, node_of_block, entry_link, precedes, most_levels}
+use Rattle.file_tree.specs.declared.link.Link.{Link}
+use Rattle.index_model.specs.Indexes.{Place, node_block, node_of_body, node_of_block, entry_link, precedes, most_levels}
 use Rattle.index_model.specs.Walks.{Broken, root_vcn, Event, Child, Deep, Faulty, Named, Found, final, met_in, sought_in}
 
 -- some entry has this child
@@ -44,8 +44,8 @@ links_met (Found l ∷ events) = l ∷ links_met events
 -- A child of a node breaks a rule from 1 to 6 by its own bytes. A node breaks rule 7 by a child outside the allocation or
 -- one that was met before, or by a child on level 17; and rule 8 by a key that stands before the last one that was met.
 pub data Breaks (c : Content) (p : Place) (upper : List ℕ) (root : List Entry) (events : List Event) : Broken → Type 0 where
-  by_bytes : (level above v rule : ℕ) (entries : List Entry) (b : Block) → Hangs (node_of_block c p) root level above entries → HasChild v entries → block_at p v ≡ Some b → node_of_body v (c b) ≡ Err rule → Breaks c p upper root events (record { vcn = v; rule = rule })
-  by_child : (level v child : ℕ) (entries : List Entry) (before behind : List Event) → Hangs (node_of_block c p) root level v entries → HasChild child entries → events ≡ before ++ Child v child ∷ behind → (block_at p child ≡ None) ⊎ HasMet child before
+  by_bytes : (level above v rule : ℕ) (entries : List Entry) (b : Block) → Hangs (node_of_block c p) root level above entries → HasChild v entries → node_block p v ≡ Some b → node_of_body v (c b) ≡ Err rule → Breaks c p upper root events (record { vcn = v; rule = rule })
+  by_child : (level v child : ℕ) (entries : List Entry) (before behind : List Event) → Hangs (node_of_block c p) root level v entries → HasChild child entries → events ≡ before ++ Child v child ∷ behind → (node_block p child ≡ None) ⊎ HasMet child before
       → Breaks c p upper root events (record { vcn = v; rule = 7 })
   by_depth : (v child : ℕ) (entries : List Entry) → Hangs (node_of_block c p) root most_levels v entries → HasChild child entries → Breaks c p upper root events (record { vcn = v; rule = 7 })
   by_order : (level v : ℕ) (l k : Link) (entries : List Entry) (before behind : List Event) → Hangs (node_of_block c p) root level v entries → HasLink l entries → events ≡ before ++ Named v l ∷ behind → final (links_met before) ≡ Some k → precedes upper k l ≡ false

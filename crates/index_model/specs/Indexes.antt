@@ -14,8 +14,8 @@ use Rattle.record_model.specs.declared.values.FileNameValue.{FileNameValue}
 use Rattle.record_model.specs.declared.values.ValueFault.{ValueFault}
 use Rattle.record_model.specs.StdValues.{file_name_of}
 use Rattle.record_model.specs.Nodes.{Node, node_at}
-use Rattle.tree_model.specs.declared.link.Link.{Link}
-use Rattle.tree_model.specs.Names.{name_order}
+use Rattle.file_tree.specs.declared.link.Link.{Link}
+use Rattle.file_tree.specs.Names.{name_order}
 use Rattle.index_model.specs.declared.key.Key.{Key}
 use Rattle.index_model.specs.Trees.{Tree, walk, held, levels, raws_of, Stands}
 
@@ -31,12 +31,12 @@ abbrev pub number_of : Place → ℕ → ℕ
 number_of p v = if p.step == 0 then 0 else v / p.step
 
 -- the block with this VCN; none where the VCN lies outside the allocation
-unfoldable pub block_at : Place → ℕ → Option Block
-block_at p v = if nat_lt 0 p.step && v % p.step == 0 then slice_get p.blocks (number_of p v) else None
+unfoldable pub node_block : Place → ℕ → Option Block
+node_block p v = if nat_lt 0 p.step && v % p.step == 0 then slice_get p.blocks (number_of p v) else None
 
-abbrev pub entries_in : Result Node ℕ → Result (List Entry) ℕ
-entries_in (Ok n) = Ok n.entries
-entries_in (Err rule) = Err rule
+abbrev pub entries_of_node : Result Node ℕ → Result (List Entry) ℕ
+entries_of_node (Ok n) = Ok n.entries
+entries_of_node (Err rule) = Err rule
 
 abbrev pub is_index_body : BodyOf → Bool
 is_index_body b = length b.bytes == 4096 && not b.torn && is_signed Index b.bytes
@@ -47,7 +47,7 @@ unfoldable pub node_of_body : ℕ → BodyOf → Result (List Entry) ℕ
 node_of_body v b =
     needs (is_index_body b) 1
     >>= λ _. needs (field 0x10 8 b.bytes == v) 2
-    >>= λ _. entries_in (node_at b.bytes)
+    >>= λ _. entries_of_node (node_at b.bytes)
 
 abbrev pub node_of_part : Content → ℕ → Option Block → Result (List Entry) ℕ
 node_of_part c v None = Err 7
@@ -55,7 +55,7 @@ node_of_part c v (Some b) = node_of_body v (c b)
 
 -- the entries of the node with this VCN in a content, or the first rule that it breaks; 7 outside the allocation
 unfoldable pub node_of_block : Content → Place → ℕ → Result (List Entry) ℕ
-node_of_block c p v = node_of_part c v (block_at p v)
+node_of_block c p v = node_of_part c v (node_block p v)
 
 abbrev pub some_entries : Result (List Entry) ℕ → Option (List Entry)
 some_entries (Ok entries) = Some entries

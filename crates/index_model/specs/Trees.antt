@@ -1,7 +1,7 @@
 -- An index as a tree of entries, whose nodes lie anywhere.
 use Rattle.std.specs.Prelude.{◌≡◌, ℕ, ◌+◌, Bool, true, false, List, [], ◌∷◌, ◌++◌, Option, Some, None, nat_eq, max}
 use Rattle.record_model.specs.declared.entry.Entry.{Entry as Raw}
-use Rattle.record_model.specs.Nodes.{no_file}
+use Rattle.record_model.specs.Nodes.{last_entry}
 use Rattle.index_model.specs.declared.key.Key.{Key}
 
 -- A node's entries with what hangs below them: it begins with the last entry, or with an entry and the rest. A number is the
@@ -50,14 +50,10 @@ levels (DownEntry v t key rest) = max (1 + levels t) (levels rest)
 abbrev pub raw : Key → Option ℕ → Raw
 raw key down = record { child = key.child; key = key.value; down = down }
 
--- the last entry of a node names no file and has no key
-abbrev pub last_raw : Option ℕ → Raw
-last_raw down = record { child = no_file; key = []; down = down }
-
 -- the entries of the tree's first node
 abbrev pub raws_of : Tree → List Raw
-raws_of Leaf = last_raw None ∷ []
-raws_of (Down v t) = last_raw (Some v) ∷ []
+raws_of Leaf = last_entry None ∷ []
+raws_of (Down v t) = last_entry (Some v) ∷ []
 raws_of (Entry key rest) = raw key None ∷ raws_of rest
 raws_of (DownEntry v t key rest) = raw key (Some v) ∷ raws_of rest
 

@@ -5,11 +5,11 @@ use Rattle.host_base.specs.Answers.{◌>>=◌, needs}
 use Rattle.disk_model.specs.Content.{Content}
 use Rattle.record_model.specs.declared.entry.Entry.{Entry}
 use Rattle.record_model.specs.Nodes.{root_at}
-use Rattle.tree_model.specs.declared.link.Link.{Link}
-use Rattle.tree_model.specs.Names.{same_name, comes_before}
+use Rattle.file_tree.specs.declared.link.Link.{Link}
+use Rattle.file_tree.specs.Names.{same_name, comes_before}
 use Rattle.index_model.specs.declared.side.Side.{Side}
 use Rattle.index_model.specs.declared.side.Side.TheVariants.{Unnamed, Before, Same, Behind}
-use Rattle.index_model.specs.Indexes.{Place, number_of, block_at, node_of_block, entry_link, precedes}
+use Rattle.index_model.specs.Indexes.{Place, number_of, node_block, node_of_block, entry_link, precedes}
 
 -- a node and the rule that it breaks
 pub record Broken : Type 0 where
@@ -133,7 +133,7 @@ with_link m l = record { links = m.links ++ l ∷ []; marks = m.marks }
 
 -- the VCN lies in the allocation and wasn't met before
 abbrev pub is_fresh : Place → Met → ℕ → Bool
-is_fresh p m v = is_some (block_at p v) && not (slice_index_or m.marks (number_of p v) true)
+is_fresh p m v = is_some (node_block p v) && not (slice_index_or m.marks (number_of p v) true)
 
 abbrev pub with_mark : Place → Met → ℕ → Met
 with_mark p m v = record { links = m.links; marks = set m.marks (number_of p v) true }

@@ -4,9 +4,9 @@ use Rattle.std.specs.Prelude.{insert}
 use Rattle.std.specs.List.{AllByRecursion}
 use Rattle.std.proofs.lemmas.List.Elements.{All-from_recursion, recursion_from_All, All-get_or}
 use Rattle.record_model.specs.declared.entry.Entry.{Entry}
-use Rattle.record_model.specs.Nodes.{Node, down_flag, node_used, node_room, children_of, FitsEntry, FitEntries, FitsNode}
+use Rattle.record_model.specs.Nodes.{Node, down_flag, node_used, node_room, children_of, FitsEntry, FitEntries, FitsNode, last_entry}
 use Rattle.record_model.proofs.NodeFits.{flags_fit}
-use Rattle.index_node.specs.Edits.{with_entries, without_entry, last_entry, down_at, left_half, right_half}
+use Rattle.index_node.specs.Edits.{with_entries, without_entry, down_at, left_half, right_half}
 use Rattle.index_node.proofs.Sizes.{used_removed, used_left, used_right}
 
 -- ---- lists

@@ -10,9 +10,9 @@ use Rattle.disk_model.specs.Bytes.{AreBytes}
 use Rattle.disk_model.proofs.Fields.{field-lt}
 use Rattle.record_model.specs.declared.entry.Entry.{Entry}
 use Rattle.record_model.specs.Values.{is_file_name}
-use Rattle.record_model.specs.Nodes.{Node, down_flag, entry_length, entries_length, node_used}
+use Rattle.record_model.specs.Nodes.{Node, down_flag, entry_length, entries_length, node_used, last_entry}
 use Rattle.record_model.proofs.FileNames.{lawful_parts}
-use Rattle.index_node.specs.Edits.{with_entries, inserted, last_entry, down_at, left_entries}
+use Rattle.index_node.specs.Edits.{with_entries, inserted, down_at, left_entries}
 
 -- a key that is a file-name value has at most 0x240 bytes
 pub key_bounded : (key : List ℕ) → is_file_name key ≡ true → AreBytes key → length key ≤ 576

@@ -2,7 +2,7 @@
 use Rattle.std.specs.Prelude.{ℕ, ◌+◌, List, [], ◌∷◌, ◌++◌, take, drop, insert, remove, slice_index_or, nat_le, Option, None, Result, Ok}
 use Rattle.host_base.specs.Answers.{◌>>=◌, needs}
 use Rattle.record_model.specs.declared.entry.Entry.{Entry}
-use Rattle.record_model.specs.Nodes.{Node, no_file, node_used, node_room}
+use Rattle.record_model.specs.Nodes.{Node, last_entry, node_used, node_room}
 
 -- the node with other entries
 abbrev pub with_entries : Node → List Entry → Node
@@ -17,10 +17,6 @@ inserted n at e =
 -- the node without the entry at a place
 abbrev pub without_entry : Node → ℕ → Node
 without_entry n at = with_entries n (remove n.entries at)
-
--- a last entry, with this child behind the other entries
-abbrev pub last_entry : Option ℕ → Entry
-last_entry down = record { child = no_file; key = []; down = down }
 
 -- the child before the entry at a place
 abbrev pub down_at : List Entry → ℕ → Option ℕ

@@ -3,8 +3,9 @@ use Rattle.std.proofs.Common.{◌≡◌, ℕ, zero, suc, ◌≤◌, Bool, true, 
 use Rattle.std.proofs.lemmas.Bool.{ltb-true}
 use Rattle.index_model.specs.declared.key.Key.{Key}
 use Rattle.record_model.specs.declared.entry.Entry.{Entry as Raw}
+use Rattle.record_model.specs.Nodes.{last_entry}
 use Rattle.index_plan.specs.declared.write.Write.{Write}
-use Rattle.index_model.specs.Trees.{Tree, Leaf, Down, Entry, DownEntry, raw, last_raw, raws_of}
+use Rattle.index_model.specs.Trees.{Tree, Leaf, Down, Entry, DownEntry, raw, raws_of}
 use Rattle.index_plan.specs.Growth.{Hook, Last, Inner, hang, Grown, across_by, fronted, rewritten}
 use Rattle.index_plan.specs.Removal.{vcns, fresh_start, Pulled, settled, or_pulled, and_pulled, pull, Removed, refilled, without_first}
 use Rattle.index_plan.specs.Plans.{Plan}
@@ -40,7 +41,7 @@ few_of raws e = at (nat_lt 1 (length raws)) refl e
     at true is e' = absurd cc
     at false is e' = few (length raws) is
 
-behind_is : (fresh : List ℕ) (front : Tree → Tree) (first : Raw) (short : Tree) (raws : List Raw) (own all freed : List ℕ) (tk : Option Taken) (o : Option Pulled) → ((x : Tree) → raws_of (front x) ≡ first ∷ raws_of x) → raws_of short ≡ last_raw first.down ∷ [] → (b : Bool) → nat_lt 1 (length raws) ≡ b → PullBy b raws own freed tk o → PullBy true (first ∷ raws) all freed tk (or_pulled (fronted front) (record { grown = fresh_start short fresh; key = own_key first; freed = own }) o)
+behind_is : (fresh : List ℕ) (front : Tree → Tree) (first : Raw) (short : Tree) (raws : List Raw) (own all freed : List ℕ) (tk : Option Taken) (o : Option Pulled) → ((x : Tree) → raws_of (front x) ≡ first ∷ raws_of x) → raws_of short ≡ last_entry first.down ∷ [] → (b : Bool) → nat_lt 1 (length raws) ≡ b → PullBy b raws own freed tk o → PullBy true (first ∷ raws) all freed tk (or_pulled (fronted front) (record { grown = fresh_start short fresh; key = own_key first; freed = own }) o)
 behind_is fresh front first short raws own all freed (Some k) None fr sh b is p = absurd p
 behind_is fresh front first short raws own all freed (Some k) (Some q) fr sh b is p = p
 behind_is fresh front first short raws own all freed None None fr sh true is p = absurd p

@@ -5,9 +5,9 @@ use Rattle.std.proofs.lemmas.Bool.Decides.{leb_tells}
 use Rattle.std.proofs.lemmas.List.Elements.{All-nil, All-cons, All-head, All-tail, All-append, All-take, All-drop}
 use Rattle.std.proofs.lemmas.List.Sums.{sum_by-cons}
 use Rattle.record_model.specs.declared.entry.Entry.{Entry as Raw}
-use Rattle.record_model.specs.Nodes.{down_flag, entry_length, entries_length, node_used, node_room}
+use Rattle.record_model.specs.Nodes.{down_flag, entry_length, entries_length, node_used, node_room, last_entry}
 use Rattle.index_model.specs.declared.key.Key.{Key}
-use Rattle.index_model.specs.Trees.{raw, last_raw, one_if}
+use Rattle.index_model.specs.Trees.{raw, one_if}
 use Rattle.index_plan.specs.Growth.{fits_in, fits, within, middle}
 use Rattle.index_plan.specs.declared.write.Write.{Write}
 use Rattle.index_plan.specs.declared.plan.Rooted.{Rooted}
@@ -284,7 +284,7 @@ least_bytes : (r : Raw) → 16 ≤ entry_length r
 unfolding entry_length
 least_bytes r = omega arith
 
-last_shorter : (r : Raw) → 0 < length r.key → entry_length (last_raw r.down) + 8 ≤ entry_length r
+last_shorter : (r : Raw) → 0 < length r.key → entry_length (last_entry r.down) + 8 ≤ entry_length r
 unfolding entry_length
 last_shorter r h = omega arith
 
@@ -297,7 +297,7 @@ left_fits : (raws : List Raw) (i : ℕ) → i + 1 < length raws → Sized raws �
 left_fits raws i h sized =
     let room = sized.room in
     let b = bytes_is raws in
-    let a = bytes_append (take i raws) (last_raw (entry_at i raws).down ∷ []) in
+    let a = bytes_append (take i raws) (last_entry (entry_at i raws).down ∷ []) in
     let m = take_more i raws (omega arith) in
     let t = take_drop (suc i) raws in
     let l = last_shorter (entry_at i raws) ((sized.keys i (omega arith)).1 h) in

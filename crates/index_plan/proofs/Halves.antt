@@ -3,8 +3,7 @@ use Rattle.std.proofs.Common.{◌≡◌, ℕ, zero, suc, ◌+◌, ◌-◌, ◌�
 use Rattle.std.proofs.lemmas.Bool.{leb-true, leb-false}
 use Rattle.std.proofs.lemmas.Bool.Decides.{leb_tells}
 use Rattle.record_model.specs.declared.entry.Entry.{Entry as Raw}
-use Rattle.index_model.specs.Trees.{last_raw}
-use Rattle.record_model.specs.Nodes.{entry_length}
+use Rattle.record_model.specs.Nodes.{entry_length, last_entry}
 use Rattle.index_plan.specs.Growth.{fits_in, within}
 use Rattle.index_plan.specs.Lists.{entry_at, left_of, overfull_by}
 
@@ -59,7 +58,7 @@ pub bytes_append : (xs ys : List Raw) → bytes (xs ++ ys) ≡ bytes xs + bytes 
 bytes_append [] ys = omega arith
 bytes_append (x ∷ xs) ys = let b = bytes_append xs ys in omega arith
 
-pub end_bytes : (d : Option ℕ) → entry_length (last_raw d) ≤ 24
+pub end_bytes : (d : Option ℕ) → entry_length (last_entry d) ≤ 24
 unfolding entry_length
 end_bytes None = omega arith
 end_bytes (Some v) = omega arith
@@ -86,7 +85,7 @@ halves raws full most small = inside_first (leb_tells (length raws) (within 2016
         let past = (within_bytes 2016 raws).1 lt in
         let t = take_drop (suc (within 2016 raws)) raws in
         let e = end_bytes (entry_at (within 2016 raws) raws).down in
-        let a = bytes_append (take (within 2016 raws) raws) (last_raw (entry_at (within 2016 raws) raws).down ∷ []) in
+        let a = bytes_append (take (within 2016 raws) raws) (last_entry (entry_at (within 2016 raws) raws).down ∷ []) in
         record {
           inside = omega arith;
           left = omega arith;

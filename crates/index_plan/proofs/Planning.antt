@@ -6,7 +6,7 @@ use Rattle.index_model.specs.Trees.{Tree, Leaf, Down, Entry, DownEntry, walk, he
 use Rattle.index_plan.specs.Paths.{Path, Here, Below, Behind, subtree, graft}
 use Rattle.index_plan.specs.Growth.{Grown, regrown}
 use Rattle.index_plan.specs.Removal.{fresh_start, Removed, without_first}
-use Rattle.index_plan.specs.Search.{place_of, put, Rises}
+use Rattle.index_plan.specs.Search.{path_to, put, Rises}
 use Rattle.index_plan.proofs.Growing.{some_is, level_one, regrown_walk, regrown_held, regrown_levels, regrown_count}
 use Rattle.index_plan.proofs.Standing.{Nodes, Sound, Once, regrown_sound, start_sound}
 use Rattle.index_plan.proofs.Grafting.{grafts, graft_held, graft_levels, steps_levels}
@@ -39,10 +39,10 @@ pub record Inserts (nodes : Nodes) (goes : Key → Bool) (new : Key) (fresh : Li
   pub meets : Meets nodes fresh t (λ x. 0) 0 g
 
 -- a plan of insertion
-pub insertion : (nodes : Nodes) (goes : Key → Bool) (new : Key) (fresh : List ℕ) (t : Tree) → Stands nodes t → Once t fresh → Rises goes (walk t) → (s : Tree) × (subtree (place_of goes t) t ≡ Some s) × Inserts nodes goes new fresh t (regrown (place_of goes t) (fresh_start (Entry new s) fresh) t)
+pub insertion : (nodes : Nodes) (goes : Key → Bool) (new : Key) (fresh : List ℕ) (t : Tree) → Stands nodes t → Once t fresh → Rises goes (walk t) → (s : Tree) × (subtree (path_to goes t) t ≡ Some s) × Inserts nodes goes new fresh t (regrown (path_to goes t) (fresh_start (Entry new s) fresh) t)
 insertion nodes goes new fresh t st once rises =
     let at = placed goes new t rises in
-    let p : Path = place_of goes t in
+    let p : Path = path_to goes t in
     let s : Tree = at.0 in
     let start : Grown = fresh_start (Entry new s) fresh in
     let same_numbers : (x : ℕ) → held x (graft p (Entry new s) t) ≡ held x t = λ x. let h = graft_held x p t s (Entry new s) at.1 in omega arith in (

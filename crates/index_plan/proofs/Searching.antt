@@ -3,7 +3,7 @@ use Rattle.std.proofs.Common.{◌≡◌, Bool, true, false, List, [], ◌∷◌,
 use Rattle.index_model.specs.declared.key.Key.{Key}
 use Rattle.index_model.specs.Trees.{Tree, Leaf, Down, Entry, DownEntry, walk}
 use Rattle.index_plan.specs.Paths.{Path, Here, Below, Behind, subtree, graft}
-use Rattle.index_plan.specs.Search.{place_of, put, GoesAll, Rises}
+use Rattle.index_plan.specs.Search.{path_to, put, GoesAll, Rises}
 
 all_goes : (goes : Key → Bool) (xs ys : List Key) (k : Key) → GoesAll goes (xs ++ k ∷ ys) → goes k ≡ true
 all_goes goes [] ys k a = a.0
@@ -51,16 +51,16 @@ put_right goes new k (x ∷ xs) ys r e = at (goes x) refl (put_right goes new k 
 abbrev pub Placed : (Key → Bool) → Key → Tree → Path → Type 0
 Placed goes new t p = (s : Tree) × (subtree p t ≡ Some s) × (walk (graft p (Entry new s) t) ≡ put goes new (walk t))
 
-pub placed : (goes : Key → Bool) (new : Key) (t : Tree) → Rises goes (walk t) → Placed goes new t (place_of goes t)
+pub placed : (goes : Key → Bool) (new : Key) (t : Tree) → Rises goes (walk t) → Placed goes new t (path_to goes t)
 placed goes new Leaf r = (Leaf, refl, refl)
 placed goes new (Down v t) r = placed goes new t r
 placed goes new (Entry key rest) r = at (goes key) refl (placed goes new rest r.1)
   where
-    at : (b : Bool) → goes key ≡ b → Placed goes new rest (place_of goes rest) → Placed goes new (Entry key rest) (if b then Here else Behind (place_of goes rest))
+    at : (b : Bool) → goes key ≡ b → Placed goes new rest (path_to goes rest) → Placed goes new (Entry key rest) (if b then Here else Behind (path_to goes rest))
     at true is rec = (Entry key rest, refl, sym (by_test (goes key) new key (walk rest) (key ∷ put goes new (walk rest)) is))
     at false is rec = (rec.0, rec.1, ap (λ (l : List Key). key ∷ l) rec.2 ∙ sym (by_other (goes key) (new ∷ key ∷ walk rest) (key ∷ put goes new (walk rest)) is))
 placed goes new (DownEntry v t key rest) r = at (goes key) refl (placed goes new t (rises_left goes (walk t) (key ∷ walk rest) r)) (placed goes new rest (rises_right goes (walk t) (key ∷ walk rest) r).1)
   where
-    at : (b : Bool) → goes key ≡ b → Placed goes new t (place_of goes t) → Placed goes new rest (place_of goes rest) → Placed goes new (DownEntry v t key rest) (if b then Below (place_of goes t) else Behind (place_of goes rest))
+    at : (b : Bool) → goes key ≡ b → Placed goes new t (path_to goes t) → Placed goes new rest (path_to goes rest) → Placed goes new (DownEntry v t key rest) (if b then Below (path_to goes t) else Behind (path_to goes rest))
     at true is below behind = (below.0, below.1, ap (λ (l : List Key). l ++ key ∷ walk rest) below.2 ∙ sym (put_left goes new key (walk t) (walk rest) is))
     at false is below behind = (behind.0, behind.1, ap (λ (l : List Key). walk t ++ key ∷ l) behind.2 ∙ sym (put_right goes new key (walk t) (walk rest) r is))

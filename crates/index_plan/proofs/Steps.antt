@@ -1,6 +1,7 @@
 -- Steps of a search, one after the other, over nodes that may be known.
 use Rattle.std.proofs.Common.{◌≡◌, ℕ, ◌≤◌, Option, Some, None, Result, Ok, Err, ap, subst}
 use Rattle.std.specs.Prelude.{IfSome, IfOk, IfErr, OnOk, List}
+use Rattle.index_model.specs.Walks.{Broken}
 use Rattle.record_model.specs.declared.entry.Entry.{Entry as Raw}
 use Rattle.host_base.specs.Answers.{ExplainsOrFails}
 use Rattle.host_base.proofs.Known.{one, both}
@@ -9,7 +10,7 @@ use Rattle.index_plan.specs.declared.fault.PlanFault.TheVariants.{Node, Absent, 
 use Rattle.index_plan.specs.declared.fault.ReadFault.{ReadFault}
 use Rattle.index_plan.specs.declared.fault.ReadFault.TheVariants as reading
 use Rattle.index_plan.specs.Faults.{read_cause, way_cause, told, AlongWay, AfterSearch, OnDeep, OnlyDeep, OnlyReading, ReadFails, Fails}
-use Rattle.index_plan.specs.Reading.{Reads, Broken, read_by}
+use Rattle.index_plan.specs.Reading.{NodeReads, read_by}
 
 -- a node that was not read, as the node that breaks a rule
 pub told_of : (above v : ℕ) (e : ReadFault) (r : Result (List Raw) ℕ) → ExplainsOrFails (read_cause e) r → ExplainsOrFails (way_cause (told above v e)) (read_by above v r)
@@ -17,7 +18,7 @@ told_of above v (reading.Rule rule) r h = ap (read_by above v) h
 told_of above v reading.Failed r h = tt
 told_of above v reading.Memory r h = tt
 
-pub told_known : (known : Option Reads) (above v : ℕ) (e : ReadFault) → IfSome known (λ r. ExplainsOrFails (read_cause e) (r v)) → IfSome known (λ r. ExplainsOrFails (way_cause (told above v e)) (read_by above v (r v)))
+pub told_known : (known : Option NodeReads) (above v : ℕ) (e : ReadFault) → IfSome known (λ r. ExplainsOrFails (read_cause e) (r v)) → IfSome known (λ r. ExplainsOrFails (way_cause (told above v e)) (read_by above v (r v)))
 told_known known above v e h = one known (λ r. ExplainsOrFails (read_cause e) (r v)) (λ r. ExplainsOrFails (way_cause (told above v e)) (read_by above v (r v))) (λ r p. told_of above v e (r v) p) h
 
 pub fails_told : {T : Type 0} (before now above v : ℕ) (e : ReadFault) → ReadFails {T = T} before now (Err e) → Fails {T = T} before now (Err (told above v e))
@@ -42,7 +43,7 @@ way_stopped T (Deep height) way only h = absurd only
 way_stopped T Failed way only h = tt
 way_stopped T Memory way only h = tt
 
-pub way_failed : (T : Type 0) {A : Type 0} (known : Option Reads) (e : PlanFault) (way : Reads → Result A Broken) → OnlyReading e → IfSome known (λ r. ExplainsOrFails (way_cause e) (way r)) → IfSome known (λ r. AlongWay {T = T} (Err e) (way r))
+pub way_failed : (T : Type 0) {A : Type 0} (known : Option NodeReads) (e : PlanFault) (way : NodeReads → Result A Broken) → OnlyReading e → IfSome known (λ r. ExplainsOrFails (way_cause e) (way r)) → IfSome known (λ r. AlongWay {T = T} (Err e) (way r))
 way_failed T known e way only h = one known (λ r. ExplainsOrFails (way_cause e) (way r)) (λ r. AlongWay {T = T} (Err e) (way r)) (λ r p. way_stopped T e (way r) only p) h
 
 way_end : {T A : Type 0} (r : Result T PlanFault) (P : ℕ → Type 0) (way : Result A Broken) (spots : A) → IfErr r (λ e. OnlyDeep e P) → way ≡ Ok spots → AlongWay r way
@@ -53,7 +54,7 @@ way_end (Err Absent) P way spots deep is = absurd deep
 way_end (Err Failed) P way spots deep is = absurd deep
 way_end (Err Memory) P way spots deep is = tt
 
-pub way_ended : {T A : Type 0} (known : Option Reads) (r : Result T PlanFault) (P : ℕ → Type 0) (way : Reads → Result A Broken) (spots : A) → IfErr r (λ e. OnlyDeep e P) → IfSome known (λ x. way x ≡ Ok spots) → IfSome known (λ x. AlongWay r (way x))
+pub way_ended : {T A : Type 0} (known : Option NodeReads) (r : Result T PlanFault) (P : ℕ → Type 0) (way : NodeReads → Result A Broken) (spots : A) → IfErr r (λ e. OnlyDeep e P) → IfSome known (λ x. way x ≡ Ok spots) → IfSome known (λ x. AlongWay r (way x))
 way_ended known r P way spots deep h = one known (λ x. way x ≡ Ok spots) (λ x. AlongWay r (way x)) (λ x is. way_end r P (way x) spots deep is) h
 
 search_stopped : (T : Type 0) {A : Type 0} (e : PlanFault) (found : Result (Option A) Broken) → OnlyReading e → ExplainsOrFails (way_cause e) found → AfterSearch {T = T} (Err e) found
@@ -63,13 +64,13 @@ search_stopped T (Deep height) found only h = absurd only
 search_stopped T Failed found only h = tt
 search_stopped T Memory found only h = tt
 
-pub search_failed : (T : Type 0) {A : Type 0} (known : Option Reads) (e : PlanFault) (found : Reads → Result (Option A) Broken) → OnlyReading e → IfSome known (λ r. ExplainsOrFails (way_cause e) (found r)) → IfSome known (λ r. AfterSearch {T = T} (Err e) (found r))
+pub search_failed : (T : Type 0) {A : Type 0} (known : Option NodeReads) (e : PlanFault) (found : NodeReads → Result (Option A) Broken) → OnlyReading e → IfSome known (λ r. ExplainsOrFails (way_cause e) (found r)) → IfSome known (λ r. AfterSearch {T = T} (Err e) (found r))
 search_failed T known e found only h = one known (λ r. ExplainsOrFails (way_cause e) (found r)) (λ r. AfterSearch {T = T} (Err e) (found r)) (λ r p. search_stopped T e (found r) only p) h
 
 found_as : {A : Type 0} (found : Result (Option A) Broken) (o p : Option A) → o ≡ p → found ≡ Ok o → found ≡ Ok p
 found_as found o p is h = subst (λ x. found ≡ Ok x) is h
 
-pub search_none : {A : Type 0} (known : Option Reads) (found : Reads → Result (Option A) Broken) (o : Option A) → o ≡ None → IfSome known (λ r. found r ≡ Ok o) → IfSome known (λ r. found r ≡ Ok None)
+pub search_none : {A : Type 0} (known : Option NodeReads) (found : NodeReads → Result (Option A) Broken) (o : Option A) → o ≡ None → IfSome known (λ r. found r ≡ Ok o) → IfSome known (λ r. found r ≡ Ok None)
 search_none known found o none h = one known (λ r. found r ≡ Ok o) (λ r. found r ≡ Ok None) (λ r is. found_as (found r) o None none is) h
 
 search_end : {T A : Type 0} (r : Result T PlanFault) (P : ℕ → Type 0) (found : Result (Option A) Broken) (p : A) → IfErr r (λ e. OnlyDeep e P) → found ≡ Ok (Some p) → AfterSearch r found
@@ -80,7 +81,7 @@ search_end (Err Absent) P found p deep is = absurd deep
 search_end (Err Failed) P found p deep is = absurd deep
 search_end (Err Memory) P found p deep is = tt
 
-pub search_some : {T A : Type 0} (known : Option Reads) (r : Result T PlanFault) (P : ℕ → Type 0) (found : Reads → Result (Option A) Broken) (o : Option A) (p : A) → o ≡ Some p → IfErr r (λ e. OnlyDeep e P) → IfSome known (λ x. found x ≡ Ok o) → IfSome known (λ x. AfterSearch r (found x))
+pub search_some : {T A : Type 0} (known : Option NodeReads) (r : Result T PlanFault) (P : ℕ → Type 0) (found : NodeReads → Result (Option A) Broken) (o : Option A) (p : A) → o ≡ Some p → IfErr r (λ e. OnlyDeep e P) → IfSome known (λ x. found x ≡ Ok o) → IfSome known (λ x. AfterSearch r (found x))
 search_some known r P found o p some deep h = one known (λ x. found x ≡ Ok o) (λ x. AfterSearch r (found x)) (λ x is. search_end r P (found x) p deep (found_as (found x) o (Some p) some is)) h
 
 -- ---- what is weaker
@@ -106,8 +107,8 @@ deeper (Err Memory) height P Q f p = tt
 
 -- ---- over nodes that may be known
 
-pub by_one : (known known' : Option Reads) (P R : Reads → Type 0) → known' ≡ known → ((r : Reads) → P r → R r) → IfSome known' P → IfSome known R
-by_one known known' P R same f p = one known P R f (subst (λ (o : Option Reads). IfSome o P) same p)
+pub by_one : (known known' : Option NodeReads) (P R : NodeReads → Type 0) → known' ≡ known → ((r : NodeReads) → P r → R r) → IfSome known' P → IfSome known R
+by_one known known' P R same f p = one known P R f (subst (λ (o : Option NodeReads). IfSome o P) same p)
 
-pub by_two : (known first second : Option Reads) (P Q R : Reads → Type 0) → first ≡ known → second ≡ known → ((r : Reads) → P r → Q r → R r) → IfSome first P → IfSome second Q → IfSome known R
-by_two known first second P Q R same same' f p q = both known P Q R f (subst (λ (o : Option Reads). IfSome o P) same p) (subst (λ (o : Option Reads). IfSome o Q) same' q)
+pub by_two : (known first second : Option NodeReads) (P Q R : NodeReads → Type 0) → first ≡ known → second ≡ known → ((r : NodeReads) → P r → Q r → R r) → IfSome first P → IfSome second Q → IfSome known R
+by_two known first second P Q R same same' f p q = both known P Q R f (subst (λ (o : Option NodeReads). IfSome o P) same p) (subst (λ (o : Option NodeReads). IfSome o Q) same' q)

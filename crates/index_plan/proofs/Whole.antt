@@ -2,12 +2,13 @@
 use Rattle.std.proofs.Common.{◌≡◌, ℕ, suc, ◌+◌, ◌≤◌, Bool, true, false, List, [], ◌∷◌, ◌++◌, Option, Some, None, refl, sym, ap, ◌∙◌, subst, arith, length, insert, if◌then◌else◌, ◌⊎◌, inl, inr}
 use Rattle.index_model.specs.declared.key.Key.{Key}
 use Rattle.record_model.specs.declared.entry.Entry.{Entry as Raw}
-use Rattle.index_model.specs.Trees.{Tree, Leaf, Down, Entry, DownEntry, raw, last_raw, walk, held, times, levels, raws_of, Stands}
+use Rattle.record_model.specs.Nodes.{last_entry}
+use Rattle.index_model.specs.Trees.{Tree, Leaf, Down, Entry, DownEntry, raw, walk, held, times, levels, raws_of, Stands}
 use Rattle.index_plan.specs.Paths.{Path, Here, Below as Deeper, Behind, subtree}
 use Rattle.index_plan.specs.Growth.{Grown, regrown, fits_in, Hook, Last, Inner, hang, vcn_of, across, fronted}
 use Rattle.index_plan.specs.Takings.{Taken, Drawn, drawn, none_drawn, instead, key_of, plan_with, climbed, rooted_raws, removed, too_full, StartsWith, first_chain}
 use Rattle.index_plan.specs.Removal.{fresh_start, Removed, without_first}
-use Rattle.index_plan.specs.Search.{place_of, put, Rises}
+use Rattle.index_plan.specs.Search.{path_to, put, Rises}
 use Rattle.index_plan.specs.Plans.{Plan, Spot}
 use Rattle.index_plan.specs.Lists.{Rise, way, place, settle, rooted, rooted_by, topped, overfull, overfull_by}
 use Rattle.index_plan.specs.Laws.{NewTree, Once, inserted_by}
@@ -34,7 +35,7 @@ plan_of g = record { writes = g.writes; fresh = g.fresh }
 
 -- a node of one entry, which leads to another one
 abbrev OneEntry : List Raw → Type 0
-OneEntry root = (f : ℕ) × (root ≡ last_raw (Some f) ∷ [])
+OneEntry root = (f : ℕ) × (root ≡ last_entry (Some f) ∷ [])
 
 same_height : (nodes : Nodes) (t : Tree) (fresh : List ℕ) (keys : List Key) (freed : ℕ → ℕ) (g : Grown) (room : ℕ) (more : Bool) (root : List Raw) → root ≡ raws_of g.tree → (more ≡ false → (fits_in room root ≡ true) ⊎ (root ≡ raws_of t)) → (more ≡ true → 17 ≤ length fresh → OneEntry root) → Below nodes t fresh keys freed g → NewTree nodes t fresh keys freed room more (record { root = root; plan = plan_of g })
 same_height nodes t fresh keys freed g room more root is fit one b = record {
@@ -86,15 +87,15 @@ pub whole : (nodes : Nodes) (t : Tree) (fresh : List ℕ) (keys : List Key) (fre
 unfolding rooted overfull
 whole nodes t fresh keys freed g room at r m b = subst (λ (p : Plan). NewTree nodes t fresh keys freed room (overfull_by room (raws_of t) at r.pending) (rooted_by room (raws_of t) at p r.pending)) (sym m.plan) (with_root nodes t fresh keys freed g room at r.pending m.takes b)
 
-pub insert_law : (nodes : Nodes) (goes : Key → Bool) (new : Key) (fresh : List ℕ) (t : Tree) (room : ℕ) → Stands nodes t → Once t fresh → Rises goes (walk t) → levels t ≤ 16 → Whole nodes t fresh (put goes new (walk t)) (λ x. 0) room (place (place_of goes t)) (inserted_by (place_of goes t) new fresh t)
+pub insert_law : (nodes : Nodes) (goes : Key → Bool) (new : Key) (fresh : List ℕ) (t : Tree) (room : ℕ) → Stands nodes t → Once t fresh → Rises goes (walk t) → levels t ≤ 16 → Whole nodes t fresh (put goes new (walk t)) (λ x. 0) room (place (path_to goes t)) (inserted_by (path_to goes t) new fresh t)
 insert_law nodes goes new fresh t room st once rises low =
     let i = insertion nodes goes new fresh t st once rises in
-    let g : Grown = regrown (place_of goes t) (fresh_start (Entry new i.0) fresh) t in
-    whole nodes t fresh (put goes new (walk t)) (λ x. 0) g room (place (place_of goes t)) (inserted_by (place_of goes t) new fresh t) (mirrors (place_of goes t) new fresh t i.0 i.1) (record {
+    let g : Grown = regrown (path_to goes t) (fresh_start (Entry new i.0) fresh) t in
+    whole nodes t fresh (put goes new (walk t)) (λ x. 0) g room (place (path_to goes t)) (inserted_by (path_to goes t) new fresh t) (mirrors (path_to goes t) new fresh t i.0 i.1) (record {
       walked = i.2.keys;
       sound = i.2.meets.sound;
       numbers = i.2.meets.numbers;
-      placed = regrown_placed (place_of goes t) (fresh_start (Entry new i.0) fresh) t (λ x. omega arith);
+      placed = regrown_placed (path_to goes t) (fresh_start (Entry new i.0) fresh) t (λ x. omega arith);
       height = i.2.meets.height;
       written = let w = i.2.meets.written in omega arith;
       taken = let w = i.2.meets.taken in omega arith;

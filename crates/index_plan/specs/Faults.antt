@@ -1,12 +1,12 @@
 -- Why no plan is made.
 use Rattle.std.specs.Prelude.{◌≡◌, ℕ, ◌≤◌, Option, Some, None, Result, Ok, Err, nat_eq, if◌then◌else◌}
+use Rattle.index_model.specs.Walks.{Broken}
 use Rattle.host_base.specs.Answers.{Cause, refused, no_memory, failed, never}
 use Rattle.host_base.specs.Causes.{Counts}
 use Rattle.index_plan.specs.declared.fault.PlanFault.{PlanFault}
 use Rattle.index_plan.specs.declared.fault.PlanFault.TheVariants.{Node, Absent, Deep, Failed, Memory}
 use Rattle.index_plan.specs.declared.fault.ReadFault.{ReadFault}
 use Rattle.index_plan.specs.declared.fault.ReadFault.TheVariants as reading
-use Rattle.index_plan.specs.Reading.{Broken}
 
 -- of a call that reads one node: a refusal is the rule that it breaks
 abbrev pub read_cause : ReadFault → Cause ℕ

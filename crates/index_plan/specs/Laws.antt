@@ -3,18 +3,18 @@ use Rattle.std.specs.Prelude.{◌≡◌, ◌⊎◌, ℕ, ◌+◌, ◌≤◌, ◌
 use Rattle.index_model.specs.declared.key.Key.{Key}
 use Rattle.record_model.specs.declared.entry.Entry.{Entry as Raw}
 use Rattle.index_plan.specs.declared.plan.Rooted.{Rooted}
-use Rattle.index_model.specs.Trees.{Tree, raw, last_raw, walk, times, held, levels, one_if, raws_of, Stands}
+use Rattle.index_model.specs.Trees.{Tree, raw, walk, times, held, levels, one_if, raws_of, Stands}
 use Rattle.index_plan.specs.Paths.{over, written_vcns, Path, subtree, graft}
 use Rattle.index_plan.specs.Growth.{Grown, regrown, fits_in}
-use Rattle.index_plan.specs.Search.{place_of, put, Rises}
+use Rattle.index_plan.specs.Search.{path_to, put, Rises}
 use Rattle.index_plan.specs.Takings.{drawn, none_drawn, plan_with, key_of, removed, too_full, StartsWith, first_chain}
-use Rattle.index_plan.specs.declared.side.Side.{Side}
-use Rattle.index_plan.specs.declared.side.Side.TheVariants as sides
+use Rattle.index_plan.specs.declared.side.KeySide.{KeySide}
+use Rattle.index_plan.specs.declared.side.KeySide.TheVariants as sides
 use Rattle.index_plan.specs.declared.place.Place.{Place}
-use Rattle.record_model.specs.Nodes.{entries_length}
+use Rattle.record_model.specs.Nodes.{entries_length, last_entry}
 use Rattle.index_plan.specs.declared.write.Write.{Write}
 use Rattle.index_plan.specs.Plans.{Plan, Spot}
-use Rattle.index_plan.specs.Reading.{Reads, first_stop, way_of}
+use Rattle.index_plan.specs.Reading.{NodeReads, first_stop, way_of}
 use Rattle.index_plan.specs.Room.{tight_count, EachSpotSized, EachNodeSized}
 use Rattle.index_plan.specs.Seeking.{InOrder, NoneHere, seek_of}
 use Rattle.index_plan.specs.Lists.{Rise, rise, way, place, rooted, overfull}
@@ -39,7 +39,7 @@ pub record NewTree (nodes : ℕ → Option (List Raw)) (t : Tree) (fresh : List 
   pub placed : (x : ℕ) → times x (written_vcns r.plan.writes) ≤ held x tree
   pub height : levels tree ≤ levels t + one_if more
   pub has_room : more ≡ false → (fits_in room r.root ≡ true) ⊎ (r.root ≡ raws_of t)
-  pub one_entry : more ≡ true → 17 ≤ length fresh → (f : ℕ) × (r.root ≡ last_raw (Some f) ∷ [])
+  pub one_entry : more ≡ true → 17 ≤ length fresh → (f : ℕ) × (r.root ≡ last_entry (Some f) ∷ [])
   pub written : length r.plan.writes ≤ 33
   pub taken : length fresh ≤ length r.plan.fresh + 17
 
@@ -53,7 +53,7 @@ inserted_by p new fresh t = rise (way p t) (record { pending = Some (raw new Non
 abbrev pub InsertLaw : Type 0
 InsertLaw = (nodes : ℕ → Option (List Raw)) (goes : Key → Bool) (new : Key) (fresh : List ℕ) (t : Tree) (room : ℕ)
     → Stands nodes t → Once t fresh → Rises goes (walk t) → levels t ≤ 16
-    → let p = place_of goes t in
+    → let p = path_to goes t in
     let r = inserted_by p new fresh t in
     NewTree nodes t fresh (put goes new (walk t)) (λ x. 0) room (overfull room (raws_of t) (place p) r) (rooted room (raws_of t) (place p) r)
 
@@ -69,11 +69,11 @@ RemoveLaw = (nodes : ℕ → Option (List Raw)) (k : Key) (fresh : List ℕ) (p 
 -- of each index that the nodes stand for, the plan makes the index with one key more
 abbrev pub InsertsInto : (ℕ → Option (List Raw)) → (Key → Bool) → Key → List ℕ → List Raw → ℕ → Rooted → Type 0
 InsertsInto nodes goes new fresh root room planned = (t : Tree) → root ≡ raws_of t → Stands nodes t → Once t fresh → Rises goes (walk t) → levels t ≤ 16
-    → NewTree nodes t fresh (put goes new (walk t)) (λ x. 0) room (overfull room (raws_of t) (place (place_of goes t)) (inserted_by (place_of goes t) new fresh t)) planned
+    → NewTree nodes t fresh (put goes new (walk t)) (λ x. 0) room (overfull room (raws_of t) (place (path_to goes t)) (inserted_by (path_to goes t) new fresh t)) planned
 
 -- what follows of each index that the nodes stand for from whether one key more needs a level
 abbrev pub AsLevel : (ℕ → Option (List Raw)) → (Key → Bool) → Key → List ℕ → List Raw → ℕ → (Bool → Type 0) → Type 0
-AsLevel nodes goes new fresh root room P = (t : Tree) → root ≡ raws_of t → Stands nodes t → levels t ≤ 16 → P (overfull room (raws_of t) (place (place_of goes t)) (inserted_by (place_of goes t) new fresh t))
+AsLevel nodes goes new fresh root room P = (t : Tree) → root ≡ raws_of t → Stands nodes t → levels t ≤ 16 → P (overfull room (raws_of t) (place (path_to goes t)) (inserted_by (path_to goes t) new fresh t))
 
 -- the index has no room for one key more unless it gets a level
 abbrev pub NeedsLevel : (ℕ → Option (List Raw)) → (Key → Bool) → Key → List ℕ → List Raw → ℕ → Type 0
@@ -84,14 +84,14 @@ abbrev pub LevelFits : (ℕ → Option (List Raw)) → (Key → Bool) → Key �
 LevelFits nodes goes new fresh root room height = AsLevel nodes goes new fresh root room (λ more. IsTrue more → height < 16)
 
 -- a fresh block is taken only for a node on the way that had fewer than 600 free bytes, or for the level
-abbrev pub TakesFew : Reads → (Key → Bool) → Key → Plan → List Raw → ℕ → Rooted → Type 0
+abbrev pub TakesFew : NodeReads → (Key → Bool) → Key → Plan → List Raw → ℕ → Rooted → Type 0
 TakesFew reads goes new plan root room planned = (path : List Spot) → way_of reads goes root ≡ Ok path
     → length plan.fresh ≤ length planned.plan.fresh + tight_count path + one_if (overfull room root (first_stop goes root) (rise path (record { pending = Some (raw new None); plan = plan })))
 
 -- ---- removal
 
 -- an entry of the index with a key that is looked for
-pub record Sought (side : Key → Side) (t : Tree) : Type 0 where
+pub record Sought (side : Key → KeySide) (t : Tree) : Type 0 where
   pub key : Key
   pub here : side key ≡ sides.Here
   pub way_to : Path
@@ -106,7 +106,7 @@ full_without room t p part fresh =
     too_full room (raws_of t) (place p) (way p t) (key_of d.taken) (plan_with (record { writes = []; fresh = fresh }) d.taken)
 
 -- the index without that entry; a level more comes only to one that has fewer than sixteen
-pub record TakesOut (nodes : ℕ → Option (List Raw)) (side : Key → Side) (fresh : List ℕ) (t : Tree) (room height : ℕ) (planned : Rooted) (freed : List ℕ) : Type 0 where
+pub record TakesOut (nodes : ℕ → Option (List Raw)) (side : Key → KeySide) (fresh : List ℕ) (t : Tree) (room height : ℕ) (planned : Rooted) (freed : List ℕ) : Type 0 where
   pub sought : Sought side t
   pub before : List Key
   pub behind : List Key
@@ -115,18 +115,18 @@ pub record TakesOut (nodes : ℕ → Option (List Raw)) (side : Key → Side) (f
   pub level : IsTrue (full_without room t sought.way_to sought.part fresh) → height < 16
 
 -- of each index that the nodes stand for, the plan makes the index without one key
-abbrev pub RemovesFrom : (ℕ → Option (List Raw)) → (Key → Side) → List ℕ → List Raw → ℕ → ℕ → Rooted → List ℕ → Type 0
+abbrev pub RemovesFrom : (ℕ → Option (List Raw)) → (Key → KeySide) → List ℕ → List Raw → ℕ → ℕ → Rooted → List ℕ → Type 0
 RemovesFrom nodes side fresh root room height planned freed = (t : Tree) → root ≡ raws_of t → Stands nodes t → Once t fresh → levels t ≤ 16 → TakesOut nodes side fresh t room height planned freed
 
 -- without the key, the root of each index that the nodes stand for has no room for its entries
-abbrev pub NeedsLevelWithout : (ℕ → Option (List Raw)) → (Key → Side) → List ℕ → List Raw → ℕ → Type 0
+abbrev pub NeedsLevelWithout : (ℕ → Option (List Raw)) → (Key → KeySide) → List ℕ → List Raw → ℕ → Type 0
 NeedsLevelWithout nodes side fresh root room = (t : Tree) → root ≡ raws_of t → Stands nodes t → levels t ≤ 16 → (s : Sought side t) × IsTrue (full_without room t s.way_to s.part fresh)
 
 -- no index that the nodes stand for has the key
-abbrev pub HasNone : (ℕ → Option (List Raw)) → (Key → Side) → List Raw → Type 0
+abbrev pub HasNone : (ℕ → Option (List Raw)) → (Key → KeySide) → List Raw → Type 0
 HasNone nodes side root = (t : Tree) → root ≡ raws_of t → Stands nodes t → levels t ≤ 16 → InOrder side (walk t) → NoneHere side (walk t)
 
-abbrev pub TakesFewOut : Reads → (Key → Side) → Plan → List Raw → ℕ → Rooted → Type 0
+abbrev pub TakesFewOut : NodeReads → (Key → KeySide) → Plan → List Raw → ℕ → Rooted → Type 0
 TakesFewOut reads side plan root room planned = (p : Place) → seek_of reads side root ≡ Ok (Some p)
     → let d = drawn none_drawn p.trail.chain in
     length plan.fresh ≤ length planned.plan.fresh + tight_count p.trail.path + one_if (too_full room root p.at p.trail.path (key_of d.taken) (plan_with plan d.taken))

@@ -1,11 +1,12 @@
 -- The plan as the code makes it: nodes as lists of entries, the way as a list of frames.
 use Rattle.std.specs.Prelude.{ℕ, suc, ◌+◌, Bool, true, false, List, [], ◌∷◌, ◌++◌, Option, Some, None, nat_lt, take, drop, insert, length, slice_index_or, if◌then◌else◌}
 use Rattle.record_model.specs.declared.entry.Entry.{Entry as Raw}
+use Rattle.record_model.specs.Nodes.{last_entry}
 use Rattle.index_plan.specs.declared.write.Write.{Write}
 use Rattle.index_plan.specs.declared.plan.Rooted.{Rooted}
 use Rattle.index_plan.specs.Plans.{Plan, Spot}
 use Rattle.index_model.specs.declared.key.Key.{Key}
-use Rattle.index_model.specs.Trees.{raw, last_raw, raws_of, Tree, Leaf, Down, Entry, DownEntry}
+use Rattle.index_model.specs.Trees.{raw, raws_of, Tree, Leaf, Down, Entry, DownEntry}
 use Rattle.index_plan.specs.Paths.{Path, Here, Below, Behind}
 use Rattle.index_plan.specs.Growth.{fits, fits_in, middle}
 
@@ -20,11 +21,11 @@ own_key r = record { child = r.child; value = r.key }
 
 -- the entry at i
 abbrev pub entry_at : ℕ → List Raw → Raw
-entry_at i raws = slice_index_or raws i (last_raw None)
+entry_at i raws = slice_index_or raws i (last_entry None)
 
 -- the entries before i, with what hangs below the entry at i below the last one
 abbrev pub left_of : ℕ → List Raw → List Raw
-left_of i raws = take i raws ++ last_raw (entry_at i raws).down ∷ []
+left_of i raws = take i raws ++ last_entry (entry_at i raws).down ∷ []
 
 abbrev pub written : ℕ → List Raw → Plan → Rise
 written v raws plan = record { pending = None; plan = record { writes = record { vcn = v; entries = raws } ∷ plan.writes; fresh = plan.fresh } }
@@ -89,7 +90,7 @@ way (Behind p) (DownEntry v t key rest) = way p rest
 
 abbrev pub topped : List Raw → Plan → List ℕ → Rooted
 topped raws plan [] = record { root = raws; plan = plan }
-topped raws plan (f ∷ fresh) = record { root = last_raw (Some f) ∷ []; plan = record { writes = record { vcn = f; entries = raws } ∷ plan.writes; fresh = fresh } }
+topped raws plan (f ∷ fresh) = record { root = last_entry (Some f) ∷ []; plan = record { writes = record { vcn = f; entries = raws } ∷ plan.writes; fresh = fresh } }
 
 -- a level more, exactly where the root's entries don't fit its room
 abbrev pub rooted_by : ℕ → List Raw → ℕ → Plan → Option Raw → Rooted

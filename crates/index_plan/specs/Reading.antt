@@ -3,26 +3,22 @@ use Rattle.std.specs.Prelude.{ℕ, zero, suc, Bool, List, [], ◌∷◌, ◌++�
 use Rattle.host_base.specs.Answers.{◌>>=◌}
 use Rattle.record_model.specs.declared.entry.Entry.{Entry as Raw}
 use Rattle.index_model.specs.declared.key.Key.{Key}
+use Rattle.index_model.specs.Walks.{Broken, root_vcn}
 use Rattle.index_plan.specs.Plans.{Spot}
 use Rattle.index_plan.specs.Lists.{entry_at, own_key}
 
 -- ---- nodes that are read
 
 -- the entries of the node under a VCN, or the rule of index nodes that it breaks: 7 where there is no block with this VCN
-abbrev pub Reads : Type 0
-Reads = ℕ → Result (List Raw) ℕ
+abbrev pub NodeReads : Type 0
+NodeReads = ℕ → Result (List Raw) ℕ
 
 abbrev pub node_of : Result (List Raw) ℕ → Option (List Raw)
 node_of (Ok raws) = Some raws
 node_of (Err rule) = None
 
-abbrev pub nodes_of : Reads → ℕ → Option (List Raw)
+abbrev pub nodes_of : NodeReads → ℕ → Option (List Raw)
 nodes_of reads v = node_of (reads v)
-
--- a node that breaks a rule
-pub record Broken : Type 0 where
-  pub vcn : ℕ
-  pub rule : ℕ
 
 -- a node that leads to no block breaks rule 7
 abbrev pub blamed : ℕ → ℕ → ℕ → Broken
@@ -36,10 +32,6 @@ read_by above v (Err rule) = Err (blamed above v rule)
 -- a node that leads below the sixteenth level
 abbrev pub too_low : ℕ → Broken
 too_low above = record { vcn = above; rule = 7 }
-
--- what stands for a VCN where the root is meant
-abbrev pub root_vcn : ℕ
-root_vcn = 18446744073709551615
 
 -- ---- the way
 
@@ -57,7 +49,7 @@ abbrev pub stop_down : (Key → Bool) → List Raw → Option ℕ
 stop_down goes raws = (entry_at (first_stop goes raws) raws).down
 
 -- the nodes on the way from here on, on so many levels at most; or the first of them that breaks a rule
-abbrev pub way_down : Reads → (Key → Bool) → ℕ → ℕ → Option ℕ → Result (List Spot) Broken
+abbrev pub way_down : NodeReads → (Key → Bool) → ℕ → ℕ → Option ℕ → Result (List Spot) Broken
 way_down reads goes n above None = Ok []
 way_down reads goes zero above (Some v) = Err (too_low above)
 way_down reads goes (suc n) above (Some v) =
@@ -66,7 +58,7 @@ way_down reads goes (suc n) above (Some v) =
     Ok (record { vcn = v; node = node; at = first_stop goes node } ∷ spots)
 
 -- the nodes on the way below the root
-abbrev pub way_of : Reads → (Key → Bool) → List Raw → Result (List Spot) Broken
+abbrev pub way_of : NodeReads → (Key → Bool) → List Raw → Result (List Spot) Broken
 way_of reads goes root = way_down reads goes 15 root_vcn (stop_down goes root)
 
 abbrev pub with_front : List Spot → Result (List Spot) Broken → Result (List Spot) Broken

@@ -5,11 +5,11 @@ use Rattle.index_model.specs.Trees.{Tree, Leaf, Down, Entry, DownEntry}
 use Rattle.index_plan.specs.Paths.{Path, Here, Below, Behind}
 
 -- the way to the place before the first key that the new one goes before
-abbrev pub place_of : (Key → Bool) → Tree → Path
-place_of goes Leaf = Here
-place_of goes (Down v t) = Below (place_of goes t)
-place_of goes (Entry key rest) = if goes key then Here else Behind (place_of goes rest)
-place_of goes (DownEntry v t key rest) = if goes key then Below (place_of goes t) else Behind (place_of goes rest)
+abbrev pub path_to : (Key → Bool) → Tree → Path
+path_to goes Leaf = Here
+path_to goes (Down v t) = Below (path_to goes t)
+path_to goes (Entry key rest) = if goes key then Here else Behind (path_to goes rest)
+path_to goes (DownEntry v t key rest) = if goes key then Below (path_to goes t) else Behind (path_to goes rest)
 
 -- a key put into a list before the first one that it goes before
 abbrev pub put : (Key → Bool) → Key → List Key → List Key

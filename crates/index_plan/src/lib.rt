@@ -33,5 +33,5 @@ pub use nodes::Nodes;
 pub use numbers::Numbers;
 pub use plan::Rooted;
 pub use removal::plan_remove;
-pub use side::{Side, Target};
+pub use side::{KeySide, Target};
 pub use write::Write;

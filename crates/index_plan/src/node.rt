@@ -1,14 +1,12 @@
 ghost use Rattle.std.specs.Prelude.{true, false, ◌≡◌, ◌↔◌, ◌+◌, ◌<◌, ◌≤◌, ◌∷◌, [], OnOk, IfOk, length, drop};
-ghost use Rattle.record_model.specs.Nodes.{entry_length};
-ghost use Rattle.index_model.specs.Trees.{last_raw};
+ghost use Rattle.record_model.specs.Nodes.{entry_length, last_entry};
 ghost use Rattle.index_plan.specs.Growth.{fits, fits_in, middle, within};
 ghost use Rattle.index_plan.specs.Lists.{entry_at, left_of, own_key};
 ghost use Rattle.index_plan.specs.Room.{HasKeys, IsShort, Sized};
 ghost use Rattle.index_plan.specs.Takings.{instead};
 
-use host_base::{Bytes, FileRef};
 use index_model::Key;
-use record_model::{Entry, EntryList};
+use record_model::{Entry, EntryList, last_entry};
 use std::alloc::{AllocError, Global};
 
 // Nodes as lists of entries: how many bytes they take, and the edits of one node.
@@ -61,19 +59,9 @@ fn count_within(entries: &[Entry], room: usize) -> usize
     entries.len()
 }
 
-fn last_entry(alloc: Global, down: Option<u64>) -> Entry
-    ensures { result ≡ last_raw down }
-{
-    Entry {
-        child: FileRef { number: 0, seq: 0 },
-        key: Bytes::new(alloc),
-        down,
-    }
-}
-
 /// A node of one last entry with this child. The error is want of memory.
 pub fn last_node(alloc: Global, down: Option<u64>) -> Result<EntryList, AllocError>
-    ensures { IfOk result (λ node. node ≡ last_raw down ∷ []) }
+    ensures { IfOk result (λ node. node ≡ last_entry down ∷ []) }
 {
     let mut node = EntryList::new(alloc);
     node.push(last_entry(alloc, down))?;

@@ -11,10 +11,10 @@ use std::alloc::Global;
 /// The nodes of an index below its root, by VCN.
 pub trait Nodes {
     ghost use Rattle.std.specs.Prelude.{ℕ, Option};
-    ghost use Rattle.index_plan.specs.Reading.{Reads};
+    ghost use Rattle.index_plan.specs.Reading.{NodeReads};
 
     /// The entries of each node, or the rule that it breaks, where they are known.
-    ghost reads: { Self → Option Reads };
+    ghost reads: { Self → Option NodeReads };
 
     /// How often a node could not be read; this never falls.
     ghost faults: { Self → ℕ };

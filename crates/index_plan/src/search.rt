@@ -12,7 +12,7 @@ use crate::look::Look;
 use crate::node::down_at;
 use crate::nodes::{Nodes, read_below};
 use crate::place::Place;
-use crate::side::{Side, Target};
+use crate::side::{KeySide, Target};
 use crate::trail::Trail;
 use crate::write::Write;
 use record_model::EntryList;
@@ -79,12 +79,12 @@ fn chain<N: Nodes>(
 }
 
 // Where the key stands against the entry at `at`; on either side of the last one.
-fn side_at<T: Target>(target: &T, node: &EntryList, at: usize) -> Side
+fn side_at<T: Target>(target: &T, node: &EntryList, at: usize) -> KeySide
     requires { at < length node.now }
     ensures { result ≡ side_of (T.side target.now) (entry_at at node.now) (drop (at + 1) node.now) }
 {
     if at == node.len() - 1 {
-        return Side::Beside;
+        return KeySide::Beside;
     }
     target.side(&node.as_slice()[at])
 }
@@ -93,7 +93,7 @@ fn side_at<T: Target>(target: &T, node: &EntryList, at: usize) -> Side
 fn own_look<N: Nodes>(
     nodes: &mut N,
     alloc: Global,
-    side: Side,
+    side: KeySide,
     vcn: u64,
     down: Option<u64>,
     levels: u32,
@@ -105,13 +105,13 @@ fn own_look<N: Nodes>(
     ensures cause { Fails (N.faults nodes.old) (N.faults nodes.new) result }
 {
     match side {
-        Side::Behind => Ok(Look::On),
-        Side::Beside => Ok(Look::On),
-        Side::Here => {
+        KeySide::Behind => Ok(Look::On),
+        KeySide::Beside => Ok(Look::On),
+        KeySide::Here => {
             let chain = chain(nodes, alloc, vcn, down, levels)?;
             Ok(Look::Found(Trail::new(alloc, chain)))
         }
-        Side::Before => Ok(Look::Stop),
+        KeySide::Before => Ok(Look::Stop),
     }
 }
 

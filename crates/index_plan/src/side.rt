@@ -6,7 +6,7 @@ use record_model::Entry;
 
 /// Where a key that is looked for stands against the key of an entry.
 #[derive(Clone, Copy, Debug, PartialEq, Eq)]
-pub enum Side {
+pub enum KeySide {
     /// Behind it.
     Behind,
     /// On either side: the names are the same.
@@ -17,16 +17,16 @@ pub enum Side {
     Before,
 }
 
-impl Side {
+impl KeySide {
     /// Whether the key stands behind that of the entry.
     pub fn is_behind(self) -> bool
         ensures { result ≡ is_behind self }
     {
         match self {
-            Side::Behind => true,
-            Side::Beside => false,
-            Side::Here => false,
-            Side::Before => false,
+            KeySide::Behind => true,
+            KeySide::Beside => false,
+            KeySide::Here => false,
+            KeySide::Before => false,
         }
     }
 }
@@ -34,10 +34,10 @@ impl Side {
 /// A key that is looked for.
 pub trait Target {
     ghost use Rattle.index_model.specs.declared.key.Key.{Key};
-    ghost use Rattle.index_plan.specs.declared.side.Side.{Side};
+    ghost use Rattle.index_plan.specs.declared.side.KeySide.{KeySide};
 
-    ghost side: { Self → Key → Side };
+    ghost side: { Self → Key → KeySide };
 
-    fn side(&self, entry: &Entry) -> Side
+    fn side(&self, entry: &Entry) -> KeySide
         ensures { result ≡ side self.now (own_key entry.now) };
 }

@@ -3,8 +3,7 @@ use Rattle.std.proofs.Common.{◌≡◌, ◌∙◌, ℕ, zero, suc, ◌+◌, ◌
 use Rattle.std.proofs.lemmas.List.Elements.{All-from_get_or}
 use Rattle.std.proofs.lemmas.List.{get_or_default}
 use Rattle.record_model.specs.declared.entry.Entry.{Entry}
-use Rattle.record_model.specs.Nodes.{FitEntries, FitsEntry, FitsLast}
-use Rattle.index_node.specs.Edits.{last_entry}
+use Rattle.record_model.specs.Nodes.{FitEntries, FitsEntry, FitsLast, last_entry}
 
 -- the entry at a place
 abbrev pub at_place : ℕ → List Entry → Entry

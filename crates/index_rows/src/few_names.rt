@@ -4,10 +4,10 @@ ghost use Rattle.std.specs.Prelude.{◌≡◌, length, IfOk};
 ghost use Rattle.disk_model.specs.declared.block.BlockKind.TheVariants.{Index as index_block};
 
 use block_view::{Block, BlockKind, Held, MemoryView};
+use file_tree::LinkList;
 use host_base::Bytes;
 use index_tree::DirPlace;
 use std::alloc::{AllocError, Global};
-use tree_model::LinkList;
 
 /// The byte of a child that says that there is none.
 pub const NO: u8 = 0xff;

@@ -1,10 +1,10 @@
 //! Walks over an index and searches in it.
 use crate::few_names::{self, Key, NO, Part, Spot, files};
 use block_view::MemoryView;
+use file_tree::LinkList;
 use index_tree::{DirPlace, TreeFault, ViewFault, find, walk};
 use std::alloc::{AllocError, Global};
 use std::test::Fail;
-use tree_model::LinkList;
 use upcase_order::Upcase;
 use utf16_name::Name;
 

@@ -5,7 +5,7 @@ use Rattle.std.specs.List.{filter}
 use Rattle.host_base.specs.Answers.{GivesOrFails}
 use Rattle.host_base.proofs.Known.{one}
 use Rattle.disk_model.specs.Content.{Content}
-use Rattle.tree_model.specs.declared.link.Link.{Link}
+use Rattle.file_tree.specs.declared.link.Link.{Link}
 use Rattle.index_model.specs.Trees.{walk}
 use Rattle.index_model.specs.Indexes.{Place, links_of}
 use Rattle.index_model.specs.Walks.{Broken, walk_of, find_of}

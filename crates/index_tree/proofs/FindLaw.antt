@@ -7,9 +7,10 @@ use Rattle.std.proofs.lemmas.List.Elements.{filter-append, filter_map-append}
 use Rattle.host_base.specs.Answers.{◌>>=◌}
 use Rattle.disk_model.specs.Content.{Content}
 use Rattle.record_model.specs.declared.entry.Entry.{Entry as Raw}
-use Rattle.tree_model.specs.declared.link.Link.{Link}
-use Rattle.tree_model.specs.Names.{comes_before}
-use Rattle.index_model.specs.Trees.{Tree, Leaf, Down, Entry, DownEntry, walk, one_if, same, held, levels as height, raw, last_raw, raws_of, Stands}
+use Rattle.record_model.specs.Nodes.{last_entry}
+use Rattle.file_tree.specs.declared.link.Link.{Link}
+use Rattle.file_tree.specs.Names.{comes_before}
+use Rattle.index_model.specs.Trees.{Tree, Leaf, Down, Entry, DownEntry, walk, one_if, same, held, levels as height, raw, raws_of, Stands}
 use Rattle.index_model.specs.Indexes.{Place, some_entries, node_of_block, nodes_of, entry_link, key_link, links_of, rises}
 use Rattle.index_model.specs.Walks.{Broken, Event, Met, all_judged, is_fresh, with_mark, with_link, below, inside, entry_sought, behind, side_of, kid_sought, sought_in, met_from, nothing_met, root_vcn, find_of, side_by, Found}
 use Rattle.index_model.specs.Laws.{HoldsIndex}
@@ -79,10 +80,10 @@ by_link p upper name m child later xs ys None f g rise a b =
 by_link p upper name m child later xs ys (Some l) f g rise a b = by_side p upper name m child later xs ys l f g rise a b _ _ refl refl
 
 -- a last entry
-last_events : (upper name : List ℕ) (read : Reader) (levels v : ℕ) (down : Option ℕ) → sought_in upper name read levels v (last_raw down ∷ []) ≡ below (kid_sought upper name read levels v) down
+last_events : (upper name : List ℕ) (read : Reader) (levels v : ℕ) (down : Option ℕ) → sought_in upper name read levels v (last_entry down ∷ []) ≡ below (kid_sought upper name read levels v) down
 last_events upper name read levels v down =
     let child = below (kid_sought upper name read levels v) down in
-    sought_next upper name read levels v (last_raw down) []
+    sought_next upper name read levels v (last_entry down) []
     ∙ ap (λ o. entry_sought (side_of upper name o) o child ++ behind (side_of upper name o) (sought_in upper name read levels v [])) (last_link down)
     ∙ ap (λ l. (child ++ []) ++ l) (sought_end upper name read levels v)
     ∙ append-nil (child ++ []) ∙ append-nil child

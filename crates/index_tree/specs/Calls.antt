@@ -2,8 +2,8 @@
 use Rattle.std.specs.Prelude.{◌≡◌, ℕ, ⊤, Bool, List, Result, Ok, Err}
 use Rattle.std.specs.List.{filter}
 use Rattle.disk_model.specs.Content.{Content}
-use Rattle.tree_model.specs.declared.link.Link.{Link}
-use Rattle.tree_model.specs.Names.{same_name}
+use Rattle.file_tree.specs.declared.link.Link.{Link}
+use Rattle.file_tree.specs.Names.{same_name}
 use Rattle.index_model.specs.Trees.{Tree, walk}
 use Rattle.index_model.specs.Indexes.{Place, links_of}
 use Rattle.index_model.specs.Breaks.{BreaksWalk, BreaksSearch}

@@ -11,10 +11,10 @@ use crate::met::{Met, entry_link};
 use crate::nodes::{LEVELS_BELOW, ROOT_VCN, read_node, read_root};
 use crate::place::DirPlace;
 use block_view::View;
+use file_tree::{Link, LinkList};
 use index_model::Side;
 use record_model::Entry;
 use std::alloc::Global;
-use tree_model::{Link, LinkList};
 use upcase_order::Upcase;
 use utf16_name::Name;
 

@@ -7,12 +7,12 @@ ghost use Rattle.index_tree.specs.Faults.{tree_cause};
 
 use crate::fault::TreeFault;
 use crate::place::DirPlace;
+use file_tree::{Link, LinkList};
 use index_model::Side;
 use record_model::{Entry, FileNameValue, ValueFault};
 use std::alloc::{AllocError, Global};
 use std::marker::Model;
 use std_values::NamedValue;
-use tree_model::{Link, LinkList};
 use upcase_order::Upcase;
 
 /// What a walk has met so far: the links of keys, and a mark for each block that was met.
@@ -100,7 +100,7 @@ impl Met {
         ensures { Gives (λ _. self.new) tree_cause result (entered (place_of dir.now) self.old vcn child) }
     {
         let number = dir.number_of(child);
-        if dir.block_at(child).is_none() || self.marks.get(number).copied().unwrap_or(true) {
+        if dir.node_block(child).is_none() || self.marks.get(number).copied().unwrap_or(true) {
             return Err(TreeFault::Node { vcn, rule: 7 });
         }
         if let Some(mark) = self.marks.get_mut(number) {

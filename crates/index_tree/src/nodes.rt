@@ -2,7 +2,7 @@ ghost use Rattle.std.specs.Prelude.{◌≡◌, IfOk, IfSome, Ok, length};
 ghost use Rattle.host_base.specs.Answers.{Gives, GivesOrFails};
 ghost use Rattle.record_model.specs.Nodes.{node_at, root_at};
 ghost use Rattle.index_model.specs.Walks.{root_vcn};
-ghost use Rattle.index_model.specs.Indexes.{block_at, entries_in, is_index_body, node_of_body, node_of_block};
+ghost use Rattle.index_model.specs.Indexes.{node_block, entries_of_node, is_index_body, node_of_body, node_of_block};
 ghost use Rattle.index_tree.specs.Places.{place_of};
 ghost use Rattle.index_tree.specs.Faults.{tree_cause, FailsByView, FailsAsView, ViewOf, IsRead, StandsAt, broken_at};
 
@@ -57,7 +57,7 @@ fn read_body<V: View>(alloc: Global, v: &mut V, block: Block) -> Result<Body, Tr
 // The node of an index block's 4,096 bytes.
 fn node_of(alloc: Global, vcn: u64, body: &[u8]) -> Result<Node, TreeFault>
     requires { length body.now ≡ 4096 }
-    ensures value { Gives (λ n. n.entries) tree_cause result (broken_at vcn (entries_in (node_at body.now))) }
+    ensures value { Gives (λ n. n.entries) tree_cause result (broken_at vcn (entries_of_node (node_at body.now))) }
     ensures whole { IfOk result (λ n. node_at body.now ≡ Ok n) }
 {
     match Node::read(alloc, body) {
@@ -100,12 +100,12 @@ pub fn read_node<V: View>(
     vcn: u64,
 ) -> Result<Node, TreeFault>
     ensures value { IfSome (V.content v.old) (λ c. GivesOrFails (λ n. n.entries) tree_cause result (broken_at vcn (node_of_block c (place_of dir.now) vcn))) }
-    ensures whole { IfSome (V.content v.old) (λ c. IfOk result (StandsAt c (block_at (place_of dir.now) vcn))) }
+    ensures whole { IfSome (V.content v.old) (λ c. IfOk result (StandsAt c (node_block (place_of dir.now) vcn))) }
     ensures same { V.content v.new ≡ V.content v.old }
     ensures kept { V.kept v.new ≡ V.kept v.old }
     ensures cause { FailsByView (V.faults v.old) (V.faults v.new) result }
 {
-    let Some(block) = dir.block_at(vcn) else {
+    let Some(block) = dir.node_block(vcn) else {
         return Err(TreeFault::Node { vcn, rule: 7 });
     };
     let body = read_body(alloc, v, block)?;
@@ -139,7 +139,7 @@ pub fn node_if_any<V: View>(
     vcn: u64,
 ) -> Result<Option<Node>, ViewFault>
     ensures value { IfSome (V.content v.old) (λ c. IfOk result (IsRead (node_of_block c (place_of dir.now) vcn))) }
-    ensures whole { IfSome (V.content v.old) (λ c. IfOk result (λ node. IfSome node (StandsAt c (block_at (place_of dir.now) vcn)))) }
+    ensures whole { IfSome (V.content v.old) (λ c. IfOk result (λ node. IfSome node (StandsAt c (node_block (place_of dir.now) vcn)))) }
     ensures same { V.content v.new ≡ V.content v.old }
     ensures kept { V.kept v.new ≡ V.kept v.old }
     ensures cause { FailsAsView (V.faults v.old) (V.faults v.new) result }

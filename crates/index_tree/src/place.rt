@@ -1,5 +1,5 @@
 ghost use Rattle.std.specs.Prelude.{◌≡◌};
-ghost use Rattle.index_model.specs.Indexes.{number_of, block_at};
+ghost use Rattle.index_model.specs.Indexes.{number_of, node_block};
 ghost use Rattle.index_tree.specs.Places.{place_of};
 
 use block_view::Block;
@@ -31,9 +31,9 @@ impl DirPlace {
     }
 
     /// The block that has this VCN. There is none where the VCN lies outside the allocation.
-    #[tactic(auto, unfolding(index_model::specs::Indexes::block_at))]
-    pub fn block_at(&self, vcn: u64) -> Option<Block>
-        ensures { result ≡ block_at (place_of self.now) vcn }
+    #[tactic(auto, unfolding(index_model::specs::Indexes::node_block))]
+    pub fn node_block(&self, vcn: u64) -> Option<Block>
+        ensures { result ≡ node_block (place_of self.now) vcn }
     {
         if self.step == 0 || vcn % self.step != 0 {
             return None;

@@ -11,9 +11,9 @@ use crate::met::{Met, entry_link};
 use crate::nodes::{LEVELS_BELOW, ROOT_VCN, read_node, read_root};
 use crate::place::DirPlace;
 use block_view::View;
+use file_tree::LinkList;
 use record_model::Entry;
 use std::alloc::Global;
-use tree_model::LinkList;
 use upcase_order::Upcase;
 
 // What a walk goes over.

@@ -9,7 +9,7 @@ use Rattle.host_base.specs.Answers.{◌>>=◌, needs}
 use Rattle.disk_model.specs.Numbers.{field}
 use Rattle.disk_model.specs.Bytes.{AreBytes}
 use Rattle.disk_model.proofs.Fields.{AreBytes-drop}
-use Rattle.tree_model.specs.declared.journal.Usn.{Usn}
+use Rattle.file_tree.specs.declared.journal.Usn.{Usn}
 use Rattle.journal_model.specs.declared.fault.UsnFault.{UsnFault}
 use Rattle.journal_model.specs.UsnRecords.{page_size, is_whole, all_zeros, usn_in, BeginsRecord}
 use Rattle.journal_model.specs.Pages.{with_entry, records_of, ends_in_record, Piece, StandFrom, piece_bytes, AreRecords}

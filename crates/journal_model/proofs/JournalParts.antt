@@ -6,7 +6,7 @@ use Rattle.std.proofs.lemmas.List.{map-append, append-nil, get_or_past}
 use Rattle.std.proofs.lemmas.List.FromFn.{get_or-map-range_with_len, length-map-range_with_len}
 use Rattle.host_base.specs.Answers.{◌>>=◌}
 use Rattle.disk_model.specs.Bytes.{AreBytes, zeros}
-use Rattle.tree_model.specs.declared.journal.Usn.{Usn}
+use Rattle.file_tree.specs.declared.journal.Usn.{Usn}
 use Rattle.journal_model.specs.declared.fault.UsnFault.{UsnFault}
 use Rattle.journal_model.specs.UsnRecords.{page_size, all_zeros}
 use Rattle.journal_model.specs.Pages.{records_of}

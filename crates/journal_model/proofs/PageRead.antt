@@ -9,7 +9,7 @@ use Rattle.disk_model.specs.Numbers.{field}
 use Rattle.disk_model.specs.Bytes.{AreBytes, zeros}
 use Rattle.disk_model.proofs.Fields.{field_same, AreBytes-drop}
 use Rattle.record_model.proofs.Pieces.{AreBytes-take}
-use Rattle.tree_model.specs.declared.journal.Usn.{Usn}
+use Rattle.file_tree.specs.declared.journal.Usn.{Usn}
 use Rattle.journal_model.specs.declared.fault.UsnFault.{UsnFault}
 use Rattle.journal_model.specs.UsnRecords.{page_size, page_rest, all_zeros, usn_in, IsRecord, BeginsRecord}
 use Rattle.journal_model.specs.Pages.{with_entry, records_in, records_of, page_records, Piece, StandFrom, piece_bytes, piece_entries, HasRecords, HasFault}

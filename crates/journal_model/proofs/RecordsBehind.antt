@@ -4,7 +4,7 @@ use Rattle.std.proofs.lemmas.List.{append-nil, length-append, replicate-append-r
 use Rattle.std.proofs.lemmas.List.Elements.{filter_map-append}
 use Rattle.host_base.specs.Answers.{◌>>=◌}
 use Rattle.disk_model.specs.Bytes.{AreBytes, zeros}
-use Rattle.tree_model.specs.declared.journal.Usn.{Usn}
+use Rattle.file_tree.specs.declared.journal.Usn.{Usn}
 use Rattle.journal_model.specs.declared.fault.UsnFault.{UsnFault}
 use Rattle.journal_model.specs.UsnRecords.{usn_spelling, FitsUsn}
 use Rattle.journal_model.specs.Pages.{with_entry, records_of, Piece, StandFrom, piece_bytes, piece_entries, HasRecords, AreRecords}

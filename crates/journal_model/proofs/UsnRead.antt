@@ -18,7 +18,7 @@ use Rattle.record_model.specs.Attributes.{units_at}
 use Rattle.record_model.proofs.Attributes.{length-units_at}
 use Rattle.record_model.proofs.FileNames.{name-of_ok}
 use Rattle.record_model.proofs.Pieces.{AreBytes-take}
-use Rattle.tree_model.specs.declared.journal.Usn.{Usn}
+use Rattle.file_tree.specs.declared.journal.Usn.{Usn}
 use Rattle.journal_model.specs.declared.fault.UsnFault.{UsnFault}
 use Rattle.journal_model.specs.declared.fault.UsnFault.TheVariants.{Cut, Shape, Memory}
 use Rattle.journal_model.specs.UsnRecords.{known_version, page_size, page_rest, is_whole, is_length, own_bytes, all_zeros, name_units, padding, has_layout, is_usn, usn_of, entry_in, usn_in, usn_at, IsUsn, IsRecord, BeginsRecord}

@@ -16,7 +16,7 @@ use Rattle.disk_model.proofs.Fields.{field-lt, spell-field}
 use Rattle.record_model.specs.Attributes.{units_at, unit_bytes, filled}
 use Rattle.record_model.proofs.UnitBytes.{field_here, units_here, length-unit_bytes, length-filled}
 use Rattle.record_model.proofs.RecordSpelling.{unpacked-packed}
-use Rattle.tree_model.specs.declared.journal.Usn.{Usn}
+use Rattle.file_tree.specs.declared.journal.Usn.{Usn}
 use Rattle.journal_model.specs.UsnRecords.{known_version, page_rest, usn_at, IsUsn, BeginsRecord, usn_size, head_spelling, usn_spelling, FitsUsn}
 use Rattle.journal_model.proofs.UsnRead.{table_read}
 

@@ -2,7 +2,7 @@
 use Rattle.std.specs.Prelude.{◌≡◌, ◌↔◌, ℕ, ◌*◌, ◌/◌, ◌+◌, ◌<◌, true, ◌≤◌, List, [], ◌∷◌, ◌++◌, length, min, Ok, Err}
 use Rattle.host_base.specs.Answers.{◌>>=◌}
 use Rattle.disk_model.specs.Bytes.{AreBytes, zeros}
-use Rattle.tree_model.specs.declared.journal.Usn.{Usn}
+use Rattle.file_tree.specs.declared.journal.Usn.{Usn}
 use Rattle.journal_model.specs.declared.fault.UsnFault.{UsnFault}
 use Rattle.journal_model.specs.UsnRecords.{page_size, page_rest, usn_spelling, FitsUsn}
 use Rattle.journal_model.specs.Pages.{page_records, records_of, ends_in_record, HasRecords, AreRecords, HasFault}

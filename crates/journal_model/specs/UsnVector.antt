@@ -1,7 +1,7 @@
 -- A worked record: file 26/1 in 25/1 with the name `f` was created and closed.
 use Rattle.std.specs.Prelude.{◌≡◌, ℕ, pos, List, [], ◌∷◌, ◌++◌, Some, Ok}
 use Rattle.disk_model.specs.Bytes.{zeros}
-use Rattle.tree_model.specs.declared.journal.Usn.{Usn}
+use Rattle.file_tree.specs.declared.journal.Usn.{Usn}
 use Rattle.journal_model.specs.UsnRecords.{usn_at, usn_spelling}
 
 abbrev pub worked_entry : Usn

@@ -4,7 +4,7 @@ ghost use Rattle.std.specs.Prelude.{◌≡◌, length, IfOk};
 use crate::steps::Change::{Commit, Fill, Record};
 use crate::steps::{Step, page_of};
 use crate::volume::*;
-use image_scan::{Refusal, ScanError, scan_image};
+use image_scan::{MountFault, Refusal, scan_image};
 use log_images::{FIRST, changed_body, own};
 use log_recovery::RecoveryFault;
 use sector_device::{Device, MemoryDevice};
@@ -83,7 +83,7 @@ fn a_scan_shows_what_is_recovered(rt: HostRuntime) -> Result<(), Fail> {
 #[test]
 fn an_entry_past_the_volume_is_foreign(rt: HostRuntime) -> Result<(), Fail> {
     let lsn = FIRST;
-    let refusal = ScanError::Refused(Refusal::ForeignLog { lsn });
+    let refusal = MountFault::Refused(Refusal::ForeignLog { lsn });
     for (first, wanted, refused) in [
         (
             VOLUME,
@@ -173,7 +173,7 @@ fn a_log_of_another_host_is_left_alone(rt: HostRuntime) -> Result<(), Fail> {
 fn a_log_of_another_host_in_use_is_foreign(rt: HostRuntime) -> Result<(), Fail> {
     let mut device = volume(&rt, &[])?;
     put_other(&rt, &mut device, false)?;
-    let refusal = ScanError::Refused(Refusal::ForeignLog { lsn: 1_048_576 });
+    let refusal = MountFault::Refused(Refusal::ForeignLog { lsn: 1_048_576 });
     assert_eq!(rt; scan_image(rt.alloc(), &mut device).err(), Some(refusal));
     Ok(())
 }
@@ -209,7 +209,7 @@ fn a_device_that_fails_ends_a_scan(rt: HostRuntime) -> Result<(), Fail> {
     for call in 1..=calls {
         let fault = scan_image(alloc, &mut device).err();
         let found = (fault, device.faults());
-        assert_eq!(rt; found, (Some(ScanError::Device), call));
+        assert_eq!(rt; found, (Some(MountFault::Device), call));
     }
     assert_eq!(rt; scan_image(alloc, &mut device)?.len(), 12);
     Ok(())

@@ -5,7 +5,7 @@ ghost use Rattle.log_page.specs.Restarts.{FitsRestart};
 ghost use Rattle.log_reading.specs.LogPages.{IsLogPlace};
 
 use log_images::{FIRST, own, restart_page};
-use log_page::{Extent, Extents, LogPlace, Restart};
+use log_page::{Extent, LogPlace, LogRuns, Restart};
 use log_recovery::{Recovered, RecoveryFault, recover};
 use sector_device::{Device, MemoryDevice};
 use std::alloc::{AllocError, Global};
@@ -117,7 +117,7 @@ fn place(alloc: Global) -> Result<LogPlace, AllocError>
     let first = LOG;
     let sectors = 8 * 513;
     Ok(LogPlace {
-        runs: Extents::from(vec![in alloc; Extent { first, sectors }]?),
+        runs: LogRuns::from(vec![in alloc; Extent { first, sectors }]?),
         initialised: 512 * sectors,
         pages: 513,
         clusters: 2047,

@@ -1,5 +1,5 @@
 ghost use Rattle.std.specs.Prelude.{◌≡◌, ◌+◌, ◌++◌, ◌∷◌, [], ◌<◌, ◌≤◌, ◌^◌, pos, ◌-ℤ◌, OnOk, IfOk, IfSome, IsTrue, length};
-ghost use Rattle.record_model.specs.Pairs.{pairs_of, pair_of, signed_bytes, signed_width, is_held, delta_bytes, cluster_limit, HasSpelling, first_vcn};
+ghost use Rattle.record_model.specs.Pairs.{pairs_of, pair_of, signed_bytes, signed_width, fits_bytes, delta_bytes, cluster_limit, HasSpelling, first_vcn};
 
 use byteorder::{ByteOrder, LittleEndian};
 use host_base::Memory;
@@ -35,10 +35,10 @@ fn push_end(out: &mut Vec<u8>) -> Result<(), AllocError>
 }
 
 /// Whether so many bytes, fewer than eight, hold this signed number.
-fn is_held(bytes: usize, value: i64) -> bool
+fn fits_bytes(bytes: usize, value: i64) -> bool
     requires some { 0 < bytes }
     requires few { bytes < 8 }
-    ensures { result ≡ is_held bytes value }
+    ensures { result ≡ fits_bytes bytes value }
 {
     let limit = 1u64 << (8 * bytes - 1);
     if value < 0 {
@@ -56,7 +56,7 @@ fn signed_width(value: i64) -> usize
     ensures most { result ≤ 8 }
 {
     for bytes in 1..8 {
-        if is_held(bytes, value) {
+        if fits_bytes(bytes, value) {
             return bytes;
         }
     }

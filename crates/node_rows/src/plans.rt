@@ -5,8 +5,8 @@ ghost use Rattle.index_plan.specs.Room.{Sized};
 use host_base::{Bytes, FileRef};
 use index_model::Key;
 use index_plan::{
-    Draft, Nodes, Numbers, PlanFault, ROOT, ReadFault, Rooted, Side, Target, Test, Write, is_sized,
-    plan_insert, plan_remove,
+    Draft, KeySide, Nodes, Numbers, PlanFault, ROOT, ReadFault, Rooted, Target, Test, Write,
+    is_sized, plan_insert, plan_remove,
 };
 use record_model::{Entry, EntryList};
 use std::alloc::{AllocError, Global};
@@ -78,18 +78,18 @@ impl Test for Number {
 
 impl Target for Number {
     ghost use Rattle.std.specs.Prelude.{nat_lt, if◌then◌else◌};
-    ghost use Rattle.index_plan.specs.declared.side.Side.TheVariants.{Behind, Here, Before};
+    ghost use Rattle.index_plan.specs.declared.side.KeySide.TheVariants.{Behind, Here, Before};
 
     ghost side = { λ s k. if nat_lt k.child.number s.0 then Behind else (if nat_lt s.0 k.child.number then Before else Here) };
 
-    fn side(&self, entry: &Entry) -> Side {
+    fn side(&self, entry: &Entry) -> KeySide {
         if entry.child.number < self.0 {
-            return Side::Behind;
+            return KeySide::Behind;
         }
         if self.0 < entry.child.number {
-            return Side::Before;
+            return KeySide::Before;
         }
-        Side::Here
+        KeySide::Here
     }
 }
 

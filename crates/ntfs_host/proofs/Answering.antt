@@ -5,7 +5,7 @@ use Rattle.std.specs.Prelude.{IfSome, IsErr, String, string_bytes}
 use Rattle.host_base.specs.Answers.{◌>>=◌, GivesOrFails}
 use Rattle.host_base.proofs.Known.{one}
 use Rattle.image_scan.specs.declared.refusal.Refusal.{Refusal}
-use Rattle.image_scan.specs.declared.refusal.ScanError.{ScanError}
+use Rattle.image_scan.specs.declared.refusal.MountFault.{MountFault}
 use Rattle.image_scan.specs.Errors.{scan_cause, refused_as}
 use Rattle.volume_format.specs.declared.fault.FormatFault.{FormatFault}
 use Rattle.volume_format.specs.declared.fault.Formatted.{Formatted}
@@ -16,7 +16,7 @@ use Rattle.ntfs_host.specs.Text.{formatted_line}
 -- the value is known, and the text is printed of it
 pub text_is : {A : Type 0} (known : Option (List (List ℕ))) (x : A) (text : String Global) (f : List (List ℕ) → Result A Refusal) (print : A → List ℕ)
     → IfSome known (λ disk. f disk ≡ Ok x) → string_bytes text ≡ print x
-    → IfSome known (λ disk. GivesOrFails {X = String Global} {E = ScanError} (λ t. string_bytes t) scan_cause (Ok text) (f disk >>= λ y. Ok (print y)))
+    → IfSome known (λ disk. GivesOrFails {X = String Global} {E = MountFault} (λ t. string_bytes t) scan_cause (Ok text) (f disk >>= λ y. Ok (print y)))
 text_is known x text f print value is = one known _ _ (λ disk e. rw e (ap (λ t. Ok t) (sym is))) value
 
 -- a format whose line is that of a refusal is refused

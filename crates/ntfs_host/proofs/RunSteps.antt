@@ -6,9 +6,9 @@ use Rattle.std.proofs.lemmas.List.{append-nil, length-append}
 use Rattle.std.proofs.lemmas.List.Elements.{filter-append, All-nil, All-push}
 use Rattle.std.proofs.lemmas.List.Filters.{length-filter_more}
 use Rattle.host_base.specs.declared.file_ref.FileRef.{FileRef}
-use Rattle.tree_model.specs.declared.node.Node.{Node}
-use Rattle.tree_model.specs.declared.link.Link.{Link}
-use Rattle.tree_model.specs.declared.tree.Tree.{Tree}
+use Rattle.file_tree.specs.declared.node.Node.{Node}
+use Rattle.file_tree.specs.declared.link.Link.{Link}
+use Rattle.file_tree.specs.declared.tree.Tree.{Tree}
 use Rattle.tree_model.specs.declared.script.Op.{Op}
 use Rattle.tree_model.specs.declared.script.Op.TheVariants as op
 use Rattle.tree_model.specs.declared.script.What.{What}
@@ -18,7 +18,7 @@ use Rattle.tree_model.specs.declared.reply.Reply.{Reply}
 use Rattle.tree_model.specs.declared.reply.Reply.TheVariants.{Stat, Names, BadName, NotFound, NotDirectory, Fault, Memory}
 use Rattle.tree_model.specs.Steps.{Replies, IsStep, LeavesBy, refusal}
 use Rattle.run_model.specs.declared.turn.Turn.{Turn}
-use Rattle.run_model.specs.Runs.{Fixed, IsTurn, own, turn_commands, is_turn_command, takes_turn, last_moment, last_faults}
+use Rattle.run_model.specs.Runs.{RunStart, IsTurn, own, turn_commands, is_turn_command, takes_turn, moment_of_last, last_faults}
 use Rattle.run_model.proofs.Segments.{segment_push}
 use Rattle.ntfs_host.specs.SerialRuns.{tree_with, IsTurnOf, Follows, IsRunSoFar}
 
@@ -50,7 +50,7 @@ at_place p [] i d lt is = absurd (omega arith)
 at_place p (x ∷ xs) zero d lt is = rw is refl
 at_place p (x ∷ xs) (suc i) d lt is = place_by (p x) x (filter p (take i xs)) (filter p xs) (Some (get_or xs i d)) (at_place p xs i d (omega arith) is)
 
-last_moment_push : (start : ℕ) (turns : List Turn) (t : Turn) → last_moment start (turns ++ t ∷ []) ≡ t.moment
+last_moment_push : (start : ℕ) (turns : List Turn) (t : Turn) → moment_of_last start (turns ++ t ∷ []) ≡ t.moment
 last_moment_push start [] t = refl
 last_moment_push start (u ∷ turns) t = last_moment_push u.moment turns t
 
@@ -90,7 +90,7 @@ takes_none client c name is = ap (λ (w : What). (c.client == client) && takes_t
 parts : (c : Command) (o : Op) (client number : ℕ) (asked : Op) → c.what ≡ Operation o → client ≡ c.client → number ≡ c.number → asked ≡ o → c ≡ record { client = client; number = number; what = Operation asked }
 parts c o client number asked what is_client is_number is_asked = rw (is_client, is_number, is_asked) (ap (λ (w : What). record { client = c.client; number = c.number; what = w }) what)
 
-abbrev pub fixed_of : List ℕ → List Command → ℕ → ℕ → Fixed
+abbrev pub fixed_of : List ℕ → List Command → ℕ → ℕ → RunStart
 fixed_of upper script time faults = record { upper = upper; script = script; base = time; faults = faults }
 
 -- the turn's command is its client's next

@@ -12,8 +12,8 @@ use Rattle.volume_format.specs.Stopping.{PutsFront, KeepsOthers}
 use Rattle.volume_format.specs.Crashing.{IsSettledNow, KeepsLeft}
 use Rattle.image_scan.specs.declared.refusal.Refusal.{Refusal}
 use Rattle.image_scan.specs.declared.refusal.Refusal.TheVariants.{VolumeLarge, Short, Unbuilt}
-use Rattle.image_scan.specs.declared.refusal.ScanError.{ScanError}
-use Rattle.image_scan.specs.declared.refusal.ScanError.TheVariants as errors
+use Rattle.image_scan.specs.declared.refusal.MountFault.{MountFault}
+use Rattle.image_scan.specs.declared.refusal.MountFault.TheVariants as errors
 use Rattle.image_scan.specs.Errors.{refused_as}
 use Rattle.image_scan.specs.Scans.{scan_of}
 use Rattle.image_dump.specs.Texts.{scan_text, dump_text, check_text, journal_text}
@@ -48,7 +48,7 @@ format_refusal (formats.Short sectors device) = Short sectors device
 format_refusal formats.Fault = Unbuilt 0
 format_refusal formats.Memory = Unbuilt 0
 
-abbrev pub error_of_format : FormatFault → ScanError
+abbrev pub error_of_format : FormatFault → MountFault
 error_of_format (formats.VolumeLarge clusters) = errors.Refused (VolumeLarge clusters)
 error_of_format (formats.Short sectors device) = errors.Refused (Short sectors device)
 error_of_format formats.Fault = errors.Device
@@ -69,21 +69,21 @@ answer_of (Format seed time) disk = format_line (length disk)
 -- ---- the device
 
 -- a command that leaves what reads give
-abbrev pub IsReader : Quiet → Type 0
-IsReader Scan = ⊤
-IsReader Dump = ⊤
-IsReader Check = ⊤
-IsReader Journal = ⊤
-IsReader (Format seed time) = ⊥
+abbrev pub IsReading : Quiet → Type 0
+IsReading Scan = ⊤
+IsReading Dump = ⊤
+IsReading Check = ⊤
+IsReading Journal = ⊤
+IsReading (Format seed time) = ⊥
 
 -- What reads give once a command is done, where it was known before: after a format the new volume, with the sectors that
 -- aren't its own as they were; else what they gave.
-abbrev pub Leaves : Quiet → Option (List (List ℕ)) → Option (List (List ℕ)) → Type 0
-Leaves Scan gives gives_now = gives_now ≡ gives
-Leaves Dump gives gives_now = gives_now ≡ gives
-Leaves Check gives gives_now = gives_now ≡ gives
-Leaves Journal gives gives_now = gives_now ≡ gives
-Leaves (Format seed time) gives gives_now = gives_now ≡ option_map (λ disk. formatted disk seed time) gives
+abbrev pub LeavesDevice : Quiet → Option (List (List ℕ)) → Option (List (List ℕ)) → Type 0
+LeavesDevice Scan gives gives_now = gives_now ≡ gives
+LeavesDevice Dump gives gives_now = gives_now ≡ gives
+LeavesDevice Check gives gives_now = gives_now ≡ gives
+LeavesDevice Journal gives gives_now = gives_now ≡ gives
+LeavesDevice (Format seed time) gives gives_now = gives_now ≡ option_map (λ disk. formatted disk seed time) gives
 
 -- The writes and syncs that a command has begun once it is done, by the number of sectors: a format a write for each
 -- region or piece of one, and one sync; another command none.
@@ -134,7 +134,7 @@ abbrev pub KeepsLeftUncalled : ℕ → ℕ → Changes → Type 0
 KeepsLeftUncalled sectors moment changes = (command : Option Quiet) → IfSome command (λ q. KeepsLeftBy q sectors moment changes changes)
 
 -- a refusal, and no fault
-abbrev pub IsRefusal : ScanError → Type 0
+abbrev pub IsRefusal : MountFault → Type 0
 IsRefusal (errors.Refused refusal) = ⊤
 IsRefusal errors.Device = ⊥
 IsRefusal errors.Memory = ⊥

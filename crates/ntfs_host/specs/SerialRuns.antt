@@ -1,9 +1,9 @@
 -- A run without threads, on a tree that it doesn't change.
 use Rattle.std.specs.Prelude.{◌≡◌, ◌≢◌, ℕ, ◌+◌, ◌≤◌, List, [], ◌∷◌, ◌++◌, length, take, None, All}
 use Rattle.host_base.specs.declared.file_ref.FileRef.{FileRef}
-use Rattle.tree_model.specs.declared.node.Node.{Node}
-use Rattle.tree_model.specs.declared.link.Link.{Link}
-use Rattle.tree_model.specs.declared.tree.Tree.{Tree}
+use Rattle.file_tree.specs.declared.node.Node.{Node}
+use Rattle.file_tree.specs.declared.link.Link.{Link}
+use Rattle.file_tree.specs.declared.tree.Tree.{Tree}
 use Rattle.tree_model.specs.declared.script.Op.{Op}
 use Rattle.tree_model.specs.declared.script.What.{What}
 use Rattle.tree_model.specs.declared.script.What.TheVariants.{Op as Operation, Find}
@@ -11,7 +11,7 @@ use Rattle.tree_model.specs.declared.script.Command.{Command}
 use Rattle.tree_model.specs.declared.reply.Reply.TheVariants.{Fault, Memory}
 use Rattle.tree_model.specs.Steps.{Replies}
 use Rattle.run_model.specs.declared.turn.Turn.{Turn}
-use Rattle.run_model.specs.Runs.{SerialRun, IsWhole, IsCounted, own, turn_commands, last_moment, last_faults}
+use Rattle.run_model.specs.Runs.{SerialRun, IsWhole, IsCounted, own, turn_commands, moment_of_last, last_faults}
 
 -- a tree with these nodes and links and no journal, whatever numbers and clusters are free
 abbrev pub tree_with : List Node → List Link → List FileRef → ℕ → ℕ → Tree
@@ -47,7 +47,7 @@ Follows upper nodes links moment faults c (Find name) old new = new ≡ old
 pub record IsRunSoFar (upper : List ℕ) (nodes : List Node) (links : List Link) (script : List Command) (time moment faults i : ℕ) (turns : List Turn) : Type 0 where
   pub run : (spare : List FileRef) (count room : ℕ) → SerialRun (record { upper = upper; script = script; base = time; faults = faults }) turns (tree_with nodes links spare count room) (tree_with nodes links spare count room)
   pub each : (client : ℕ) → length (own turns client) ≡ length (turn_commands (take i script) client)
-  pub moments : last_moment 0 turns ≤ moment
+  pub moments : moment_of_last 0 turns ≤ moment
   pub fault : (client : ℕ) → last_faults faults (own turns client) ≤ faults
   pub counted : IsCounted faults turns
   pub no_fault : All (λ (t : Turn). t.reply ≢ Fault) turns

@@ -12,18 +12,18 @@ ghost use Rattle.volume_format.specs.Stopping.{PutsFront, KeepsOthers};
 ghost use Rattle.volume_format.specs.Crashing.{IsSettledNow, KeepsLeft};
 ghost use Rattle.image_scan.specs.Errors.{scan_cause, refused_as};
 ghost use Rattle.image_dump.specs.Texts.{scan_text, dump_text, check_text, journal_text};
-ghost use Rattle.ntfs_host.specs.Answers.{scan_answer, dump_answer, check_answer, journal_answer, format_refusal, error_of_format, format_line, answer_of, IsReader, Leaves, LeavesFront, LeavesRest, IsRefusal, BeginsBy, SettlesBy, KeepsLeftBy};
+ghost use Rattle.ntfs_host.specs.Answers.{scan_answer, dump_answer, check_answer, journal_answer, format_refusal, error_of_format, format_line, answer_of, IsReading, LeavesDevice, LeavesFront, LeavesRest, IsRefusal, BeginsBy, SettlesBy, KeepsLeftBy};
 
 use crate::command::Quiet;
 use crate::text::formatted_line;
+use file_tree::{Link, Tree};
 use host_base::Memory;
 use image_check::check_image;
 use image_dump::{check_text, dump_text, journal_text, scan_text};
 use image_journal::{ReadJournal, read_journal};
-use image_scan::{Refusal, ScanError, scan_image};
+use image_scan::{MountFault, Refusal, scan_image};
 use sector_device::Device;
 use std::alloc::Global;
-use tree_model::{Link, Tree};
 use volume_format::{FormatFault, Formatted, format};
 
 fn text_of_links(alloc: Global, links: &[Link]) -> Result<String, Memory>
@@ -60,13 +60,13 @@ fn text_of_journal(alloc: Global, journal: &ReadJournal) -> Result<String, Memor
 }
 
 // The text of a scan.
-fn scan_answer<D: Device>(alloc: Global, device: &mut D) -> Result<String, ScanError>
+fn scan_answer<D: Device>(alloc: Global, device: &mut D) -> Result<String, MountFault>
     ensures answer { IfSome (D.gives device.old) (λ disk. GivesOrFails (λ text. string_bytes text) scan_cause result (scan_answer disk)) }
     ensures gives { D.gives device.new ≡ D.gives device.old }
     ensures only_read { D.changes_of device.new ≡ D.changes_of device.old }
     ensures sectors { D.sector_count device.new ≡ D.sector_count device.old }
     ensures later { D.fault_count device.old ≤ D.fault_count device.new }
-    ensures fault { IsErrOf result ScanError.Device → HasFailed (D.fault_count device.old) (D.fault_count device.new) (D.moment_of device.new) }
+    ensures fault { IsErrOf result MountFault.Device → HasFailed (D.fault_count device.old) (D.fault_count device.new) (D.moment_of device.new) }
     ensures counted { D.moment_of device.old < last_moment → CountsOnDevice scan_cause (D.fault_count device.old) (D.fault_count device.new) (D.moment_of device.new) result }
 {
     let links = scan_image(alloc, device)?;
@@ -74,13 +74,13 @@ fn scan_answer<D: Device>(alloc: Global, device: &mut D) -> Result<String, ScanE
 }
 
 // The text of a dump.
-fn dump_answer<D: Device>(alloc: Global, device: &mut D) -> Result<String, ScanError>
+fn dump_answer<D: Device>(alloc: Global, device: &mut D) -> Result<String, MountFault>
     ensures answer { IfSome (D.gives device.old) (λ disk. GivesOrFails (λ text. string_bytes text) scan_cause result (dump_answer disk)) }
     ensures gives { D.gives device.new ≡ D.gives device.old }
     ensures only_read { D.changes_of device.new ≡ D.changes_of device.old }
     ensures sectors { D.sector_count device.new ≡ D.sector_count device.old }
     ensures later { D.fault_count device.old ≤ D.fault_count device.new }
-    ensures fault { IsErrOf result ScanError.Device → HasFailed (D.fault_count device.old) (D.fault_count device.new) (D.moment_of device.new) }
+    ensures fault { IsErrOf result MountFault.Device → HasFailed (D.fault_count device.old) (D.fault_count device.new) (D.moment_of device.new) }
     ensures counted { D.moment_of device.old < last_moment → CountsOnDevice scan_cause (D.fault_count device.old) (D.fault_count device.new) (D.moment_of device.new) result }
 {
     let tree = check_image(alloc, device)?;
@@ -88,13 +88,13 @@ fn dump_answer<D: Device>(alloc: Global, device: &mut D) -> Result<String, ScanE
 }
 
 // The text of a check.
-fn check_answer<D: Device>(alloc: Global, device: &mut D) -> Result<String, ScanError>
+fn check_answer<D: Device>(alloc: Global, device: &mut D) -> Result<String, MountFault>
     ensures answer { IfSome (D.gives device.old) (λ disk. GivesOrFails (λ text. string_bytes text) scan_cause result (check_answer disk)) }
     ensures gives { D.gives device.new ≡ D.gives device.old }
     ensures only_read { D.changes_of device.new ≡ D.changes_of device.old }
     ensures sectors { D.sector_count device.new ≡ D.sector_count device.old }
     ensures later { D.fault_count device.old ≤ D.fault_count device.new }
-    ensures fault { IsErrOf result ScanError.Device → HasFailed (D.fault_count device.old) (D.fault_count device.new) (D.moment_of device.new) }
+    ensures fault { IsErrOf result MountFault.Device → HasFailed (D.fault_count device.old) (D.fault_count device.new) (D.moment_of device.new) }
     ensures counted { D.moment_of device.old < last_moment → CountsOnDevice scan_cause (D.fault_count device.old) (D.fault_count device.new) (D.moment_of device.new) result }
 {
     let tree = check_image(alloc, device)?;
@@ -102,31 +102,31 @@ fn check_answer<D: Device>(alloc: Global, device: &mut D) -> Result<String, Scan
 }
 
 // The text of a journal.
-fn journal_answer<D: Device>(alloc: Global, device: &mut D) -> Result<String, ScanError>
+fn journal_answer<D: Device>(alloc: Global, device: &mut D) -> Result<String, MountFault>
     ensures answer { IfSome (D.gives device.old) (λ disk. GivesOrFails (λ text. string_bytes text) scan_cause result (journal_answer disk)) }
     ensures gives { D.gives device.new ≡ D.gives device.old }
     ensures only_read { D.changes_of device.new ≡ D.changes_of device.old }
     ensures sectors { D.sector_count device.new ≡ D.sector_count device.old }
     ensures later { D.fault_count device.old ≤ D.fault_count device.new }
-    ensures fault { IsErrOf result ScanError.Device → HasFailed (D.fault_count device.old) (D.fault_count device.new) (D.moment_of device.new) }
+    ensures fault { IsErrOf result MountFault.Device → HasFailed (D.fault_count device.old) (D.fault_count device.new) (D.moment_of device.new) }
     ensures counted { D.moment_of device.old < last_moment → CountsOnDevice scan_cause (D.fault_count device.old) (D.fault_count device.new) (D.moment_of device.new) result }
 {
     let journal = read_journal(alloc, device)?;
     Ok(text_of_journal(alloc, &journal)?)
 }
 
-fn error_of_format(fault: FormatFault) -> ScanError
+fn error_of_format(fault: FormatFault) -> MountFault
     ensures value { result ≡ error_of_format fault }
 {
     match fault {
         FormatFault::VolumeLarge { clusters } => {
-            ScanError::Refused(Refusal::VolumeLarge { clusters })
+            MountFault::Refused(Refusal::VolumeLarge { clusters })
         }
         FormatFault::Short { sectors, device } => {
-            ScanError::Refused(Refusal::Short { sectors, device })
+            MountFault::Refused(Refusal::Short { sectors, device })
         }
-        FormatFault::Fault => ScanError::Device,
-        FormatFault::Memory => ScanError::Memory,
+        FormatFault::Fault => MountFault::Device,
+        FormatFault::Memory => MountFault::Memory,
     }
 }
 
@@ -136,23 +136,23 @@ fn make_volume<D: Device>(
     device: &mut D,
     seed: u64,
     time: u64,
-) -> Result<Formatted, ScanError>
+) -> Result<Formatted, MountFault>
     ensures answer { GivesOrFails (λ f. f) scan_cause result (refused_as format_refusal (format_answer (D.sector_count device.old))) }
     ensures image { IfOk result (λ f. D.gives device.new ≡ option_map (λ disk. formatted disk seed time) (D.gives device.old)) }
     ensures begins { IfOk result (λ _. Begins (device_writes (layout_of (D.sector_count device.old))) 1 (D.changes_of device.old) (D.changes_of device.new)) }
     ensures settled { IfOk result (λ _. IsSettledNow (D.changes_of device.new)) }
     ensures others_left { KeepsLeft (layout_of (D.sector_count device.old)) (D.sector_count device.old) (D.moment_of device.old) (D.changes_of device.old) (D.changes_of device.new) }
-    ensures stopped { IsErrOf result ScanError.Device → PutsFront (regions (layout_of (D.sector_count device.old)) seed time) (D.gives device.old) (D.gives device.new) }
+    ensures stopped { IsErrOf result MountFault.Device → PutsFront (regions (layout_of (D.sector_count device.old)) seed time) (D.gives device.old) (D.gives device.new) }
     ensures others { KeepsOthers (layout_of (D.sector_count device.old)) (D.gives device.old) (D.gives device.new) }
     ensures refused { IfErr result (λ e. IsRefusal e → D.gives device.new ≡ D.gives device.old) }
     ensures unwritten { IfErr result (λ e. IsRefusal e → D.changes_of device.new ≡ D.changes_of device.old) }
     ensures left_refused { IsErr (format_answer (D.sector_count device.old)) → D.gives device.new ≡ D.gives device.old }
     ensures begins_refused { IsErr (format_answer (D.sector_count device.old)) → D.changes_of device.new ≡ D.changes_of device.old }
-    ensures wanting { IsErrOf result ScanError.Memory → D.gives device.new ≡ D.gives device.old }
-    ensures begins_wanting { IsErrOf result ScanError.Memory → D.changes_of device.new ≡ D.changes_of device.old }
+    ensures wanting { IsErrOf result MountFault.Memory → D.gives device.new ≡ D.gives device.old }
+    ensures begins_wanting { IsErrOf result MountFault.Memory → D.changes_of device.new ≡ D.changes_of device.old }
     ensures sectors { D.sector_count device.new ≡ D.sector_count device.old }
     ensures later { D.fault_count device.old ≤ D.fault_count device.new }
-    ensures fault { IsErrOf result ScanError.Device → HasFailed (D.fault_count device.old) (D.fault_count device.new) (D.moment_of device.new) }
+    ensures fault { IsErrOf result MountFault.Device → HasFailed (D.fault_count device.old) (D.fault_count device.new) (D.moment_of device.new) }
     ensures counted { CountsOnDevice scan_cause (D.fault_count device.old) (D.fault_count device.new) (D.moment_of device.new) result }
 {
     match format(alloc, device, seed, time) {
@@ -168,23 +168,23 @@ fn format_answer<D: Device>(
     device: &mut D,
     seed: u64,
     time: u64,
-) -> Result<String, ScanError>
+) -> Result<String, MountFault>
     ensures answer { GivesOrFails (λ text. string_bytes text) scan_cause result (format_line (D.sector_count device.old)) }
     ensures image { IfOk result (λ text. D.gives device.new ≡ option_map (λ disk. formatted disk seed time) (D.gives device.old)) }
     ensures begins { IfOk result (λ _. Begins (device_writes (layout_of (D.sector_count device.old))) 1 (D.changes_of device.old) (D.changes_of device.new)) }
     ensures settled { IfOk result (λ _. IsSettledNow (D.changes_of device.new)) }
     ensures others_left { KeepsLeft (layout_of (D.sector_count device.old)) (D.sector_count device.old) (D.moment_of device.old) (D.changes_of device.old) (D.changes_of device.new) }
-    ensures stopped { IsErrOf result ScanError.Device → PutsFront (regions (layout_of (D.sector_count device.old)) seed time) (D.gives device.old) (D.gives device.new) }
+    ensures stopped { IsErrOf result MountFault.Device → PutsFront (regions (layout_of (D.sector_count device.old)) seed time) (D.gives device.old) (D.gives device.new) }
     ensures others { KeepsOthers (layout_of (D.sector_count device.old)) (D.gives device.old) (D.gives device.new) }
     ensures refused { IfErr result (λ e. IsRefusal e → D.gives device.new ≡ D.gives device.old) }
     ensures unwritten { IfErr result (λ e. IsRefusal e → D.changes_of device.new ≡ D.changes_of device.old) }
     ensures left_refused { IsErr (format_line (D.sector_count device.old)) → D.gives device.new ≡ D.gives device.old }
     ensures begins_refused { IsErr (format_line (D.sector_count device.old)) → D.changes_of device.new ≡ D.changes_of device.old }
-    ensures wanting { IsErrOf result ScanError.Memory → (D.gives device.new ≡ D.gives device.old) ⊎ (D.gives device.new ≡ option_map (λ disk. formatted disk seed time) (D.gives device.old)) }
-    ensures begins_wanting { IsErrOf result ScanError.Memory → (D.changes_of device.new ≡ D.changes_of device.old) ⊎ Begins (device_writes (layout_of (D.sector_count device.old))) 1 (D.changes_of device.old) (D.changes_of device.new) }
+    ensures wanting { IsErrOf result MountFault.Memory → (D.gives device.new ≡ D.gives device.old) ⊎ (D.gives device.new ≡ option_map (λ disk. formatted disk seed time) (D.gives device.old)) }
+    ensures begins_wanting { IsErrOf result MountFault.Memory → (D.changes_of device.new ≡ D.changes_of device.old) ⊎ Begins (device_writes (layout_of (D.sector_count device.old))) 1 (D.changes_of device.old) (D.changes_of device.new) }
     ensures sectors { D.sector_count device.new ≡ D.sector_count device.old }
     ensures later { D.fault_count device.old ≤ D.fault_count device.new }
-    ensures fault { IsErrOf result ScanError.Device → HasFailed (D.fault_count device.old) (D.fault_count device.new) (D.moment_of device.new) }
+    ensures fault { IsErrOf result MountFault.Device → HasFailed (D.fault_count device.old) (D.fault_count device.new) (D.moment_of device.new) }
     ensures counted { CountsOnDevice scan_cause (D.fault_count device.old) (D.fault_count device.new) (D.moment_of device.new) result }
 {
     let formatted = make_volume(alloc, device, seed, time)?;
@@ -200,25 +200,25 @@ pub fn answer<D: Device>(
     alloc: Global,
     command: &Quiet,
     device: &mut D,
-) -> Result<String, ScanError>
+) -> Result<String, MountFault>
     ensures answer { IfSome (D.gives device.old) (λ disk. GivesOrFails (λ text. string_bytes text) scan_cause result (answer_of command.now disk)) }
-    ensures leaves { IfOk result (λ text. Leaves command.now (D.gives device.old) (D.gives device.new)) }
+    ensures leaves { IfOk result (λ text. LeavesDevice command.now (D.gives device.old) (D.gives device.new)) }
     ensures begins { IfOk result (λ text. BeginsBy command.now (D.sector_count device.old) (D.changes_of device.old) (D.changes_of device.new)) }
     ensures settled { IfOk result (λ text. SettlesBy command.now (D.changes_of device.new)) }
     ensures others_left { KeepsLeftBy command.now (D.sector_count device.old) (D.moment_of device.old) (D.changes_of device.old) (D.changes_of device.new) }
-    ensures stopped { IsErrOf result ScanError.Device → LeavesFront command.now (D.sector_count device.old) (D.gives device.old) (D.gives device.new) }
+    ensures stopped { IsErrOf result MountFault.Device → LeavesFront command.now (D.sector_count device.old) (D.gives device.old) (D.gives device.new) }
     ensures others { LeavesRest command.now (D.sector_count device.old) (D.gives device.old) (D.gives device.new) }
     ensures refused { IfErr result (λ e. IsRefusal e → D.gives device.new ≡ D.gives device.old) }
     ensures unwritten { IfErr result (λ e. IsRefusal e → D.changes_of device.new ≡ D.changes_of device.old) }
     ensures left_refused { IfSome (D.gives device.old) (λ disk. IsErr (answer_of command.now disk) → D.gives device.new ≡ D.gives device.old) }
     ensures begins_refused { IfSome (D.gives device.old) (λ disk. IsErr (answer_of command.now disk) → D.changes_of device.new ≡ D.changes_of device.old) }
-    ensures wanting { IsErrOf result ScanError.Memory → (D.gives device.new ≡ D.gives device.old) ⊎ Leaves command.now (D.gives device.old) (D.gives device.new) }
-    ensures begins_wanting { IsErrOf result ScanError.Memory → (D.changes_of device.new ≡ D.changes_of device.old) ⊎ BeginsBy command.now (D.sector_count device.old) (D.changes_of device.old) (D.changes_of device.new) }
-    ensures reads { IsReader command.now → D.gives device.new ≡ D.gives device.old }
-    ensures only_read { IsReader command.now → D.changes_of device.new ≡ D.changes_of device.old }
+    ensures wanting { IsErrOf result MountFault.Memory → (D.gives device.new ≡ D.gives device.old) ⊎ LeavesDevice command.now (D.gives device.old) (D.gives device.new) }
+    ensures begins_wanting { IsErrOf result MountFault.Memory → (D.changes_of device.new ≡ D.changes_of device.old) ⊎ BeginsBy command.now (D.sector_count device.old) (D.changes_of device.old) (D.changes_of device.new) }
+    ensures reads { IsReading command.now → D.gives device.new ≡ D.gives device.old }
+    ensures only_read { IsReading command.now → D.changes_of device.new ≡ D.changes_of device.old }
     ensures sectors { D.sector_count device.new ≡ D.sector_count device.old }
     ensures later { D.fault_count device.old ≤ D.fault_count device.new }
-    ensures fault { IsErrOf result ScanError.Device → HasFailed (D.fault_count device.old) (D.fault_count device.new) (D.moment_of device.new) }
+    ensures fault { IsErrOf result MountFault.Device → HasFailed (D.fault_count device.old) (D.fault_count device.new) (D.moment_of device.new) }
     ensures counted { D.moment_of device.old < last_moment → CountsOnDevice scan_cause (D.fault_count device.old) (D.fault_count device.new) (D.moment_of device.new) result }
 {
     match command {

@@ -4,13 +4,13 @@ ghost use Rattle.std.specs.Io.KnownBytes.{Appends};
 ghost use Rattle.host_base.specs.Causes.{Rose, HasFailed, AppendsPart, last_moment};
 ghost use Rattle.script_text.specs.Scripts.{script_of};
 ghost use Rattle.upcase_order.specs.Tables.{standard_table};
-ghost use Rattle.ntfs_host.specs.Answers.{answer_of, IsReader, Leaves, LeavesFront, LeavesRest, BeginsBy, SettlesBy, KeepsLeftBy, KeepsLeftUncalled};
+ghost use Rattle.ntfs_host.specs.Answers.{answer_of, IsReading, LeavesDevice, LeavesFront, LeavesRest, BeginsBy, SettlesBy, KeepsLeftBy, KeepsLeftUncalled};
 ghost use Rattle.small_image.specs.Mounts.{mounted_of};
 ghost use Rattle.ntfs_host.specs.Runs.{PrintsScript, PrintsScriptPart, IsRunStatus};
 ghost use Rattle.ntfs_host.specs.Scripts.{script_line, IsAccepted, IsReadWhole, LosesAtMost};
 ghost use Rattle.ntfs_host.specs.Text.{printed};
 ghost use Rattle.ntfs_host.specs.Statuses.{IsQuietStatus};
-ghost use Rattle.ntfs_host.specs.Words.{command_in, quiet_some, quiet_in, run_some, run_in, IsRun, Reads, usage};
+ghost use Rattle.ntfs_host.specs.Words.{command_in, quiet_some, quiet_in, run_some, run_in, IsRun, IsReadingOrNone, usage};
 
 use crate::answers::answer;
 use crate::command::Quiet;
@@ -20,7 +20,7 @@ use crate::script_run::run_command;
 use crate::status::{DEVICE_FAULT, DONE, MEMORY, REFUSED, SINK_FAULT, USAGE, status_of};
 use command_line::{Command, LineFault, read_line};
 use host_base::{Gate, Sink, Source, write_all};
-use image_scan::ScanError;
+use image_scan::MountFault;
 use sector_device::Device;
 use std::alloc::{AllocError, Global};
 use std::sync::Wait;
@@ -79,16 +79,16 @@ fn answer_into<K: Sink, D: Device>(
     ensures device_failed { result ≡ 8 → HasFailed (D.fault_count device.old) (D.fault_count device.new) (D.moment_of device.new) }
     ensures device_counted { D.moment_of device.old < last_moment → result ≢ 8 → D.fault_count device.new ≡ D.fault_count device.old }
     ensures silent { result ≡ 8 → K.taken sink.new ≡ K.taken sink.old }
-    ensures leaves { result ≡ 0 → Leaves command.now (D.gives device.old) (D.gives device.new) }
+    ensures leaves { result ≡ 0 → LeavesDevice command.now (D.gives device.old) (D.gives device.new) }
     ensures stopped { result ≡ 8 → LeavesFront command.now (D.sector_count device.old) (D.gives device.old) (D.gives device.new) }
     ensures others { LeavesRest command.now (D.sector_count device.old) (D.gives device.old) (D.gives device.new) }
     ensures kept { result ≡ 3 → D.gives device.new ≡ D.gives device.old }
-    ensures left { result ≡ 7 → Leaves command.now (D.gives device.old) (D.gives device.new) ⊎ (D.gives device.new ≡ D.gives device.old) }
-    ensures left_wanting { result ≡ 6 → (D.gives device.new ≡ D.gives device.old) ⊎ Leaves command.now (D.gives device.old) (D.gives device.new) }
-    ensures left_done { result ≡ 7 → IfSome (D.gives device.old) (λ disk. IsOk (answer_of command.now disk) → Leaves command.now (D.gives device.old) (D.gives device.new)) }
+    ensures left { result ≡ 7 → LeavesDevice command.now (D.gives device.old) (D.gives device.new) ⊎ (D.gives device.new ≡ D.gives device.old) }
+    ensures left_wanting { result ≡ 6 → (D.gives device.new ≡ D.gives device.old) ⊎ LeavesDevice command.now (D.gives device.old) (D.gives device.new) }
+    ensures left_done { result ≡ 7 → IfSome (D.gives device.old) (λ disk. IsOk (answer_of command.now disk) → LeavesDevice command.now (D.gives device.old) (D.gives device.new)) }
     ensures left_refused { IfSome (D.gives device.old) (λ disk. IsErr (answer_of command.now disk) → D.gives device.new ≡ D.gives device.old) }
-    ensures reads { IsReader command.now → D.gives device.new ≡ D.gives device.old }
-    ensures only_read { IsReader command.now → D.changes_of device.new ≡ D.changes_of device.old }
+    ensures reads { IsReading command.now → D.gives device.new ≡ D.gives device.old }
+    ensures only_read { IsReading command.now → D.changes_of device.new ≡ D.changes_of device.old }
     ensures unwritten { result ≡ 3 → D.changes_of device.new ≡ D.changes_of device.old }
     ensures begins { result ≡ 0 → BeginsBy command.now (D.sector_count device.old) (D.changes_of device.old) (D.changes_of device.new) }
     ensures begins_part { result ≡ 7 → BeginsBy command.now (D.sector_count device.old) (D.changes_of device.old) (D.changes_of device.new) ⊎ (D.changes_of device.new ≡ D.changes_of device.old) }
@@ -101,9 +101,12 @@ fn answer_into<K: Sink, D: Device>(
 {
     match answer(alloc, command, device) {
         Ok(text) => print_text(sink, text.as_str()),
-        Err(ScanError::Refused(refusal)) => status_of(write_refusal(alloc, sink, refusal), REFUSED),
-        Err(ScanError::Memory) => MEMORY,
-        Err(ScanError::Device) => DEVICE_FAULT,
+        Err(MountFault::Refused(refusal)) => status_of(
+            write_refusal(alloc, sink, refusal),
+            REFUSED,
+        ),
+        Err(MountFault::Memory) => MEMORY,
+        Err(MountFault::Device) => DEVICE_FAULT,
     }
 }
 
@@ -182,20 +185,20 @@ pub fn quiet_command<K: Sink, D: Device>(
     // crash leaves exactly what it might have left before, now and since any moment; after a format
     // that is done nothing is unsynced, and whatever comes of one, a crash during it or after it
     // leaves in those sectors that stay only what it might have left there before.
-    ensures reads { IsReader command.now → D.gives result.device ≡ D.gives device }
-    ensures only_read { IsReader command.now → D.changes_of result.device ≡ D.changes_of device }
+    ensures reads { IsReading command.now → D.gives result.device ≡ D.gives device }
+    ensures only_read { IsReading command.now → D.changes_of result.device ≡ D.changes_of device }
     ensures unwritten { result.status ≡ 3 → D.changes_of result.device ≡ D.changes_of device }
     ensures begins { result.status ≡ 0 → BeginsBy command.now (D.sector_count device) (D.changes_of device) (D.changes_of result.device) }
     ensures begins_part { result.status ≡ 7 → BeginsBy command.now (D.sector_count device) (D.changes_of device) (D.changes_of result.device) ⊎ (D.changes_of result.device ≡ D.changes_of device) }
     ensures begins_wanting { result.status ≡ 6 → (D.changes_of result.device ≡ D.changes_of device) ⊎ BeginsBy command.now (D.sector_count device) (D.changes_of device) (D.changes_of result.device) }
     ensures begins_refused { IfSome (D.gives device) (λ disk. IsErr (answer_of command.now disk) → D.changes_of result.device ≡ D.changes_of device) }
     ensures kept { result.status ≡ 3 → D.gives result.device ≡ D.gives device }
-    ensures leaves { result.status ≡ 0 → Leaves command.now (D.gives device) (D.gives result.device) }
+    ensures leaves { result.status ≡ 0 → LeavesDevice command.now (D.gives device) (D.gives result.device) }
     ensures left_stopped { result.status ≡ 8 → LeavesFront command.now (D.sector_count device) (D.gives device) (D.gives result.device) }
     ensures left_rest { LeavesRest command.now (D.sector_count device) (D.gives device) (D.gives result.device) }
-    ensures left { result.status ≡ 7 → Leaves command.now (D.gives device) (D.gives result.device) ⊎ (D.gives result.device ≡ D.gives device) }
-    ensures left_wanting { result.status ≡ 6 → (D.gives result.device ≡ D.gives device) ⊎ Leaves command.now (D.gives device) (D.gives result.device) }
-    ensures left_done { result.status ≡ 7 → IfSome (D.gives device) (λ disk. IsOk (answer_of command.now disk) → Leaves command.now (D.gives device) (D.gives result.device)) }
+    ensures left { result.status ≡ 7 → LeavesDevice command.now (D.gives device) (D.gives result.device) ⊎ (D.gives result.device ≡ D.gives device) }
+    ensures left_wanting { result.status ≡ 6 → (D.gives result.device ≡ D.gives device) ⊎ LeavesDevice command.now (D.gives device) (D.gives result.device) }
+    ensures left_done { result.status ≡ 7 → IfSome (D.gives device) (λ disk. IsOk (answer_of command.now disk) → LeavesDevice command.now (D.gives device) (D.gives result.device)) }
     ensures left_refused { IfSome (D.gives device) (λ disk. IsErr (answer_of command.now disk) → D.gives result.device ≡ D.gives device) }
     ensures settled { result.status ≡ 0 → SettlesBy command.now (D.changes_of result.device) }
     ensures others_left { KeepsLeftBy command.now (D.sector_count device) (D.moment_of device) (D.changes_of device) (D.changes_of result.device) }
@@ -345,20 +348,20 @@ pub fn ntfs_host<R: Threads + Wait + Sync, S: Source, K: Sink, D: Device + Send,
     // crash leaves exactly what it might have left before, now and since any moment; after a format
     // that is done nothing is unsynced, and whatever comes of one, a crash during it or after it
     // leaves in those sectors that stay only what it might have left there before.
-    ensures reads { Reads (quiet_in words.now) → D.gives result.device ≡ D.gives device }
-    ensures only_read { Reads (quiet_in words.now) → D.changes_of result.device ≡ D.changes_of device }
+    ensures reads { IsReadingOrNone (quiet_in words.now) → D.gives result.device ≡ D.gives device }
+    ensures only_read { IsReadingOrNone (quiet_in words.now) → D.changes_of result.device ≡ D.changes_of device }
     ensures unwritten { result.status ≡ 3 → D.changes_of result.device ≡ D.changes_of device }
     ensures begins { IfSome (quiet_in words.now) (λ command. result.status ≡ 0 → BeginsBy command (D.sector_count device) (D.changes_of device) (D.changes_of result.device)) }
     ensures begins_part { IfSome (quiet_in words.now) (λ command. result.status ≡ 7 → BeginsBy command (D.sector_count device) (D.changes_of device) (D.changes_of result.device) ⊎ (D.changes_of result.device ≡ D.changes_of device)) }
     ensures begins_wanting { result.status ≡ 6 → (D.changes_of result.device ≡ D.changes_of device) ⊎ IfSome (quiet_in words.now) (λ command. BeginsBy command (D.sector_count device) (D.changes_of device) (D.changes_of result.device)) }
     ensures begins_refused { IfSome (quiet_in words.now) (λ command. IfSome (D.gives device) (λ disk. IsErr (answer_of command disk) → D.changes_of result.device ≡ D.changes_of device)) }
     ensures kept { result.status ≡ 3 → D.gives result.device ≡ D.gives device }
-    ensures leaves { IfSome (quiet_in words.now) (λ command. result.status ≡ 0 → Leaves command (D.gives device) (D.gives result.device)) }
+    ensures leaves { IfSome (quiet_in words.now) (λ command. result.status ≡ 0 → LeavesDevice command (D.gives device) (D.gives result.device)) }
     ensures left_stopped { IfSome (quiet_in words.now) (λ command. result.status ≡ 8 → LeavesFront command (D.sector_count device) (D.gives device) (D.gives result.device)) }
     ensures left_rest { IfSome (quiet_in words.now) (λ command. LeavesRest command (D.sector_count device) (D.gives device) (D.gives result.device)) }
-    ensures left { IfSome (quiet_in words.now) (λ command. result.status ≡ 7 → Leaves command (D.gives device) (D.gives result.device) ⊎ (D.gives result.device ≡ D.gives device)) }
-    ensures left_wanting { result.status ≡ 6 → (D.gives result.device ≡ D.gives device) ⊎ IfSome (quiet_in words.now) (λ command. Leaves command (D.gives device) (D.gives result.device)) }
-    ensures left_done { IfSome (quiet_in words.now) (λ command. result.status ≡ 7 → IfSome (D.gives device) (λ disk. IsOk (answer_of command disk) → Leaves command (D.gives device) (D.gives result.device))) }
+    ensures left { IfSome (quiet_in words.now) (λ command. result.status ≡ 7 → LeavesDevice command (D.gives device) (D.gives result.device) ⊎ (D.gives result.device ≡ D.gives device)) }
+    ensures left_wanting { result.status ≡ 6 → (D.gives result.device ≡ D.gives device) ⊎ IfSome (quiet_in words.now) (λ command. LeavesDevice command (D.gives device) (D.gives result.device)) }
+    ensures left_done { IfSome (quiet_in words.now) (λ command. result.status ≡ 7 → IfSome (D.gives device) (λ disk. IsOk (answer_of command disk) → LeavesDevice command (D.gives device) (D.gives result.device))) }
     ensures left_refused { IfSome (quiet_in words.now) (λ command. IfSome (D.gives device) (λ disk. IsErr (answer_of command disk) → D.gives result.device ≡ D.gives device)) }
     ensures settled { IfSome (quiet_in words.now) (λ command. result.status ≡ 0 → SettlesBy command (D.changes_of result.device)) }
     ensures others_left { IfSome (quiet_in words.now) (λ command. KeepsLeftBy command (D.sector_count device) (D.moment_of device) (D.changes_of device) (D.changes_of result.device)) }

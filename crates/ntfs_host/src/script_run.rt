@@ -19,7 +19,7 @@ use crate::status::{
 };
 use file_record::FileRec;
 use host_base::{Gate, Memory, Sink, Source};
-use image_scan::ScanError;
+use image_scan::MountFault;
 use record_tree::RecordTree;
 use run_model::Turn;
 use sector_device::Device;
@@ -121,9 +121,12 @@ fn run_mounted<R: Threads + Wait, K: Sink, D: Device, G: Gate>(
     let upper = standard.as_slice();
     match mount(alloc, upper, device) {
         Ok(records) => print_run(rt, alloc, upper, &records, script, time, sink, device, gate),
-        Err(ScanError::Refused(refusal)) => status_of(write_refusal(alloc, sink, refusal), REFUSED),
-        Err(ScanError::Memory) => MEMORY,
-        Err(ScanError::Device) => DEVICE_FAULT,
+        Err(MountFault::Refused(refusal)) => status_of(
+            write_refusal(alloc, sink, refusal),
+            REFUSED,
+        ),
+        Err(MountFault::Memory) => MEMORY,
+        Err(MountFault::Device) => DEVICE_FAULT,
     }
 }
 

@@ -6,7 +6,7 @@ use Rattle.std.proofs.lemmas.List.{append-nil, get_or_past}
 use Rattle.std.proofs.lemmas.List.Concat.{flat_map-append}
 use Rattle.std.proofs.lemmas.List.FromFn.{map-range_with_len_more, get_or-map-range_with_len, length-map-range_with_len}
 use Rattle.record_model.specs.Records.{Record}
-use Rattle.tree_model.specs.Walks.{root}
+use Rattle.file_tree.specs.Walks.{root}
 use Rattle.state_model.specs.Files.{Table, file_at, links_at, only_base, links_of}
 use Rattle.state_model.specs.Trees.{parent_at, first_parent, at_some, first_user_record, is_in_system}
 use Rattle.std.proofs.lemmas.Bool.Decides.{nat_tests}

@@ -1,7 +1,7 @@
 -- A step on the way up from a directory.
 use Rattle.std.proofs.Common.{◌≡◌, ℕ, zero, suc, ◌+◌, ◌-◌, ◌<◌, ◌≤◌, ◌∙◌, ap, refl, arith}
 use Rattle.std.specs.Prelude.{◌||◌, ◌==◌}
-use Rattle.tree_model.specs.Walks.{root}
+use Rattle.file_tree.specs.Walks.{root}
 use Rattle.state_model.specs.Files.{Table}
 use Rattle.state_model.specs.Trees.{at_some, parent_at, leads}
 

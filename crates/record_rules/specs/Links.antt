@@ -2,7 +2,7 @@
 use Rattle.std.specs.Prelude.{List, Option, length, map}
 use Rattle.std.specs.List.{range_with_len}
 use Rattle.record_model.specs.Records.{Record}
-use Rattle.tree_model.specs.declared.link.Link.{Link}
+use Rattle.file_tree.specs.declared.link.Link.{Link}
 use Rattle.state_model.specs.Files.{links_at}
 use Rattle.state_model.specs.Loads.{table_in}
 

@@ -1,7 +1,7 @@
 //! The names of all files, and the way up from them.
 ghost use Rattle.std.specs.Prelude.{◌≡◌, ◌++◌, IfOk, OnOk, length, map};
 ghost use Rattle.std.specs.List.{range_with_len, list_any};
-ghost use Rattle.tree_model.specs.declared.link.Link.{Link as the_link};
+ghost use Rattle.file_tree.specs.declared.link.Link.{Link as the_link};
 ghost use Rattle.state_model.specs.Trees.{all_links, first_parent, parent_at, is_in_system, is_system};
 ghost use Rattle.state_model.specs.Loads.{table_in};
 ghost use Rattle.record_rules.specs.Links.{links_in};
@@ -9,9 +9,9 @@ ghost use Rattle.record_rules.specs.Links.{links_in};
 use crate::fields::FIRST_USER_RECORD;
 use crate::linking::{links_at, links_of};
 use file_record::FileRec;
+use file_tree::{Link, LinkList};
 use host_base::Memory;
 use std::alloc::{AllocError, Global};
-use tree_model::{Link, LinkList};
 
 // The root's number.
 pub const ROOT: u64 = 5;

@@ -6,11 +6,10 @@ ghost use Rattle.state_model.specs.Loads.{table_in};
 ghost use Rattle.record_rules.specs.Links.{links_in};
 
 use crate::linking::links_of;
-use crate::references::is_same_reference;
 use crate::rising::is_rising;
 use file_record::FileRec;
-use host_base::FileRef;
-use tree_model::{Link, LinkList};
+use file_tree::{Link, LinkList};
+use host_base::{FileRef, is_same_reference};
 
 // Whether two names agree in file, directory, namespace and units.
 fn is_same_link(a: &Link, b: &Link) -> bool

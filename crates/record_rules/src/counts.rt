@@ -6,9 +6,9 @@ ghost use Rattle.record_rules.specs.Links.{links_in};
 
 use crate::files::file_at;
 use file_record::FileRec;
+use file_tree::{Link, LinkList};
 use host_base::{FileRef, Memory};
 use std::alloc::Global;
-use tree_model::{Link, LinkList};
 
 // Whether the file with this number has this sequence.
 #[tactic(auto, unfolding(crate::specs::Counts::has_reference))]

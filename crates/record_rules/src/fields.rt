@@ -1,19 +1,17 @@
 //! What one record says by itself, wherever the bytes of its values lie.
 ghost use Rattle.std.specs.Prelude.{◌≡◌, ◌==◌, find};
 ghost use Rattle.std.specs.Option.{option_copied};
+ghost use Rattle.record_model.specs.Constants.{standard_information};
 ghost use Rattle.record_model.specs.StdValues.{std_info_of};
 ghost use Rattle.record_model.specs.declared.attribute.Attr.{Attr as the_attr};
 ghost use Rattle.state_model.specs.Files.{no_info, has_type, form_info, info_of, info_or, is_encrypted, is_compressed, is_sparse, is_directory_record};
 
 use file_record::FileRec;
-use record_model::{Attr, AttributeFlags, OwnForm, RecordFlags, StdInfo};
+use record_model::{Attr, AttributeFlags, OwnForm, RecordFlags, STANDARD_INFORMATION, StdInfo};
 use std_values::FixedValue;
 
 /// The first record that isn't one of the volume's own files.
 pub const FIRST_USER_RECORD: u64 = 24;
-
-/// The type of standard information.
-pub const STANDARD_INFORMATION: u32 = 0x10;
 
 /// Whether the record is that of a directory, by the flag 2 of its header (Linux-NTFS
 /// documentation, "FILE Record").
@@ -65,7 +63,7 @@ fn form_info(form: &OwnForm) -> StdInfo
 }
 
 fn std_info_attr(file: &FileRec) -> Option<&Attr>
-    ensures { option_copied result ≡ find (λ (a : the_attr). a.head.kind == 0x10) file.now.attrs }
+    ensures { option_copied result ≡ find (λ (a : the_attr). a.head.kind == standard_information) file.now.attrs }
 {
     let attrs = file.attrs().as_slice();
     attrs

@@ -29,5 +29,4 @@ pub use fields::{
 pub use files::file_at;
 pub use linking::{links_in, links_of};
 pub use names::{push_some, record_links, value_link};
-pub use references::is_same_reference;
 pub use rules::{first_misnamed, first_misplaced, first_unrooted};

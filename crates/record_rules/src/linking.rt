@@ -7,9 +7,9 @@ ghost use Rattle.record_rules.specs.Links.{links_in};
 use crate::files::file_at;
 use crate::names::record_links;
 use file_record::FileRec;
+use file_tree::{Link, LinkList};
 use host_base::Memory;
 use std::alloc::{AllocError, Global};
-use tree_model::{Link, LinkList};
 
 /// The names of the file with this number. The error is want of memory.
 #[tactic(auto, unfolding(state_model::specs::Files::links_at))]

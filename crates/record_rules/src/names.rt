@@ -5,13 +5,11 @@ ghost use Rattle.record_model.specs.StdValues.{file_name_of};
 ghost use Rattle.state_model.specs.Files.{named, form_link, attr_link, record_links};
 
 use file_record::FileRec;
+use file_tree::{Link, LinkList};
 use host_base::{FileRef, Memory};
-use record_model::{Attr, FileNameValue, OwnForm, ValueFault};
+use record_model::{Attr, FILE_NAME, FileNameValue, OwnForm, ValueFault};
 use std::alloc::Global;
 use std_values::NamedValue;
-use tree_model::{Link, LinkList};
-
-const FILE_NAME: u32 = 0x30;
 
 /// The name in the bytes of a file-name value (Linux-NTFS documentation, "$FILE_NAME") of the file
 /// `child`, or `None` where they aren't such a value. The error is want of memory. It takes time

@@ -5,17 +5,12 @@ ghost use Rattle.state_model.specs.Files.{links_at};
 ghost use Rattle.state_model.specs.Rules.{is_partner, has_partner, is_short_in, is_only_short, long_count, keeps_names, keeps_1};
 ghost use Rattle.state_model.specs.Loads.{table_in};
 
-use crate::fields::{FIRST_USER_RECORD, STANDARD_INFORMATION, has_type, is_directory_record};
+use crate::fields::{FIRST_USER_RECORD, has_type, is_directory_record};
 use crate::files::file_at;
-use crate::references::is_same_reference;
 use file_record::FileRec;
-use host_base::FileRef;
-use tree_model::Link;
-
-// The namespaces of Win32 names and of short names.
-const WIN32: u8 = 1;
-
-const SHORT: u8 = 2;
+use file_tree::{Link, SHORT, WIN32};
+use host_base::{FileRef, is_same_reference};
+use record_model::STANDARD_INFORMATION;
 
 fn long_count(links: &[Link]) -> usize
     ensures { result ≡ long_count links.now }

@@ -1,23 +1,15 @@
 //! References to files, and whether they are those of directories.
 ghost use Rattle.std.specs.Prelude.{◌≡◌};
 ghost use Rattle.std.specs.List.{list_all};
-ghost use Rattle.tree_model.specs.declared.link.Link.{Link as the_link};
-ghost use Rattle.state_model.specs.Rules.{same_reference, is_directory_at};
+ghost use Rattle.file_tree.specs.declared.link.Link.{Link as the_link};
+ghost use Rattle.state_model.specs.Rules.{is_directory_at};
 ghost use Rattle.state_model.specs.Loads.{table_in};
 
 use crate::fields::is_directory_record;
 use crate::files::file_at;
 use file_record::FileRec;
+use file_tree::Link;
 use host_base::FileRef;
-use tree_model::Link;
-
-/// Whether two references are of one file: they agree in number and sequence (Linux-NTFS
-/// documentation, "File Reference").
-pub fn is_same_reference(a: FileRef, b: FileRef) -> bool
-    ensures value { result ≡ same_reference a b }
-{
-    a.number == b.number && a.seq == b.seq
-}
 
 // Whether the reference is that of a directory.
 #[tactic(auto, unfolding(state_model::specs::Rules::is_directory_at))]

@@ -1,11 +1,11 @@
 //! Names in order.
 ghost use Rattle.std.specs.Prelude.{◌≡◌};
-ghost use Rattle.tree_model.specs.Names.{comes_before};
+ghost use Rattle.file_tree.specs.Names.{comes_before};
 ghost use Rattle.state_model.specs.Rules.{is_rising};
 ghost use Rattle.record_rules.specs.Rises.{starts_rising};
 
+use file_tree::{Link, compare_names};
 use std::cmp::Ordering;
-use tree_model::{Link, compare_names};
 
 fn comes_before(upper: &[u16], a: &Link, b: &Link) -> bool
     ensures { result ≡ comes_before upper.now a.now.name b.now.name }

@@ -2,7 +2,7 @@
 use Rattle.std.proofs.Common.{◌≡◌, ℕ, List, Bool, false, Option, Some, None, Result, Ok, Err, refl}
 use Rattle.host_base.specs.declared.file_ref.FileRef.{FileRef}
 use Rattle.record_model.specs.declared.entry.Entry.{Entry}
-use Rattle.tree_model.specs.declared.link.Link.{Link}
+use Rattle.file_tree.specs.declared.link.Link.{Link}
 use Rattle.state_model.specs.Files.{Table}
 use Rattle.state_model.specs.Rules.{is_index, are_index}
 use Rattle.record_tree.specs.Holding.{held_links}

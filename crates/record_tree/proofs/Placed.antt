@@ -11,9 +11,9 @@ use Rattle.std.proofs.lemmas.Bool.Decides.{nat_tests}
 use Rattle.std.proofs.lemmas.List.{append-nil, append_assoc, length-take-le, length_push, get_or_at, take_more}
 use Rattle.std.proofs.lemmas.Map.Text.{is_eq-slice_cmp}
 use Rattle.std.proofs.lemmas.Option.{slice_get-get_or}
-use Rattle.tree_model.specs.declared.link.Link.{Link}
-use Rattle.tree_model.specs.Names.{upper_units, same_units}
-use Rattle.tree_model.specs.Trees.{is_in, is_long}
+use Rattle.file_tree.specs.declared.link.Link.{Link}
+use Rattle.file_tree.specs.Names.{upper_units, same_units}
+use Rattle.file_tree.specs.Trees.{is_in, is_long}
 use Rattle.record_tree.specs.Places.{places_from, AddsPlace}
 use Rattle.record_tree.specs.Lookups.{key_order, HasListings, HasNames}
 

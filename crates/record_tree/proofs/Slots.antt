@@ -5,8 +5,8 @@ use Rattle.std.specs.List.{range_with_len, filter_map, cons_option}
 use Rattle.std.proofs.lemmas.Bool.{cases_lt}
 use Rattle.std.proofs.lemmas.List.{get_or_past}
 use Rattle.std.proofs.lemmas.List.FromFn.{get_or-map-range_with_len, length-map-range_with_len}
-use Rattle.tree_model.specs.declared.node.Node.{Node}
-use Rattle.tree_model.specs.Trees.{node_at}
+use Rattle.file_tree.specs.declared.node.Node.{Node}
+use Rattle.file_tree.specs.Trees.{node_at}
 use Rattle.state_model.specs.Files.{Table}
 use Rattle.state_model.specs.Trees.{node_in, nodes_of}
 use Rattle.state_model.proofs.Nodes.{node_inside, node_outside}

@@ -1,7 +1,7 @@
 -- The names that an index holds.
 use Rattle.std.specs.Prelude.{ℕ, List, Option, Some, None, Result, Ok, Err}
 use Rattle.record_model.specs.declared.entry.Entry.{Entry}
-use Rattle.tree_model.specs.declared.link.Link.{Link}
+use Rattle.file_tree.specs.declared.link.Link.{Link}
 use Rattle.state_model.specs.Indexes.{entry_links}
 
 -- those of its entries; none where it breaks a rule

@@ -6,10 +6,10 @@ use Rattle.std.specs.Cmp.Lexicographic.{slice_cmp}
 use Rattle.std.specs.List.{filter_map}
 use Rattle.std.specs.Option.{unwrap_or}
 use Rattle.std.specs.BTreeMap.{BTreeMap, get}
-use Rattle.tree_model.specs.declared.node.Node.{Node}
-use Rattle.tree_model.specs.declared.link.Link.{Link}
-use Rattle.tree_model.specs.Names.{upper_units, same_units}
-use Rattle.tree_model.specs.Trees.{node_at, is_in, is_long, long_names_of}
+use Rattle.file_tree.specs.declared.node.Node.{Node}
+use Rattle.file_tree.specs.declared.link.Link.{Link}
+use Rattle.file_tree.specs.Names.{upper_units, same_units}
+use Rattle.file_tree.specs.Trees.{node_at, is_in, is_long, long_names_of}
 use Rattle.record_tree.specs.Places.{places_from, items_or_none}
 
 -- the table of upper-case units, the nodes and the links

@@ -8,11 +8,11 @@ ghost use Rattle.state_model.specs.Rules.{names_in, are_index, keeps_3};
 
 use crate::indexes::{entry_links, index_of};
 use file_record::FileRec;
+use file_tree::LinkList;
 use host_base::{FileRef, Memory};
 use index_node::NodeFault;
 use record_rules::{file_at, is_directory_record, is_index};
 use std::alloc::Global;
-use tree_model::LinkList;
 
 // The names that a directory's index holds, or none where it breaks a rule.
 fn held_links(alloc: Global, file: &FileRec) -> Result<Option<LinkList>, Memory>

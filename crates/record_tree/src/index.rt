@@ -3,23 +3,20 @@ ghost use Rattle.std.specs.List.{cons_option, filter_map, slice_get};
 ghost use Rattle.std.specs.Option.{option_copied, unwrap_or};
 ghost use Rattle.std.specs.Ordering.{nat_cmp};
 ghost use Rattle.std.specs.BTreeMap.{get};
-ghost use Rattle.tree_model.specs.Trees.{long_links_in, same_links};
-ghost use Rattle.tree_model.specs.Names.{upper_units};
+ghost use Rattle.file_tree.specs.Trees.{long_links_in, same_links};
+ghost use Rattle.file_tree.specs.Names.{upper_units};
 ghost use Rattle.record_tree.specs.Lookups.{HasCounts, HasListings, HasNames};
 
 use crate::places::{add_place, places_at};
+use file_tree::{Link, SHORT};
 use std::alloc::{AllocError, Global};
 use std::collections::BTreeMap;
-use tree_model::Link;
-
-// The namespace of short names.
-const SHORT: u8 = 2;
 
 // A directory's number, and upper-case units.
 pub type Key = (u64, Vec<u16>);
 
 // How many long names each file has.
-#[tactic(auto, unfolding(tree_model::specs::Trees::long_names_of))]
+#[tactic(auto, unfolding(file_tree::specs::Trees::long_names_of))]
 pub fn count_long_names(alloc: Global, links: &[Link]) -> Result<BTreeMap<u64, u64>, AllocError>
     ensures { IfOk result (λ counts. HasCounts counts links.now) }
 {
@@ -59,7 +56,7 @@ fn upper_unit(upper: &[u16], unit: u16) -> u16
 }
 
 // The upper-case units of a name.
-#[tactic(auto, unfolding(tree_model::specs::Names::upper_units))]
+#[tactic(auto, unfolding(file_tree::specs::Names::upper_units))]
 fn upper_key(alloc: Global, upper: &[u16], units: &[u16]) -> Result<Vec<u16>, AllocError>
     ensures { IfOk result (λ key. key.items ≡ upper_units upper.now units.now) }
 {

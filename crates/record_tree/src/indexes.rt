@@ -8,19 +8,14 @@ ghost use Rattle.state_model.specs.Files.{file_at};
 ghost use Rattle.state_model.specs.Loads.{table_in};
 
 use file_record::FileRec;
+use file_tree::{Link, LinkList};
 use host_base::Memory;
 use index_node::{EntryList, NodeFault, read_root};
-use record_model::{Attr, Entry, OwnForm};
+use record_model::{Attr, Entry, INDEX_ROOT, NAMES_INDEX, OwnForm};
 use record_rules::{file_at, is_directory_record, push_some, value_link};
 use std::alloc::Global;
-use tree_model::{Link, LinkList};
 
-const INDEX_ROOT: u32 = 0x90;
-
-// `$I30`, the name of the index of file names.
-static NAMES_INDEX: [u16; 4] = [0x24, 0x49, 0x33, 0x30];
-
-#[tactic(auto, unfolding(state_model::specs::Indexes::is_names_root, state_model::specs::Indexes::names_index))]
+#[tactic(auto, unfolding(state_model::specs::Indexes::is_names_root))]
 fn is_names_root(attr: &Attr) -> bool
     ensures { result ≡ is_names_root attr.now }
 {

@@ -95,7 +95,7 @@ impl Lookup for RecordTree {
 
     /// The number of the file that this part names in this directory, in time logarithmic in the
     /// names and linear in the part and the directory's links of the same name.
-    #[tactic(auto, unfolding(tree_model::specs::Walks::child_in, tree_model::specs::Trees::look_up))]
+    #[tactic(auto, unfolding(file_tree::specs::Walks::child_in, file_tree::specs::Trees::look_up))]
     fn child(
         &self,
         alloc: Global,

@@ -6,23 +6,14 @@ ghost use Rattle.state_model.specs.Trees.{kind_of, shown, node_with, node_of, no
 ghost use Rattle.state_model.specs.Loads.{table_in};
 
 use file_record::FileRec;
+use file_tree::{Kind, Link, Node, Why};
 use host_base::{Bytes, Memory};
-use record_model::{Attr, OwnForm};
+use record_model::{ATTRIBUTE_LIST, Attr, DATA, OBJECT_ID, OwnForm, REPARSE_POINT};
 use record_rules::{
     Climber, FIRST_USER_RECORD, file_at, has_type, info_of, is_compressed, is_directory_record,
     is_encrypted, is_sparse, links_in, record_links,
 };
 use std::alloc::{AllocError, Global};
-use tree_model::{Kind, Link, Node, Why};
-
-// The types of attributes.
-const ATTRIBUTE_LIST: u32 = 0x20;
-
-const OBJECT_ID: u32 = 0x40;
-
-const DATA: u32 = 0x80;
-
-const REPARSE_POINT: u32 = 0xC0;
 
 // The unnamed data.
 #[tactic(auto, unfolding(state_model::specs::Files::data_of))]

@@ -6,11 +6,11 @@ ghost use Rattle.record_rules.specs.Links.{links_in};
 
 use crate::holding::keeps_index;
 use file_record::FileRec;
+use file_tree::LinkList;
 use host_base::Memory;
 use record_rules::{Climber, counts_in, first_misnamed, first_misplaced, first_unrooted, links_in};
 use state_model::Broken;
 use std::alloc::Global;
-use tree_model::LinkList;
 
 // Of each rule the least number at which it is broken. `links` are the names of each file.
 

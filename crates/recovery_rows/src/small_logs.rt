@@ -4,7 +4,7 @@ ghost use Rattle.std.specs.Prelude.{◌≡◌, ◌%◌, ◌*◌, ◌≤◌, IfOk
 ghost use Rattle.log_reading.specs.LogPages.{IsLogPlace};
 
 use disk_model::{put_bytes, put_u64};
-use log_page::{Extent, Extents, LogPlace};
+use log_page::{Extent, LogPlace, LogRuns};
 use log_recovery::{RecoveryFault, recover};
 use sector_device::MemoryDevice;
 use std::alloc::{AllocError, Global};
@@ -36,7 +36,7 @@ fn place(alloc: Global) -> Result<LogPlace, AllocError>
         },
     ]?;
     Ok(LogPlace {
-        runs: Extents::from(runs),
+        runs: LogRuns::from(runs),
         initialised: 512 * 48,
         pages: 6,
         clusters: 64,

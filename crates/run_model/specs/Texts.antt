@@ -6,8 +6,8 @@ use Rattle.std.specs.declared.cmp.Ordering.{Ordering}
 use Rattle.std.specs.Ordering.{nat_cmp, ordering_then, is_lt}
 use Rattle.std.specs.Fmt.{decimal}
 use Rattle.utf16_name.specs.Texts.{name_text}
-use Rattle.tree_model.specs.declared.node.Kind.{Kind}
-use Rattle.tree_model.specs.declared.node.Kind.TheVariants.{Directory, File, Fixed, Opaque, System}
+use Rattle.file_tree.specs.declared.node.Kind.{Kind}
+use Rattle.file_tree.specs.declared.node.Kind.TheVariants.{Directory, File, Fixed, Opaque, System}
 use Rattle.tree_model.specs.declared.reply.Reply.{Reply}
 use Rattle.tree_model.specs.declared.reply.Reply.TheVariants.{Stat, Names, BadName, NotFound, NotDirectory, Fault, Memory}
 use Rattle.run_model.specs.declared.turn.Turn.{Turn}

@@ -1,14 +1,14 @@
 -- Records that are noted one after the other.
 use Rattle.std.proofs.Common.{◌≡◌, ℕ, zero, suc, ◌+◌, ◌-◌, ◌<◌, ◌≤◌, List, ◌++◌, Option, Some, None, Result, Ok, Err, refl, sym, ap, ◌∙◌, subst, arith}
 use Rattle.host_base.specs.Answers.{Explains, ExplainsOrFails}
-use Rattle.tree_model.specs.declared.link.Link.{Link}
-use Rattle.small_image.specs.declared.piece.Piece.{Piece}
+use Rattle.file_tree.specs.declared.link.Link.{Link}
+use Rattle.small_image.specs.declared.slot.Slot.{Slot}
 use Rattle.small_image.specs.declared.walk.Findings.{Findings}
 use Rattle.image_scan.specs.declared.refusal.Refusal.{Refusal}
-use Rattle.image_scan.specs.declared.refusal.ScanError.{ScanError}
-use Rattle.image_scan.specs.declared.refusal.ScanError.TheVariants as errors
+use Rattle.image_scan.specs.declared.refusal.MountFault.{MountFault}
+use Rattle.image_scan.specs.declared.refusal.MountFault.TheVariants as errors
 use Rattle.image_scan.specs.Errors.{scan_cause}
-use Rattle.small_image.specs.Links.{piece_links}
+use Rattle.small_image.specs.Links.{slot_links}
 use Rattle.small_image.specs.Tables.{torn_refusal, rule_refusal, unbuilt_refusal, first_some, first_of, joined, unless}
 use Rattle.small_image.specs.Walks.{Notes, FoundBelow}
 
@@ -49,22 +49,22 @@ some_from None r e = absurd cc
 some_from (Some q) r e = cc
 
 -- an error at record n, before which none is torn, is explained by all
-pub explained_at : (f : ℕ → Option Refusal) (n m : ℕ) (e : ScanError) → n < m → first_of f n ≡ None → Explains (scan_cause e) (unless (f n)) → Explains (scan_cause e) (unless (first_of f m))
+pub explained_at : (f : ℕ → Option Refusal) (n m : ℕ) (e : MountFault) → n < m → first_of f n ≡ None → Explains (scan_cause e) (unless (f n)) → Explains (scan_cause e) (unless (first_of f m))
 explained_at f n m errors.Memory lt before h = h
 explained_at f n m errors.Device lt before h = absurd h
 explained_at f n m (errors.Refused r) lt before h = ap unless (first_at f n m r lt before (some_from (f n) r h))
 
 -- an error that the first records explain is explained by all
-pub explained_later : (f : ℕ → Option Refusal) (n m : ℕ) (e : ScanError) → n ≤ m → Explains (scan_cause e) (unless (first_of f n)) → ExplainsOrFails (scan_cause e) (unless (first_of f m))
+pub explained_later : (f : ℕ → Option Refusal) (n m : ℕ) (e : MountFault) → n ≤ m → Explains (scan_cause e) (unless (first_of f n)) → ExplainsOrFails (scan_cause e) (unless (first_of f m))
 explained_later f n m errors.Memory le h = h
 explained_later f n m errors.Device le h = absurd h
 explained_later f n m (errors.Refused r) le h = ap unless (stays f n m r le (some_from (first_of f n) r h))
 
 -- one record more
-pub one_more : (piece : ℕ → Piece) (n : ℕ) (old new : Findings) → FoundBelow piece n old → Notes n (piece n) old new → FoundBelow piece (n + 1) new
-one_more piece n old new below noted = record {
-  whole = first_of-more (λ k. torn_refusal k (piece k)) n ∙ ap (λ (o : Option Refusal). first_some o (torn_refusal n (piece n))) below.whole ∙ noted.whole;
-  broken = noted.broken ∙ ap (λ (o : Option Refusal). first_some o (rule_refusal n (piece n))) below.broken ∙ sym (first_of-more (λ k. rule_refusal k (piece k)) n);
-  unbuilt = noted.unbuilt ∙ ap (λ (o : Option Refusal). first_some o (unbuilt_refusal n (piece n))) below.unbuilt ∙ sym (first_of-more (λ k. unbuilt_refusal k (piece k)) n);
-  links = noted.links ∙ ap (λ (ls : List Link). ls ++ piece_links n (piece n)) below.links ∙ sym (joined-more (λ k. piece_links k (piece k)) n);
+pub one_more : (slot : ℕ → Slot) (n : ℕ) (old new : Findings) → FoundBelow slot n old → Notes n (slot n) old new → FoundBelow slot (n + 1) new
+one_more slot n old new below noted = record {
+  whole = first_of-more (λ k. torn_refusal k (slot k)) n ∙ ap (λ (o : Option Refusal). first_some o (torn_refusal n (slot n))) below.whole ∙ noted.whole;
+  broken = noted.broken ∙ ap (λ (o : Option Refusal). first_some o (rule_refusal n (slot n))) below.broken ∙ sym (first_of-more (λ k. rule_refusal k (slot k)) n);
+  unbuilt = noted.unbuilt ∙ ap (λ (o : Option Refusal). first_some o (unbuilt_refusal n (slot n))) below.unbuilt ∙ sym (first_of-more (λ k. unbuilt_refusal k (slot k)) n);
+  links = noted.links ∙ ap (λ (ls : List Link). ls ++ slot_links n (slot n)) below.links ∙ sym (joined-more (λ k. slot_links k (slot k)) n);
 }

@@ -10,16 +10,16 @@ use Rattle.disk_model.specs.Sectors.{sector_of, raw_from}
 use Rattle.disk_model.specs.Content.{content_of}
 use Rattle.sector_device.specs.Sectors.{IsDiskOf}
 use Rattle.small_image.specs.declared.boot.Volume.{Volume}
-use Rattle.tree_model.specs.declared.link.Link.{Link}
-use Rattle.small_image.specs.declared.piece.Piece.{Piece}
+use Rattle.file_tree.specs.declared.link.Link.{Link}
+use Rattle.small_image.specs.declared.slot.Slot.{Slot}
 use Rattle.small_image.specs.declared.table.DataRun.{DataRun}
 use Rattle.small_image.specs.declared.walk.Findings.{Findings}
 use Rattle.image_scan.specs.declared.refusal.Refusal.{Refusal}
 use Rattle.image_scan.specs.declared.refusal.Refusal.TheVariants.{Unbuilt}
-use Rattle.image_scan.specs.declared.refusal.ScanError.{ScanError}
-use Rattle.image_scan.specs.declared.refusal.ScanError.TheVariants as errors
+use Rattle.image_scan.specs.declared.refusal.MountFault.{MountFault}
+use Rattle.image_scan.specs.declared.refusal.MountFault.TheVariants as errors
 use Rattle.image_scan.specs.Errors.{scan_cause}
-use Rattle.small_image.specs.Scan.{piece_at, log_of, table_of, volume_on}
+use Rattle.small_image.specs.Scan.{slot_at, log_of, table_of, volume_on}
 use Rattle.small_image.specs.Volumes.{volume_of}
 use Rattle.small_image.specs.Tables.{judged, log_place, is_emptied, has_empty_log, record_count, some_or, table_links}
 use Rattle.small_image.specs.Walks.{FoundBelow, FindsAll, settled}
@@ -27,100 +27,100 @@ use Rattle.small_image.specs.Walks.{FoundBelow, FindsAll, settled}
 abbrev Disk : Type 0
 Disk = List (List ℕ)
 
-err_bound : {X Y A B : Type 0} (view : X → A) (view' : Y → B) (e : ScanError) (f : Result A Refusal) (g : A → Result B Refusal) → GivesOrFails {X = X} {E = ScanError} view scan_cause (Err e) f → GivesOrFails {X = Y} {E = ScanError} view' scan_cause (Err e) (f >>= g)
+err_bound : {X Y A B : Type 0} (view : X → A) (view' : Y → B) (e : MountFault) (f : Result A Refusal) (g : A → Result B Refusal) → GivesOrFails {X = X} {E = MountFault} view scan_cause (Err e) f → GivesOrFails {X = Y} {E = MountFault} view' scan_cause (Err e) (f >>= g)
 err_bound view view' errors.Memory f g h = h
 err_bound view view' errors.Device f g h = h
 err_bound view view' (errors.Refused r) f g h = ap (λ x. x >>= g) h
 
 -- an error of the first step is that of both
-pub fails_first : {X Y A B : Type 0} (known : Option Disk) (view : X → A) (view' : Y → B) (e : ScanError) (f : Disk → Result A Refusal) (g : Disk → A → Result B Refusal)
-    → IfSome known (λ disk. GivesOrFails {X = X} {E = ScanError} view scan_cause (Err e) (f disk)) → IfSome known (λ disk. GivesOrFails {X = Y} {E = ScanError} view' scan_cause (Err e) (f disk >>= g disk))
+pub fails_first : {X Y A B : Type 0} (known : Option Disk) (view : X → A) (view' : Y → B) (e : MountFault) (f : Disk → Result A Refusal) (g : Disk → A → Result B Refusal)
+    → IfSome known (λ disk. GivesOrFails {X = X} {E = MountFault} view scan_cause (Err e) (f disk)) → IfSome known (λ disk. GivesOrFails {X = Y} {E = MountFault} view' scan_cause (Err e) (f disk >>= g disk))
 fails_first known view view' e f g h = one known _ _ (λ disk p. err_bound view view' e (f disk) (g disk) p) h
 
 -- the second step goes on with the value of the first
-pub goes_on : {Y A B : Type 0} (known : Option Disk) (view : Y → B) (x : A) (result : Result Y ScanError) (f : Disk → Result A Refusal) (g : Disk → A → Result B Refusal)
+pub goes_on : {Y A B : Type 0} (known : Option Disk) (view : Y → B) (x : A) (result : Result Y MountFault) (f : Disk → Result A Refusal) (g : Disk → A → Result B Refusal)
     → IfSome known (λ disk. f disk ≡ Ok x) → IfSome known (λ disk. GivesOrFails view scan_cause result (g disk x)) → IfSome known (λ disk. GivesOrFails view scan_cause result (f disk >>= g disk))
 goes_on known view x result f g first second = both known _ _ _ (λ disk e h. rw e h) first second
 
 -- ---- record 2 and the log
 
-abbrev IsPiece : Volume → ℕ → Piece → Disk → Type 0
-IsPiece v number piece disk = piece ≡ piece_at (content_of (sector_of disk)) v.mft number
+abbrev IsSlot : Volume → ℕ → Slot → Disk → Type 0
+IsSlot v number slot disk = slot ≡ slot_at (content_of (sector_of disk)) v.mft number
 
-or_fails : {X A : Type 0} (view : X → A) (e : ScanError) (meant : Result A Refusal) → Explains (scan_cause e) meant → GivesOrFails {X = X} {E = ScanError} view scan_cause (Err e) meant
+or_fails : {X A : Type 0} (view : X → A) (e : MountFault) (meant : Result A Refusal) → Explains (scan_cause e) meant → GivesOrFails {X = X} {E = MountFault} view scan_cause (Err e) meant
 or_fails view errors.Memory meant h = h
 or_fails view errors.Device meant h = absurd h
 or_fails view (errors.Refused r) meant h = h
 
-explained : {A B : Type 0} (e : ScanError) (f : Result A Refusal) (g : A → Result B Refusal) → Explains (scan_cause e) f → Explains (scan_cause e) (f >>= g)
+explained : {A B : Type 0} (e : MountFault) (f : Result A Refusal) (g : A → Result B Refusal) → Explains (scan_cause e) f → Explains (scan_cause e) (f >>= g)
 explained errors.Memory f g h = h
 explained errors.Device f g h = h
 explained (errors.Refused r) f g h = ap (λ x. x >>= g) h
 
-log_by : (v : Volume) (piece : Piece) (disk : Disk) → IsPiece v 2 piece disk → log_of disk v ≡ judged 2 piece >>= λ d. needs (has_empty_log (sector_of disk) (log_place v.total d)) (Unbuilt 3)
+log_by : (v : Volume) (slot : Slot) (disk : Disk) → IsSlot v 2 slot disk → log_of disk v ≡ judged 2 slot >>= λ d. needs (has_empty_log (sector_of disk) (log_place v.total d)) (Unbuilt 3)
 unfolding log_of
-log_by v piece disk e = ap (λ p. judged 2 p >>= λ d. needs (has_empty_log (sector_of disk) (log_place v.total d)) (Unbuilt 3)) (sym e)
+log_by v slot disk e = ap (λ p. judged 2 p >>= λ d. needs (has_empty_log (sector_of disk) (log_place v.total d)) (Unbuilt 3)) (sym e)
 
-pub log_error : (known : Option Disk) (v : Volume) (piece : Piece) (e : ScanError) → IfSome known (IsPiece v 2 piece) → Explains (scan_cause e) (judged 2 piece)
-    → IfSome known (λ disk. GivesOrFails {X = Unit {0}} {E = ScanError} (λ x. x) scan_cause (Err e) (log_of disk v))
-log_error known v piece e is h = one known _ _ (λ disk p. rw (log_by v piece disk p) (or_fails (λ x. x) e _ (explained e (judged 2 piece) _ h))) is
+pub log_error : (known : Option Disk) (v : Volume) (slot : Slot) (e : MountFault) → IfSome known (IsSlot v 2 slot) → Explains (scan_cause e) (judged 2 slot)
+    → IfSome known (λ disk. GivesOrFails {X = Unit {0}} {E = MountFault} (λ x. x) scan_cause (Err e) (log_of disk v))
+log_error known v slot e is h = one known _ _ (λ disk p. rw (log_by v slot disk p) (or_fails (λ x. x) e _ (explained e (judged 2 slot) _ h))) is
 
-log_with : (v : Volume) (piece : Piece) (d : Option DataRun) (place : Option ℕ) (disk : Disk) → IsPiece v 2 piece disk → judged 2 piece ≡ Ok d → log_place v.total d ≡ place → log_of disk v ≡ needs (has_empty_log (sector_of disk) place) (Unbuilt 3)
-log_with v piece d place disk p j l = log_by v piece disk p ∙ ap (λ x. x >>= λ d. needs (has_empty_log (sector_of disk) (log_place v.total d)) (Unbuilt 3)) j ∙ ap (λ o. needs (has_empty_log (sector_of disk) o) (Unbuilt 3)) l
+log_with : (v : Volume) (slot : Slot) (d : Option DataRun) (place : Option ℕ) (disk : Disk) → IsSlot v 2 slot disk → judged 2 slot ≡ Ok d → log_place v.total d ≡ place → log_of disk v ≡ needs (has_empty_log (sector_of disk) place) (Unbuilt 3)
+log_with v slot d place disk p j l = log_by v slot disk p ∙ ap (λ x. x >>= λ d. needs (has_empty_log (sector_of disk) (log_place v.total d)) (Unbuilt 3)) j ∙ ap (λ o. needs (has_empty_log (sector_of disk) o) (Unbuilt 3)) l
 
-pub no_log : (known : Option Disk) (v : Volume) (piece : Piece) (d : Option DataRun) → IfSome known (IsPiece v 2 piece) → judged 2 piece ≡ Ok d → log_place v.total d ≡ None
+pub no_log : (known : Option Disk) (v : Volume) (slot : Slot) (d : Option DataRun) → IfSome known (IsSlot v 2 slot) → judged 2 slot ≡ Ok d → log_place v.total d ≡ None
     → IfSome known (λ disk. log_of disk v ≡ Err (Unbuilt 3))
-no_log known v piece d is j l = one known _ _ (λ disk p. log_with v piece d None disk p j l) is
+no_log known v slot d is j l = one known _ _ (λ disk p. log_with v slot d None disk p j l) is
 
-pub log_is : (known : Option Disk) (v : Volume) (piece : Piece) (d : Option DataRun) (lcn : ℕ) (empty : Bool) → IfSome known (IsPiece v 2 piece) → judged 2 piece ≡ Ok d → log_place v.total d ≡ Some lcn
+pub log_is : (known : Option Disk) (v : Volume) (slot : Slot) (d : Option DataRun) (lcn : ℕ) (empty : Bool) → IfSome known (IsSlot v 2 slot) → judged 2 slot ≡ Ok d → log_place v.total d ≡ Some lcn
     → IfSome known (λ disk. empty ≡ is_emptied (sector_of disk) lcn) → IfSome known (λ disk. log_of disk v ≡ needs empty (Unbuilt 3))
-log_is known v piece d lcn empty is j l empties = both known _ _ _ (λ disk p e. log_with v piece d (Some lcn) disk p j l ∙ ap (λ b. needs b (Unbuilt 3)) (sym e)) is empties
+log_is known v slot d lcn empty is j l empties = both known _ _ _ (λ disk p e. log_with v slot d (Some lcn) disk p j l ∙ ap (λ b. needs b (Unbuilt 3)) (sym e)) is empties
 
 -- ---- record 0 and the table
 
-table_by : (v : Volume) (piece : Piece) (disk : Disk) → IsPiece v 0 piece disk → table_of disk v ≡ judged 0 piece >>= λ d. some_or (record_count v d) (Unbuilt 2)
+table_by : (v : Volume) (slot : Slot) (disk : Disk) → IsSlot v 0 slot disk → table_of disk v ≡ judged 0 slot >>= λ d. some_or (record_count v d) (Unbuilt 2)
 unfolding table_of
-table_by v piece disk e = ap (λ p. judged 0 p >>= λ d. some_or (record_count v d) (Unbuilt 2)) (sym e)
+table_by v slot disk e = ap (λ p. judged 0 p >>= λ d. some_or (record_count v d) (Unbuilt 2)) (sym e)
 
-pub table_error : (known : Option Disk) (v : Volume) (piece : Piece) (e : ScanError) → IfSome known (IsPiece v 0 piece) → Explains (scan_cause e) (judged 0 piece)
-    → IfSome known (λ disk. GivesOrFails {X = ℕ} {E = ScanError} (λ x. x) scan_cause (Err e) (table_of disk v))
-table_error known v piece e is h = one known _ _ (λ disk p. rw (table_by v piece disk p) (or_fails (λ x. x) e _ (explained e (judged 0 piece) _ h))) is
+pub table_error : (known : Option Disk) (v : Volume) (slot : Slot) (e : MountFault) → IfSome known (IsSlot v 0 slot) → Explains (scan_cause e) (judged 0 slot)
+    → IfSome known (λ disk. GivesOrFails {X = ℕ} {E = MountFault} (λ x. x) scan_cause (Err e) (table_of disk v))
+table_error known v slot e is h = one known _ _ (λ disk p. rw (table_by v slot disk p) (or_fails (λ x. x) e _ (explained e (judged 0 slot) _ h))) is
 
-pub table_is : (known : Option Disk) (v : Volume) (piece : Piece) (d : Option DataRun) (count : Option ℕ) → IfSome known (IsPiece v 0 piece) → judged 0 piece ≡ Ok d → record_count v d ≡ count
+pub table_is : (known : Option Disk) (v : Volume) (slot : Slot) (d : Option DataRun) (count : Option ℕ) → IfSome known (IsSlot v 0 slot) → judged 0 slot ≡ Ok d → record_count v d ≡ count
     → IfSome known (λ disk. table_of disk v ≡ some_or count (Unbuilt 2))
-table_is known v piece d count is j l = one known _ _ (λ disk p. table_by v piece disk p ∙ ap (λ x. x >>= λ d. some_or (record_count v d) (Unbuilt 2)) j ∙ ap (λ o. some_or o (Unbuilt 2)) l) is
+table_is known v slot d count is j l = one known _ _ (λ disk p. table_by v slot disk p ∙ ap (λ x. x >>= λ d. some_or (record_count v d) (Unbuilt 2)) j ∙ ap (λ o. some_or o (Unbuilt 2)) l) is
 
 -- ---- the walk
 
-links_found : (piece : ℕ → Piece) (count : ℕ) (found : Findings) → FoundBelow piece count found → table_links piece count ≡ settled found
+links_found : (slot : ℕ → Slot) (count : ℕ) (found : Findings) → FoundBelow slot count found → table_links slot count ≡ settled found
 unfolding table_links
-links_found piece count found below =
+links_found slot count found below =
     rw (below.whole, ← below.broken, ← below.unbuilt, ← below.links) refl
 
 -- what is settled of a whole walk is what is meant
-pub is_settled : (known : Option Disk) (piece : Disk → ℕ → Piece) (count : ℕ) (found : Findings) → IfSome known (λ disk. FoundBelow (piece disk) count found) → IfSome known (λ disk. table_links (piece disk) count ≡ settled found)
-is_settled known piece count found below = one known _ _ (λ disk b. links_found (piece disk) count found b) below
+pub is_settled : (known : Option Disk) (slot : Disk → ℕ → Slot) (count : ℕ) (found : Findings) → IfSome known (λ disk. FoundBelow (slot disk) count found) → IfSome known (λ disk. table_links (slot disk) count ≡ settled found)
+is_settled known slot count found below = one known _ _ (λ disk b. links_found (slot disk) count found b) below
 
-walk_error_of : {X : Type 0} (view : X → List Link) (piece : ℕ → Piece) (count : ℕ) (e : ScanError) → FindsAll piece count (Err e) → GivesOrFails {X = X} {E = ScanError} view scan_cause (Err e) (table_links piece count)
+walk_error_of : {X : Type 0} (view : X → List Link) (slot : ℕ → Slot) (count : ℕ) (e : MountFault) → FindsAll slot count (Err e) → GivesOrFails {X = X} {E = MountFault} view scan_cause (Err e) (table_links slot count)
 unfolding table_links
-walk_error_of view piece count errors.Memory h = h
-walk_error_of view piece count errors.Device h = h
-walk_error_of view piece count (errors.Refused r) h = rw h refl
+walk_error_of view slot count errors.Memory h = h
+walk_error_of view slot count errors.Device h = h
+walk_error_of view slot count (errors.Refused r) h = rw h refl
 
 -- an error of the walk
-pub walk_error : {X : Type 0} (known : Option Disk) (view : X → List Link) (piece : Disk → ℕ → Piece) (count : ℕ) (e : ScanError) → IfSome known (λ disk. FindsAll (piece disk) count (Err e))
-    → IfSome known (λ disk. GivesOrFails {X = X} {E = ScanError} view scan_cause (Err e) (table_links (piece disk) count))
-walk_error known view piece count e h = one known _ _ (λ disk p. walk_error_of view (piece disk) count e p) h
+pub walk_error : {X : Type 0} (known : Option Disk) (view : X → List Link) (slot : Disk → ℕ → Slot) (count : ℕ) (e : MountFault) → IfSome known (λ disk. FindsAll (slot disk) count (Err e))
+    → IfSome known (λ disk. GivesOrFails {X = X} {E = MountFault} view scan_cause (Err e) (table_links (slot disk) count))
+walk_error known view slot count e h = one known _ _ (λ disk p. walk_error_of view (slot disk) count e p) h
 
-pub gives_or_fails : {X A : Type 0} (view : X → A) (result : Result X ScanError) (meant : Result A Refusal) → Gives view scan_cause result meant → GivesOrFails view scan_cause result meant
+pub gives_or_fails : {X A : Type 0} (view : X → A) (result : Result X MountFault) (meant : Result A Refusal) → Gives view scan_cause result meant → GivesOrFails view scan_cause result meant
 gives_or_fails view (Ok x) meant h = h
 gives_or_fails view (Err e) meant h = or_fails view e meant h
 
 -- what a whole walk found is settled
-pub walked : {X : Type 0} (known : Option Disk) (view : X → List Link) (piece : Disk → ℕ → Piece) (count : ℕ) (found : Findings) (result : Result X ScanError)
-    → IfSome known (λ disk. FoundBelow (piece disk) count found) → Gives view scan_cause result (settled found)
-    → IfSome known (λ disk. GivesOrFails view scan_cause result (table_links (piece disk) count))
-walked known view piece count found result below h = one known _ _ (λ disk b. rw (links_found (piece disk) count found b) (gives_or_fails view result (settled found) h)) below
+pub walked : {X : Type 0} (known : Option Disk) (view : X → List Link) (slot : Disk → ℕ → Slot) (count : ℕ) (found : Findings) (result : Result X MountFault)
+    → IfSome known (λ disk. FoundBelow (slot disk) count found) → Gives view scan_cause result (settled found)
+    → IfSome known (λ disk. GivesOrFails view scan_cause result (table_links (slot disk) count))
+walked known view slot count found result below h = one known _ _ (λ disk b. rw (links_found (slot disk) count found b) (gives_or_fails view result (settled found) h)) below
 
 -- ---- sectors that are read
 
@@ -153,7 +153,7 @@ volume_by disk boot count n some size whole e =
     ∙ ap (volume_of count) (sym here)
 
 -- the volume of the boot sector that was read
-pub volume_read : (known : Option Disk) (count n : ℕ) (boot : List ℕ) (result : Result Volume ScanError) → 0 < count → n ≡ 1 → IfSome known (IsDiskOf count)
+pub volume_read : (known : Option Disk) (count n : ℕ) (boot : List ℕ) (result : Result Volume MountFault) → 0 < count → n ≡ 1 → IfSome known (IsDiskOf count)
     → IfSome known (λ disk. boot ≡ raw_from (sector_of disk) 0 n) → Gives (λ v. v) scan_cause result (volume_of count boot)
     → IfSome known (λ disk. GivesOrFails (λ v. v) scan_cause result (volume_on disk))
 volume_read known count n boot result some size whole read h =

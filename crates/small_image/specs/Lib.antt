@@ -1,5 +1,5 @@
 pub mod Volumes
-pub mod Pieces
+pub mod Slots
 pub mod Links
 pub mod Tables
 pub mod Scan

@@ -8,19 +8,20 @@ use Rattle.disk_model.specs.Numbers.{field}
 use Rattle.record_model.specs.declared.attribute.OwnForm.{OwnForm}
 use Rattle.record_model.specs.declared.attribute.OwnForm.TheVariants.{Resident, Mapped}
 use Rattle.record_model.specs.declared.attribute.Attr.{Attr}
-use Rattle.record_model.specs.Values.{file_name, parent_of, space_of, units_of}
+use Rattle.record_model.specs.Values.{parent_of, space_of, units_of}
 use Rattle.record_model.specs.Records.{Record}
-use Rattle.tree_model.specs.declared.link.Link.{Link}
-use Rattle.small_image.specs.declared.piece.Piece.{Piece}
-use Rattle.small_image.specs.declared.piece.Piece.TheVariants.{Torn, Free, Broken, Used}
+use Rattle.record_model.specs.Constants.{file_name}
+use Rattle.file_tree.specs.declared.link.Link.{Link}
+use Rattle.file_tree.specs.Trees.{short_space}
+use Rattle.small_image.specs.declared.slot.Slot.{Slot}
+use Rattle.small_image.specs.declared.slot.Slot.TheVariants.{Torn, Free, Broken, Used}
 
 -- the value has 0x42 bytes and its units
 abbrev pub has_its_units : List ℕ → Bool
 has_its_units value = nat_le 0x42 (length value) && length value == 0x42 + 2 * field 0x40 1 value
 
--- namespace 2 is that of short names
-abbrev pub is_short : List ℕ → Bool
-is_short value = space_of value == 2
+abbrev pub is_short_value : List ℕ → Bool
+is_short_value value = space_of value == short_space
 
 -- the name in its directory, where its units are a name
 abbrev pub named : FileRef → List ℕ → Result (List ℕ) NameFault → Option Link
@@ -29,7 +30,7 @@ named child value (Err fault) = None
 
 -- the link of a file-name value, if it is long
 unfoldable pub value_link : FileRef → List ℕ → Option Link
-value_link child value = if not (has_its_units value) then None else if is_short value then None else named child value (name_of (units_of value))
+value_link child value = if not (has_its_units value) then None else if is_short_value value then None else named child value (name_of (units_of value))
 
 abbrev pub form_link : FileRef → OwnForm → Option Link
 form_link child (Resident value indexed) = value_link child value
@@ -49,8 +50,8 @@ record_links number r =
     if r.head.base.number == 0 && r.head.base.seq == 0 then flat_map (λ a. listed (attr_link (record { number = number; seq = r.head.seq }) a)) r.attrs
     else []
 
-abbrev pub piece_links : ℕ → Piece → List Link
-piece_links number Torn = []
-piece_links number Free = []
-piece_links number (Broken rule) = []
-piece_links number (Used r) = record_links number r
+abbrev pub slot_links : ℕ → Slot → List Link
+slot_links number Torn = []
+slot_links number Free = []
+slot_links number (Broken rule) = []
+slot_links number (Used r) = record_links number r

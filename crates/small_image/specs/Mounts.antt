@@ -10,23 +10,23 @@ use Rattle.state_model.specs.Indexes.{any_has_children}
 use Rattle.state_model.specs.Rules.{broken_rule}
 use Rattle.state_model.specs.Loads.{table_in}
 use Rattle.small_image.specs.declared.boot.Volume.{Volume}
-use Rattle.small_image.specs.declared.piece.Piece.{Piece}
-use Rattle.small_image.specs.declared.piece.Piece.TheVariants.{Torn, Free, Broken as broken_piece, Used}
+use Rattle.small_image.specs.declared.slot.Slot.{Slot}
+use Rattle.small_image.specs.declared.slot.Slot.TheVariants.{Torn, Free, Broken as broken_slot, Used}
 use Rattle.image_scan.specs.declared.refusal.Refusal.{Refusal}
 use Rattle.image_scan.specs.declared.refusal.Refusal.TheVariants.{Unbuilt, BadVolume}
-use Rattle.small_image.specs.Scan.{piece_at, log_of, table_of, volume_on}
+use Rattle.small_image.specs.Scan.{slot_at, log_of, table_of, volume_on}
 use Rattle.small_image.specs.Tables.{table_links, unless}
 
 -- the record, where it is in use
-abbrev pub used_record : Piece → Option Record
+abbrev pub used_record : Slot → Option Record
 used_record Torn = None
 used_record Free = None
-used_record (broken_piece rule) = None
+used_record (broken_slot rule) = None
 used_record (Used r) = Some r
 
 -- the records in use of the first so many, by number
-unfoldable pub records_of : (ℕ → Piece) → ℕ → List (Option Record)
-records_of piece count = map (λ n. used_record (piece n)) (range_with_len 0 count)
+unfoldable pub records_of : (ℕ → Slot) → ℕ → List (Option Record)
+records_of slot count = map (λ n. used_record (slot n)) (range_with_len 0 count)
 
 abbrev pub bad_volume : Option Broken → Option Refusal
 bad_volume None = None
@@ -42,11 +42,11 @@ abbrev pub judged_records : List ℕ → List (Option Record) → Result (List (
 judged_records upper records = soundness upper records >>= λ _. Ok records
 
 -- the records of a table, after what refuses a scan
-abbrev pub table_records : List ℕ → (ℕ → Piece) → ℕ → Result (List (Option Record)) Refusal
-table_records upper piece count = table_links piece count >>= λ _. judged_records upper (records_of piece count)
+abbrev pub table_records : List ℕ → (ℕ → Slot) → ℕ → Result (List (Option Record)) Refusal
+table_records upper slot count = table_links slot count >>= λ _. judged_records upper (records_of slot count)
 
 abbrev pub table_records_of : List ℕ → List (List ℕ) → Volume → Result (List (Option Record)) Refusal
-table_records_of upper disk v = table_of disk v >>= λ count. table_records upper (piece_at (content_of (sector_of disk)) v.mft) count
+table_records_of upper disk v = table_of disk v >>= λ count. table_records upper (slot_at (content_of (sector_of disk)) v.mft) count
 
 abbrev pub volume_records : List ℕ → List (List ℕ) → Volume → Result (List (Option Record)) Refusal
 volume_records upper disk v = log_of disk v >>= λ _. table_records_of upper disk v

@@ -10,16 +10,16 @@ use Rattle.record_model.specs.declared.attribute.Attr.{Attr}
 use Rattle.record_model.specs.declared.runs.Run.{Run}
 use Rattle.record_model.specs.declared.runs.PairsFault.{PairsFault}
 use Rattle.record_model.specs.Pairs.{runs_of}
-use Rattle.record_model.specs.Values.{attribute_list, data_type}
 use Rattle.record_model.specs.Records.{Record}
+use Rattle.record_model.specs.Constants.{attribute_list, data_type}
 use Rattle.small_image.specs.declared.boot.Volume.{Volume}
-use Rattle.tree_model.specs.declared.link.Link.{Link}
-use Rattle.small_image.specs.declared.piece.Piece.{Piece}
-use Rattle.small_image.specs.declared.piece.Piece.TheVariants.{Torn, Free, Broken, Used}
+use Rattle.file_tree.specs.declared.link.Link.{Link}
+use Rattle.small_image.specs.declared.slot.Slot.{Slot}
+use Rattle.small_image.specs.declared.slot.Slot.TheVariants.{Torn, Free, Broken, Used}
 use Rattle.small_image.specs.declared.table.DataRun.{DataRun}
 use Rattle.image_scan.specs.declared.refusal.Refusal.{Refusal}
 use Rattle.image_scan.specs.declared.refusal.Refusal.TheVariants.{BadFixup, BadRecord, Unbuilt}
-use Rattle.small_image.specs.Links.{piece_links}
+use Rattle.small_image.specs.Links.{slot_links}
 
 -- ---- a stream of one run
 
@@ -88,19 +88,19 @@ some_or (Some x) refusal = Ok x
 -- ---- refusals of a record
 
 -- a record that is read alone: torn, or breaking a rule, it is refused
-abbrev pub judged : ℕ → Piece → Result (Option DataRun) Refusal
+abbrev pub judged : ℕ → Slot → Result (Option DataRun) Refusal
 judged number Torn = Err (BadFixup number)
 judged number (Broken rule) = Err (BadRecord number rule)
 judged number Free = Ok None
 judged number (Used r) = Ok (data_run r)
 
-abbrev pub torn_refusal : ℕ → Piece → Option Refusal
+abbrev pub torn_refusal : ℕ → Slot → Option Refusal
 torn_refusal number Torn = Some (BadFixup number)
 torn_refusal number Free = None
 torn_refusal number (Broken rule) = None
 torn_refusal number (Used r) = None
 
-abbrev pub rule_refusal : ℕ → Piece → Option Refusal
+abbrev pub rule_refusal : ℕ → Slot → Option Refusal
 rule_refusal number Torn = None
 rule_refusal number Free = None
 rule_refusal number (Broken rule) = Some (BadRecord number rule)
@@ -117,7 +117,7 @@ is_unbuilt_attr a = is_mapped_form a.form || a.head.kind == attribute_list
 unfoldable pub is_unbuilt : ℕ → Record → Bool
 is_unbuilt number r = if number == 0 || number == 2 then false else list_any is_unbuilt_attr r.attrs
 
-abbrev pub unbuilt_refusal : ℕ → Piece → Option Refusal
+abbrev pub unbuilt_refusal : ℕ → Slot → Option Refusal
 unbuilt_refusal number Torn = None
 unbuilt_refusal number Free = None
 unbuilt_refusal number (Broken rule) = None
@@ -145,9 +145,9 @@ unless (Some refusal) = Err refusal
 
 -- Over all records by rising number: first one that is torn, then one that breaks a rule, then one that isn't handled
 -- yet; else the links of all.
-unfoldable pub table_links : (ℕ → Piece) → ℕ → Result (List Link) Refusal
-table_links piece count =
-    unless (first_of (λ n. torn_refusal n (piece n)) count)
-    >>= λ _. unless (first_of (λ n. rule_refusal n (piece n)) count)
-    >>= λ _. unless (first_of (λ n. unbuilt_refusal n (piece n)) count)
-    >>= λ _. Ok (joined (λ n. piece_links n (piece n)) count)
+unfoldable pub table_links : (ℕ → Slot) → ℕ → Result (List Link) Refusal
+table_links slot count =
+    unless (first_of (λ n. torn_refusal n (slot n)) count)
+    >>= λ _. unless (first_of (λ n. rule_refusal n (slot n)) count)
+    >>= λ _. unless (first_of (λ n. unbuilt_refusal n (slot n)) count)
+    >>= λ _. Ok (joined (λ n. slot_links n (slot n)) count)

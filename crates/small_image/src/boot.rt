@@ -6,7 +6,7 @@ ghost use Rattle.small_image.specs.Volumes.{is_built, volume_of};
 ghost use Rattle.image_scan.specs.Errors.{scan_cause};
 
 use disk_model::{u16_at, u64_at};
-use image_scan::{Refusal, ScanError};
+use image_scan::{MountFault, Refusal};
 
 // The name NTFS and four spaces, as a number.
 const NTFS: u64 = 0x2020_2020_5346_544e;
@@ -40,7 +40,7 @@ fn is_built(sectors: u64, boot: &[u8]) -> bool
 
 /// The volume of a boot sector, on a device of so many sectors.
 #[tactic(auto, unfolding(crate::specs::Volumes::volume_of))]
-pub fn volume_of(sectors: u64, boot: &[u8]) -> Result<Volume, ScanError>
+pub fn volume_of(sectors: u64, boot: &[u8]) -> Result<Volume, MountFault>
     requires { length boot.now ≡ 512 }
     ensures value { Gives (λ v. v) scan_cause result (volume_of sectors boot.now) }
     ensures records { IfOk result (λ v. v.mft + 8 ≤ v.total) }
@@ -48,13 +48,13 @@ pub fn volume_of(sectors: u64, boot: &[u8]) -> Result<Volume, ScanError>
     ensures small { IfOk result (λ v. v.total ≤ 16777216) }
 {
     if u64_at(boot, 3) != NTFS {
-        return Err(ScanError::Refused(Refusal::NotNtfs { rule: 1 }));
+        return Err(MountFault::Refused(Refusal::NotNtfs { rule: 1 }));
     }
     if u16_at(boot, 0x1fe) != BOOT_MARK {
-        return Err(ScanError::Refused(Refusal::NotNtfs { rule: 2 }));
+        return Err(MountFault::Refused(Refusal::NotNtfs { rule: 2 }));
     }
     if !is_built(sectors, boot) {
-        return Err(ScanError::Refused(Refusal::Unbuilt { rule: 1 }));
+        return Err(MountFault::Refused(Refusal::Unbuilt { rule: 1 }));
     }
     Ok(Volume {
         mft: u64_at(boot, 0x30),

@@ -11,7 +11,7 @@ mod finding;
 mod loading;
 mod mounting;
 mod names;
-mod piece;
+mod slot;
 mod table;
 mod walk;
 

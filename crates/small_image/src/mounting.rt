@@ -7,27 +7,31 @@ ghost use Rattle.disk_model.specs.Content.{content_of};
 ghost use Rattle.device_view.specs.Devices.{KeepsDevice, CountsOnDevice};
 ghost use Rattle.image_scan.specs.Errors.{scan_cause};
 ghost use Rattle.small_image.specs.Mounts.{records_of, soundness, judged_records, table_records, table_records_of, volume_records, mounted_of};
-ghost use Rattle.small_image.specs.Scan.{piece_at};
+ghost use Rattle.small_image.specs.Scan.{slot_at};
 
 use crate::boot::Volume;
 use crate::finding::{check_log, count_records, links_of_table, read_volume};
 use crate::loading::load_table;
 use file_record::FileRec;
-use image_scan::{Refusal, ScanError};
+use image_scan::{MountFault, Refusal};
 use record_tree::{any_has_children, broken_rule};
 use sector_device::Device;
 use std::alloc::Global;
 
 // Refuses records that stand for no tree, and an index with blocks.
 #[tactic(auto, unfolding(crate::specs::Mounts::soundness))]
-fn check_records(alloc: Global, upper: &[u16], records: &[Option<FileRec>]) -> Result<(), ScanError>
+fn check_records(
+    alloc: Global,
+    upper: &[u16],
+    records: &[Option<FileRec>],
+) -> Result<(), MountFault>
     ensures { Gives (λ x. x) scan_cause result (soundness upper.now records.now) }
 {
     if any_has_children(alloc, records)? {
-        return Err(ScanError::Refused(Refusal::Unbuilt { rule: 5 }));
+        return Err(MountFault::Refused(Refusal::Unbuilt { rule: 5 }));
     }
     match broken_rule(alloc, upper, records)? {
-        Some(broken) => Err(ScanError::Refused(Refusal::BadVolume {
+        Some(broken) => Err(MountFault::Refused(Refusal::BadVolume {
             rule: broken.rule,
             number: broken.number,
         })),
@@ -40,7 +44,7 @@ fn judged_records(
     alloc: Global,
     upper: &[u16],
     records: Vec<Option<FileRec>>,
-) -> Result<Vec<Option<FileRec>>, ScanError>
+) -> Result<Vec<Option<FileRec>>, MountFault>
     ensures { Gives (λ records. records.items) scan_cause result (judged_records upper.now records.items) }
 {
     check_records(alloc, upper, &records)?;
@@ -54,12 +58,12 @@ fn sound_table<D: Device>(
     device: &mut D,
     first: u64,
     count: u64,
-) -> Result<Vec<Option<FileRec>>, ScanError>
+) -> Result<Vec<Option<FileRec>>, MountFault>
     requires within { first + 2 * count ≤ D.sector_count device.old }
     requires fits { first + 2 * count < 2 ^ 32 }
-    ensures answer { IfSome (D.gives device.old) (λ disk. GivesOrFails (λ records. records.items) scan_cause result (judged_records upper.now (records_of (piece_at (content_of (sector_of disk)) first) count))) }
+    ensures answer { IfSome (D.gives device.old) (λ disk. GivesOrFails (λ records. records.items) scan_cause result (judged_records upper.now (records_of (slot_at (content_of (sector_of disk)) first) count))) }
     ensures kept { KeepsDevice D.gives D.sector_count D.changes_of D.fault_count device.old device.new }
-    ensures fault { IsErrOf result ScanError.Device → HasFailed (D.fault_count device.old) (D.fault_count device.new) (D.moment_of device.new) }
+    ensures fault { IsErrOf result MountFault.Device → HasFailed (D.fault_count device.old) (D.fault_count device.new) (D.moment_of device.new) }
     ensures counted { CountsOnDevice scan_cause (D.fault_count device.old) (D.fault_count device.new) (D.moment_of device.new) result }
 {
     let records = load_table(alloc, device, first, count)?;
@@ -73,12 +77,12 @@ fn records_of_table<D: Device>(
     device: &mut D,
     first: u64,
     count: u64,
-) -> Result<Vec<Option<FileRec>>, ScanError>
+) -> Result<Vec<Option<FileRec>>, MountFault>
     requires within { first + 2 * count ≤ D.sector_count device.old }
     requires fits { first + 2 * count < 2 ^ 32 }
-    ensures answer { IfSome (D.gives device.old) (λ disk. GivesOrFails (λ records. records.items) scan_cause result (table_records upper.now (piece_at (content_of (sector_of disk)) first) count)) }
+    ensures answer { IfSome (D.gives device.old) (λ disk. GivesOrFails (λ records. records.items) scan_cause result (table_records upper.now (slot_at (content_of (sector_of disk)) first) count)) }
     ensures kept { KeepsDevice D.gives D.sector_count D.changes_of D.fault_count device.old device.new }
-    ensures fault { IsErrOf result ScanError.Device → HasFailed (D.fault_count device.old) (D.fault_count device.new) (D.moment_of device.new) }
+    ensures fault { IsErrOf result MountFault.Device → HasFailed (D.fault_count device.old) (D.fault_count device.new) (D.moment_of device.new) }
     ensures counted { CountsOnDevice scan_cause (D.fault_count device.old) (D.fault_count device.new) (D.moment_of device.new) result }
 {
     let _links = links_of_table(alloc, device, first, count)?;
@@ -91,13 +95,13 @@ fn table_records_of<D: Device>(
     upper: &[u16],
     device: &mut D,
     volume: Volume,
-) -> Result<Vec<Option<FileRec>>, ScanError>
+) -> Result<Vec<Option<FileRec>>, MountFault>
     requires records { volume.mft + 8 ≤ volume.total }
     requires within { volume.total ≤ D.sector_count device.old }
     requires small { volume.total ≤ 16777216 }
     ensures answer { IfSome (D.gives device.old) (λ disk. GivesOrFails (λ records. records.items) scan_cause result (table_records_of upper.now disk volume)) }
     ensures kept { KeepsDevice D.gives D.sector_count D.changes_of D.fault_count device.old device.new }
-    ensures fault { IsErrOf result ScanError.Device → HasFailed (D.fault_count device.old) (D.fault_count device.new) (D.moment_of device.new) }
+    ensures fault { IsErrOf result MountFault.Device → HasFailed (D.fault_count device.old) (D.fault_count device.new) (D.moment_of device.new) }
     ensures counted { CountsOnDevice scan_cause (D.fault_count device.old) (D.fault_count device.new) (D.moment_of device.new) result }
 {
     let count = count_records(alloc, device, volume)?;
@@ -110,13 +114,13 @@ fn volume_records<D: Device>(
     upper: &[u16],
     device: &mut D,
     volume: Volume,
-) -> Result<Vec<Option<FileRec>>, ScanError>
+) -> Result<Vec<Option<FileRec>>, MountFault>
     requires records { volume.mft + 8 ≤ volume.total }
     requires within { volume.total ≤ D.sector_count device.old }
     requires small { volume.total ≤ 16777216 }
     ensures answer { IfSome (D.gives device.old) (λ disk. GivesOrFails (λ records. records.items) scan_cause result (volume_records upper.now disk volume)) }
     ensures kept { KeepsDevice D.gives D.sector_count D.changes_of D.fault_count device.old device.new }
-    ensures fault { IsErrOf result ScanError.Device → HasFailed (D.fault_count device.old) (D.fault_count device.new) (D.moment_of device.new) }
+    ensures fault { IsErrOf result MountFault.Device → HasFailed (D.fault_count device.old) (D.fault_count device.new) (D.moment_of device.new) }
     ensures counted { CountsOnDevice scan_cause (D.fault_count device.old) (D.fault_count device.new) (D.moment_of device.new) result }
 {
     check_log(alloc, device, volume)?;
@@ -132,10 +136,10 @@ pub fn mount<D: Device>(
     alloc: Global,
     upper: &[u16],
     device: &mut D,
-) -> Result<Vec<Option<FileRec>>, ScanError>
+) -> Result<Vec<Option<FileRec>>, MountFault>
     ensures answer { IfSome (D.gives device.old) (λ disk. GivesOrFails (λ records. records.items) scan_cause result (mounted_of upper.now disk)) }
     ensures kept { KeepsDevice D.gives D.sector_count D.changes_of D.fault_count device.old device.new }
-    ensures fault { IsErrOf result ScanError.Device → HasFailed (D.fault_count device.old) (D.fault_count device.new) (D.moment_of device.new) }
+    ensures fault { IsErrOf result MountFault.Device → HasFailed (D.fault_count device.old) (D.fault_count device.new) (D.moment_of device.new) }
     ensures counted { CountsOnDevice scan_cause (D.fault_count device.old) (D.fault_count device.new) (D.moment_of device.new) result }
 {
     let volume = read_volume(device)?;

@@ -6,15 +6,11 @@ ghost use Rattle.small_image.specs.Links.{has_its_units, named, value_link, attr
 
 use disk_model::{u8_at, u64_at};
 use file_record::{Attr, FileRec, OwnForm};
+use file_tree::{Link, SHORT};
 use host_base::{FileRef, Memory};
-use record_model::units_at;
+use record_model::{FILE_NAME, units_at};
 use std::alloc::{AllocError, Global};
-use tree_model::Link;
 use utf16_name::{Name, NameFault, Units};
-
-const FILE_NAME: u32 = 0x30;
-
-const SHORT_NAMES: u8 = 2;
 
 // The parent directory of a file-name value.
 #[tactic(auto, unfolding(record_model::specs::Values::parent_of))]
@@ -77,7 +73,7 @@ fn value_link(alloc: Global, child: FileRef, value: &[u8]) -> Result<Option<Link
     if !has_its_units(value) {
         return Ok(None);
     }
-    if space_of(value) == SHORT_NAMES {
+    if space_of(value) == SHORT {
         return Ok(None);
     }
     named(alloc, child, value)

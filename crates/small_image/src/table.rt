@@ -6,16 +6,12 @@ ghost use Rattle.image_scan.specs.Errors.{scan_cause};
 ghost use Rattle.host_base.specs.Answers.{Gives};
 
 use crate::boot::Volume;
-use crate::piece::Piece;
+use crate::slot::Slot;
 use file_record::{Attr, FileRec, OwnForm, Sizes};
 use host_base::Memory;
-use image_scan::{Refusal, ScanError};
-use record_model::{PairsFault, Run};
+use image_scan::{MountFault, Refusal};
+use record_model::{ATTRIBUTE_LIST, DATA, PairsFault, Run};
 use std::alloc::Global;
-
-const DATA: u32 = 0x80;
-
-const ATTRIBUTE_LIST: u32 = 0x20;
 
 /// A stream of one run, with its sizes.
 #[derive(Clone, Copy, Debug, PartialEq, Eq)]
@@ -143,17 +139,17 @@ pub fn record_count(volume: Volume, stream: Option<DataRun>) -> Option<u64>
 
 /// The one run of the unnamed data of a record that is read alone: torn, or breaking a rule, it is
 /// refused.
-pub fn judged(alloc: Global, number: u64, piece: &Piece) -> Result<Option<DataRun>, ScanError>
-    ensures { Gives (λ d. d) scan_cause result (judged number piece.now) }
+pub fn judged(alloc: Global, number: u64, slot: &Slot) -> Result<Option<DataRun>, MountFault>
+    ensures { Gives (λ d. d) scan_cause result (judged number slot.now) }
 {
-    match piece {
-        Piece::Torn => Err(ScanError::Refused(Refusal::BadFixup { number })),
-        Piece::Broken { rule } => Err(ScanError::Refused(Refusal::BadRecord {
+    match slot {
+        Slot::Torn => Err(MountFault::Refused(Refusal::BadFixup { number })),
+        Slot::Broken { rule } => Err(MountFault::Refused(Refusal::BadRecord {
             number,
             rule: *rule,
         })),
-        Piece::Free => Ok(None),
-        Piece::Used(file) => Ok(data_run(alloc, file)?),
+        Slot::Free => Ok(None),
+        Slot::Used(file) => Ok(data_run(alloc, file)?),
     }
 }
 

@@ -5,17 +5,17 @@ ghost use Rattle.disk_model.specs.declared.block.BlockKind.TheVariants.{FileRec 
 ghost use Rattle.disk_model.specs.Bytes.{part};
 ghost use Rattle.disk_model.specs.Content.{body_of};
 ghost use Rattle.image_scan.specs.Errors.{scan_cause};
-ghost use Rattle.small_image.specs.Pieces.{piece_of};
+ghost use Rattle.small_image.specs.Slots.{slot_of};
 ghost use Rattle.small_image.specs.Tables.{torn_refusal, unless, first_of, first_some};
 ghost use Rattle.small_image.specs.Walks.{Notes, FoundBelow, IsChunk, FindsBelow};
-ghost use Rattle.small_image.specs.declared.piece.Piece.{Piece as the_piece};
+ghost use Rattle.small_image.specs.declared.slot.Slot.{Slot as the_slot};
 
 use crate::names::push_links;
-use crate::piece::{Piece, piece_of};
+use crate::slot::{Slot, slot_of};
 use crate::table::is_unbuilt;
-use image_scan::{Refusal, ScanError};
+use file_tree::Link;
+use image_scan::{MountFault, Refusal};
 use std::alloc::Global;
-use tree_model::Link;
 
 /// What a walk has found so far: the links, the first record that breaks a rule, and the first one
 /// that isn't handled yet.
@@ -47,20 +47,20 @@ fn note_unbuilt(findings: &mut Findings, is: bool)
 }
 
 // Notes a record, unless it is torn.
-fn note_piece(
+fn note_slot(
     alloc: Global,
     number: u64,
-    piece: &Piece,
+    slot: &Slot,
     findings: &mut Findings,
-) -> Result<(), ScanError>
-    ensures answer { Gives (λ x. x) scan_cause result (unless (torn_refusal number piece.now)) }
-    ensures noted { OnOk result (Notes number piece.now findings.old findings.new) }
-    ensures inside { result ≢ Err ScanError.Device }
+) -> Result<(), MountFault>
+    ensures answer { Gives (λ x. x) scan_cause result (unless (torn_refusal number slot.now)) }
+    ensures noted { OnOk result (Notes number slot.now findings.old findings.new) }
+    ensures inside { result ≢ Err MountFault.Device }
 {
-    match piece {
-        Piece::Torn => Err(ScanError::Refused(Refusal::BadFixup { number })),
-        Piece::Free => Ok(()),
-        Piece::Broken { rule } => {
+    match slot {
+        Slot::Torn => Err(MountFault::Refused(Refusal::BadFixup { number })),
+        Slot::Free => Ok(()),
+        Slot::Broken { rule } => {
             note_broken(
                 findings,
                 Refusal::BadRecord {
@@ -70,7 +70,7 @@ fn note_piece(
             );
             Ok(())
         }
-        Piece::Used(file) => {
+        Slot::Used(file) => {
             note_unbuilt(findings, is_unbuilt(number, file));
             Ok(push_links(alloc, number, file, &mut findings.links)?)
         }
@@ -83,16 +83,16 @@ fn note_record(
     number: u64,
     bytes: &[u8],
     findings: &mut Findings,
-) -> Result<(), ScanError>
+) -> Result<(), MountFault>
     requires { length bytes.now ≡ 1024 }
-    ensures answer { Gives (λ x. x) scan_cause result (unless (torn_refusal number (piece_of (body_of file_kind bytes.now)))) }
-    ensures noted { OnOk result (Notes number (piece_of (body_of file_kind bytes.now)) findings.old findings.new) }
-    ensures inside { result ≢ Err ScanError.Device }
+    ensures answer { Gives (λ x. x) scan_cause result (unless (torn_refusal number (slot_of (body_of file_kind bytes.now)))) }
+    ensures noted { OnOk result (Notes number (slot_of (body_of file_kind bytes.now)) findings.old findings.new) }
+    ensures inside { result ≢ Err MountFault.Device }
 {
     let mut raw = [0; 1024];
     raw.copy_from_slice(bytes);
-    let piece = piece_of(alloc, &mut raw)?;
-    note_piece(alloc, number, &piece, findings)
+    let slot = slot_of(alloc, &mut raw)?;
+    note_slot(alloc, number, &slot, findings)
 }
 
 // The bytes of the record at this place of a chunk.
@@ -111,11 +111,11 @@ pub fn note_chunk(
     base: u64,
     chunk: &[u8],
     findings: &mut Findings,
-) -> Result<(), ScanError>
+) -> Result<(), MountFault>
     requires whole { length chunk.now % 1024 ≡ 0 }
     requires fits { base + length chunk.now < 2 ^ 64 }
-    ensures inside { result ≢ Err ScanError.Device }
-    ensures found { (piece : ℕ → the_piece) → IsChunk piece base chunk.now → FoundBelow piece base findings.old → FindsBelow piece (base + length chunk.now / 1024) result findings.new }
+    ensures inside { result ≢ Err MountFault.Device }
+    ensures found { (slot : ℕ → the_slot) → IsChunk slot base chunk.now → FoundBelow slot base findings.old → FindsBelow slot (base + length chunk.now / 1024) result findings.new }
 {
     for i in 0..chunk.len() / 1024 {
         note_record(alloc, base + i as u64, record_bytes(chunk, i), findings)?;

@@ -6,8 +6,8 @@ use Rattle.std.specs.List.{range_with_len, filter_map}
 use Rattle.std.proofs.lemmas.Bool.Decides.{nat_tests}
 use Rattle.std.proofs.lemmas.Bool.{cases_lt}
 use Rattle.record_model.specs.Records.{Record}
-use Rattle.tree_model.specs.declared.node.Node.{Node}
-use Rattle.tree_model.specs.Trees.{has_number, node_at}
+use Rattle.file_tree.specs.declared.node.Node.{Node}
+use Rattle.file_tree.specs.Trees.{has_number, node_at}
 use Rattle.state_model.specs.Files.{Table, file_at}
 use Rattle.state_model.specs.Trees.{node_in, node_if, node_of, node_with, nodes_of}
 

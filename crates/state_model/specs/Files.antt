@@ -8,12 +8,12 @@ use Rattle.record_model.specs.declared.attribute.Attr.{Attr}
 use Rattle.record_model.specs.declared.values.StdInfo.{StdInfo}
 use Rattle.record_model.specs.declared.values.FileNameValue.{FileNameValue}
 use Rattle.record_model.specs.declared.values.ValueFault.{ValueFault}
-use Rattle.record_model.specs.Values.{standard_information, attribute_list, file_name, data_type}
 use Rattle.record_model.specs.StdValues.{std_info_of, file_name_of}
 use Rattle.record_model.specs.Records.{Record}
-use Rattle.tree_model.specs.declared.link.Link.{Link}
-use Rattle.tree_model.specs.declared.node.Why.{Why}
-use Rattle.tree_model.specs.declared.node.Why.TheVariants.{List as has_list, Reparse, Encrypted, Compressed, Sparse}
+use Rattle.record_model.specs.Constants.{standard_information, attribute_list, file_name, data_type, reparse_point}
+use Rattle.file_tree.specs.declared.link.Link.{Link}
+use Rattle.file_tree.specs.declared.node.Why.{Why}
+use Rattle.file_tree.specs.declared.node.Why.TheVariants.{List as has_list, Reparse, Encrypted, Compressed, Sparse}
 
 -- the record in use of each number, if there is one
 abbrev pub Table : Type 0
@@ -68,12 +68,6 @@ links_at p n = links_of n (file_at p n)
 
 unfoldable pub has_type : ℕ → Record → Bool
 has_type kind r = list_any (λ (a : Attr). a.head.kind == kind) r.attrs
-
-abbrev pub object_id : ℕ
-object_id = 0x40
-
-abbrev pub reparse_point : ℕ
-reparse_point = 0xC0
 
 abbrev pub no_info : StdInfo
 no_info = record { created = 0; modified = 0; changed = 0; read_at = 0; flags = 0 }

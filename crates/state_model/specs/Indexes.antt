@@ -1,5 +1,5 @@
 -- The index of a directory, where it stands in its record.
-use Rattle.std.specs.Prelude.{ℕ, Bool, false, ◌&&◌, ◌==◌, nat_eq, is_some, List, [], ◌∷◌, find, Option, Some, None, Result, Ok, Err}
+use Rattle.std.specs.Prelude.{ℕ, Bool, false, ◌&&◌, ◌==◌, nat_eq, is_some, List, find, Option, Some, None, Result, Ok, Err}
 use Rattle.std.specs.List.{list_any, filter_map, range_with_len}
 use Rattle.std.specs.Cmp.Lexicographic.{pointwise}
 use Rattle.record_model.specs.declared.attribute.OwnForm.{OwnForm}
@@ -9,15 +9,9 @@ use Rattle.record_model.specs.declared.entry.Entry.{Entry}
 use Rattle.record_model.specs.StdValues.{file_name_of}
 use Rattle.record_model.specs.Records.{Record}
 use Rattle.record_model.specs.Nodes.{root_at}
-use Rattle.tree_model.specs.declared.link.Link.{Link}
+use Rattle.record_model.specs.Constants.{index_root, names_index}
+use Rattle.file_tree.specs.declared.link.Link.{Link}
 use Rattle.state_model.specs.Files.{Table, file_at, is_directory_record, named}
-
-abbrev pub index_root : ℕ
-index_root = 0x90
-
--- $I30
-unfoldable pub names_index : List ℕ
-names_index = 0x24 ∷ 0x49 ∷ 0x33 ∷ 0x30 ∷ []
 
 unfoldable pub is_names_root : Attr → Bool
 is_names_root a = a.head.kind == index_root && pointwise nat_eq a.name names_index

@@ -1,6 +1,6 @@
 -- The laws of tables and trees.
 use Rattle.std.specs.Prelude.{◌≡◌, ℕ, ◌<◌, None}
-use Rattle.tree_model.specs.Trees.{node_at}
+use Rattle.file_tree.specs.Trees.{node_at}
 use Rattle.state_model.specs.Files.{Table}
 use Rattle.state_model.specs.Trees.{node_in, nodes_of}
 

@@ -3,6 +3,7 @@ use Rattle.std.specs.Prelude.{ℕ, zero, suc, ◌+◌, ◌*◌, ◌/◌, ◌%◌
 use Rattle.std.specs.List.{list_all, list_any, flat_map, range_with_len}
 use Rattle.std.specs.Cmp.Lexicographic.{pointwise}
 use Rattle.host_base.specs.Answers.{◌>>=◌, needs}
+use Rattle.host_base.specs.FileRefs.{same_reference}
 use Rattle.disk_model.specs.declared.block.Block.{Block}
 use Rattle.disk_model.specs.declared.block.Body.{Body}
 use Rattle.disk_model.specs.declared.block.BlockKind.TheVariants.{FileRec, Index}
@@ -15,9 +16,9 @@ use Rattle.record_model.specs.declared.list_entry.ListEntry.{ListEntry}
 use Rattle.record_model.specs.declared.runs.Run.{Run}
 use Rattle.record_model.specs.declared.runs.PairsFault.{PairsFault}
 use Rattle.record_model.specs.Pairs.{runs_of}
-use Rattle.record_model.specs.Values.{attribute_list, data_type}
 use Rattle.record_model.specs.Records.{Record, record_at, shaped_at, has_lawful_values, has_in_use_flag}
 use Rattle.record_model.specs.ListEntries.{ReadEntries, list_entries}
+use Rattle.record_model.specs.Constants.{attribute_list, data_type, index_allocation, names_index}
 use Rattle.state_model.specs.declared.geometry.Geometry.{Geometry}
 use Rattle.state_model.specs.declared.geometry.MapRefusal.{MapRefusal}
 use Rattle.state_model.specs.declared.geometry.MapRefusal.TheVariants.{BadFixup, BadRecord, MftList, MftLarge}
@@ -25,18 +26,16 @@ use Rattle.state_model.specs.declared.stream.Extents.{Extents}
 use Rattle.state_model.specs.declared.stream.Stream.{Stream}
 use Rattle.state_model.specs.declared.stream.Stream.TheVariants.{Held, Placed}
 use Rattle.state_model.specs.Files.{Table, file_at, reference, is_base_record, is_directory_record, has_type}
-use Rattle.state_model.specs.Indexes.{names_index}
-use Rattle.state_model.specs.Rules.{same_reference}
 use Rattle.state_model.specs.Streams.{first_vcn, stream_of, stream_bytes, block_at, has_cut_block}
 
 -- ---- one record
 
 -- torn, not in use, breaking a rule, or in use
-pub data Piece : Type 0 where
-  Torn : Piece
-  Free : Piece
-  Broken : ℕ → Piece
-  Used : Record → Piece
+pub data Slot : Type 0 where
+  Torn : Slot
+  Free : Slot
+  Broken : ℕ → Slot
+  Used : Record → Slot
 
 -- the clusters of runs
 abbrev pub total_clusters : List Run → ℕ
@@ -63,20 +62,20 @@ has_all_pairs r = list_all has_fitting_pairs r.attrs
 unfoldable pub whole_record : List ℕ → Result Record ℕ
 whole_record body = shaped_at body >>= λ r. needs (has_all_pairs r) 7 >>= λ _. needs (has_lawful_values r) 8 >>= λ _. Ok r
 
-abbrev pub piece_in : Result Record ℕ → Piece
-piece_in (Ok r) = Used r
-piece_in (Err rule) = Broken rule
+abbrev pub slot_in : Result Record ℕ → Slot
+slot_in (Ok r) = Used r
+slot_in (Err rule) = Broken rule
 
 -- a record in use begins FILE and has the flag in use
 abbrev pub is_used : List ℕ → Bool
 is_used bytes = is_signed FileRec bytes && has_in_use_flag bytes
 
 -- what a body is, by a reader of records in use
-abbrev pub piece_by : (List ℕ → Result Record ℕ) → Body → Piece
-piece_by read body = if body.torn then Torn else if is_used body.bytes then piece_in (read body.bytes) else Free
+abbrev pub slot_by : (List ℕ → Result Record ℕ) → Body → Slot
+slot_by read body = if body.torn then Torn else if is_used body.bytes then slot_in (read body.bytes) else Free
 
-unfoldable pub piece_of : Body → Piece
-piece_of body = piece_by whole_record body
+unfoldable pub slot_of : Body → Slot
+slot_of body = slot_by whole_record body
 
 -- ---- records that are read where the boot sector says
 
@@ -84,7 +83,7 @@ abbrev pub boot_block : Geometry → ℕ → Block
 boot_block g n = record { first = g.mft * g.per_cluster + 2 * n; kind = FileRec }
 
 -- a record that is read alone: torn, or breaking a rule, it is refused
-abbrev pub judged : ℕ → Piece → Result (Option Record) MapRefusal
+abbrev pub judged : ℕ → Slot → Result (Option Record) MapRefusal
 judged n Torn = Err (BadFixup n)
 judged n Free = Ok None
 judged n (Broken rule) = Err (BadRecord n rule)
@@ -125,24 +124,24 @@ extents_in (Some r) =
 
 -- Rule 7 of record 0 comes after the others and after the bounds on the table.
 unfoldable pub table_of : Content → Geometry → Result Extents MapRefusal
-table_of c g = judged 0 (piece_by record_at (c (boot_block g 0))) >>= extents_in
+table_of c g = judged 0 (slot_by record_at (c (boot_block g 0))) >>= extents_in
 
-abbrev pub piece_at : Content → Option Block → Piece
-piece_at c None = Free
-piece_at c (Some b) = piece_of (c b)
+abbrev pub slot_at : Content → Option Block → Slot
+slot_at c None = Free
+slot_at c (Some b) = slot_of (c b)
 
 -- the record of that number; one wholly past the initialised size isn't in use
-unfoldable pub table_piece : Content → ℕ → Extents → ℕ → Piece
-table_piece c per e n = if nat_le e.initialised (1024 * n) then Free else piece_at c (block_at per e.runs FileRec n)
+unfoldable pub table_slot : Content → ℕ → Extents → ℕ → Slot
+table_slot c per e n = if nat_le e.initialised (1024 * n) then Free else slot_at c (block_at per e.runs FileRec n)
 
-abbrev pub used_record : Piece → Option Record
+abbrev pub used_record : Slot → Option Record
 used_record Torn = None
 used_record Free = None
 used_record (Broken rule) = None
 used_record (Used r) = Some r
 
 -- the records in use of the first so many, by number
-unfoldable pub records_of : (ℕ → Piece) → ℕ → List (Option Record)
+unfoldable pub records_of : (ℕ → Slot) → ℕ → List (Option Record)
 records_of piece count = map (λ n. used_record (piece n)) (range_with_len 0 count)
 
 -- the record of each number; there is none past the last
@@ -162,13 +161,13 @@ list_stream r = stream_of attribute_list (attr_name (find (λ (a : Attr). a.head
 abbrev pub no_entries : ReadEntries
 no_entries = record { entries = []; whole = true }
 
-abbrev pub entries_in : Content → ℕ → Option Stream → ReadEntries
-entries_in c per None = no_entries
-entries_in c per (Some s) = list_entries (stream_bytes c per s)
+abbrev pub list_entries_in : Content → ℕ → Option Stream → ReadEntries
+list_entries_in c per None = no_entries
+list_entries_in c per (Some s) = list_entries (stream_bytes c per s)
 
 -- the entries of a record's attribute list
 unfoldable pub entries_of : Content → ℕ → Record → ReadEntries
-entries_of c per r = entries_in c per (list_stream r)
+entries_of c per r = list_entries_in c per (list_stream r)
 
 -- the entry names the attribute by type, name, id and first VCN
 abbrev pub names_attr : ListEntry → Attr → Bool
@@ -216,9 +215,6 @@ joined_file c per p count n = whole_file c per p count n (file_at p n)
 
 -- ---- rules over more than one record
 
-abbrev pub index_allocation : ℕ
-index_allocation = 0xA0
-
 abbrev pub has_cut_index_block : ℕ → Option Stream → Bool
 has_cut_index_block per None = false
 has_cut_index_block per (Some (Held value)) = false
@@ -239,7 +235,7 @@ breaks_list c per p n (Some r) = not (has_held_list c per p n r)
 unfoldable pub breaks_10 : Content → ℕ → Table → ℕ → Bool
 breaks_10 c per p n = breaks_list c per p n (file_at p n)
 
-abbrev pub broken_rule : Piece → Option ℕ
+abbrev pub broken_rule : Slot → Option ℕ
 broken_rule Torn = None
 broken_rule Free = None
 broken_rule (Broken rule) = Some rule
@@ -254,10 +250,10 @@ or_rule None nine ten = if nine then Some 9 else if ten then Some 10 else None
 -- the least rule that the record of that number breaks
 unfoldable pub rule_at : Content → ℕ → Extents → ℕ → Option ℕ
 rule_at c per e n =
-    let p = table_in (records_of (table_piece c per e) (record_count e)) in
-    or_rule (broken_rule (table_piece c per e n)) (breaks_9 c per e p (record_count e) n) (breaks_10 c per p n)
+    let p = table_in (records_of (table_slot c per e) (record_count e)) in
+    or_rule (broken_rule (table_slot c per e n)) (breaks_9 c per e p (record_count e) n) (breaks_10 c per p n)
 
-abbrev pub torn_refusal : ℕ → Piece → Option MapRefusal
+abbrev pub torn_refusal : ℕ → Slot → Option MapRefusal
 torn_refusal n Torn = Some (BadFixup n)
 torn_refusal n Free = None
 torn_refusal n (Broken rule) = None
@@ -287,9 +283,9 @@ files_of c per p count = map (joined_file c per p count) (range_with_len 0 count
 -- First a record that is torn, then one that breaks a rule, each by rising number; else the files.
 unfoldable pub files_in : Content → ℕ → Extents → Result (List (Option Record)) MapRefusal
 files_in c per e =
-    unless (first_of (λ n. torn_refusal n (table_piece c per e n)) (record_count e))
+    unless (first_of (λ n. torn_refusal n (table_slot c per e n)) (record_count e))
     >>= λ _. unless (first_of (λ n. rule_refusal n (rule_at c per e n)) (record_count e))
-    >>= λ _. Ok (files_of c per (table_in (records_of (table_piece c per e) (record_count e))) (record_count e))
+    >>= λ _. Ok (files_of c per (table_in (records_of (table_slot c per e) (record_count e))) (record_count e))
 
 -- The files of a volume: the base records in use of its file table, each with the attributes that its list names; or the
 -- first refusal that applies.

@@ -3,13 +3,14 @@ use Rattle.std.specs.Prelude.{◌≡◌, ℕ, zero, suc, ◌+◌, Bool, true, fa
 use Rattle.std.specs.List.{list_all, list_any, range_with_len}
 use Rattle.std.specs.Cmp.Lexicographic.{pointwise}
 use Rattle.host_base.specs.declared.file_ref.FileRef.{FileRef}
+use Rattle.host_base.specs.FileRefs.{same_reference}
 use Rattle.record_model.specs.declared.entry.Entry.{Entry}
-use Rattle.record_model.specs.Values.{standard_information}
 use Rattle.record_model.specs.Records.{Record}
-use Rattle.tree_model.specs.declared.link.Link.{Link}
-use Rattle.tree_model.specs.declared.tree.Tree.{Tree}
-use Rattle.tree_model.specs.Names.{comes_before}
-use Rattle.tree_model.specs.Trees.{is_long}
+use Rattle.record_model.specs.Constants.{standard_information}
+use Rattle.file_tree.specs.declared.link.Link.{Link}
+use Rattle.file_tree.specs.declared.tree.Tree.{Tree}
+use Rattle.file_tree.specs.Names.{comes_before}
+use Rattle.file_tree.specs.Trees.{win32_space, is_short, is_long}
 use Rattle.state_model.specs.declared.broken.Broken.{Broken}
 use Rattle.state_model.specs.Files.{Table, file_at, links_at, record_links, reference, is_directory_record, has_type}
 use Rattle.state_model.specs.Indexes.{index_of, entry_links}
@@ -18,21 +19,14 @@ use Rattle.state_model.specs.Trees.{leads, first_user_record, tree_of}
 abbrev pub implies : Bool → Bool → Bool
 implies a b = not a || b
 
-abbrev pub same_reference : FileRef → FileRef → Bool
-same_reference a b = a.number == b.number && a.seq == b.seq
-
 -- the names agree in file, directory, namespace and units
 abbrev pub same_link : Link → Link → Bool
 same_link a b = same_reference a.child b.child && same_reference a.parent b.parent && a.space == b.space && pointwise nat_eq a.name b.name
 
 -- ---- rule 1: the names of a record
 
-abbrev pub is_short : Link → Bool
-is_short l = l.space == 2
-
--- the namespace of Win32 is 1
 abbrev pub is_partner : Link → Link → Bool
-is_partner short l = l.space == 1 && same_reference l.parent short.parent
+is_partner short l = l.space == win32_space && same_reference l.parent short.parent
 
 -- a short name has a Win32 name of the same directory beside it
 unfoldable pub has_partner : List Link → Link → Bool

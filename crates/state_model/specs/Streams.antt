@@ -1,4 +1,4 @@
--- The streams of a record: their pieces, where their clusters lie, and their bytes.
+-- The streams of a record: their attributes, where their clusters lie, and their bytes.
 use Rattle.std.specs.Prelude.{ℕ, ◌+◌, ◌-◌, ◌*◌, ◌/◌, ◌%◌, Bool, true, false, not, ◌&&◌, ◌||◌, ◌==◌, nat_le, nat_lt, nat_eq, if◌then◌else◌, List, [], ◌∷◌, length, map, find, filter, slice_index, Option, Some, None, option_map, Result, Ok, Err}
 use Rattle.std.specs.List.{flat_map, list_any, range_with_len}
 use Rattle.std.specs.Cmp.Lexicographic.{pointwise}
@@ -18,9 +18,9 @@ use Rattle.state_model.specs.declared.stream.Extents.{Extents}
 use Rattle.state_model.specs.declared.stream.Stream.{Stream}
 use Rattle.state_model.specs.declared.stream.Stream.TheVariants.{Held, Placed}
 
--- ---- pieces
+-- ---- attributes
 
--- the first VCN of a piece; a value in the record begins at 0
+-- the first VCN of an attribute; a value in the record begins at 0
 abbrev pub form_first : OwnForm → ℕ
 form_first (Resident value indexed) = 0
 form_first (Mapped sizes pairs) = sizes.first
@@ -28,23 +28,23 @@ form_first (Mapped sizes pairs) = sizes.first
 abbrev pub first_vcn : Attr → ℕ
 first_vcn a = form_first a.form
 
--- a piece of the stream with this type and name
-unfoldable pub is_piece_of : ℕ → List ℕ → Attr → Bool
-is_piece_of kind name a = a.head.kind == kind && pointwise nat_eq a.name name
+-- an attribute of the stream with this type and name
+unfoldable pub is_attribute_of : ℕ → List ℕ → Attr → Bool
+is_attribute_of kind name a = a.head.kind == kind && pointwise nat_eq a.name name
 
--- a piece before those with a greater first VCN
-abbrev pub with_piece : Attr → List Attr → List Attr
-with_piece a [] = a ∷ []
-with_piece a (b ∷ pieces) = if nat_lt (first_vcn a) (first_vcn b) then a ∷ b ∷ pieces else b ∷ with_piece a pieces
+-- an attribute before those with a greater first VCN
+abbrev pub with_attribute : Attr → List Attr → List Attr
+with_attribute a [] = a ∷ []
+with_attribute a (b ∷ attributes) = if nat_lt (first_vcn a) (first_vcn b) then a ∷ b ∷ attributes else b ∷ with_attribute a attributes
 
--- pieces put in one after the other
+-- attributes put in one after the other
 abbrev pub sorted_into : List Attr → List Attr → List Attr
-sorted_into pieces [] = pieces
-sorted_into pieces (a ∷ attrs) = sorted_into (with_piece a pieces) attrs
+sorted_into attributes [] = attributes
+sorted_into attributes (a ∷ attrs) = sorted_into (with_attribute a attributes) attrs
 
--- the pieces of a stream by rising first VCN; those with one first VCN stand as before
-unfoldable pub pieces_of : ℕ → List ℕ → List Attr → List Attr
-pieces_of kind name attrs = sorted_into [] (filter (is_piece_of kind name) attrs)
+-- the attributes of a stream by rising first VCN; those with one first VCN stand as before
+unfoldable pub attributes_of : ℕ → List ℕ → List Attr → List Attr
+attributes_of kind name attrs = sorted_into [] (filter (is_attribute_of kind name) attrs)
 
 abbrev pub runs_or : Result (List Run) PairsFault → List Run
 runs_or (Ok runs) = runs
@@ -54,21 +54,21 @@ abbrev pub form_runs : OwnForm → List Run
 form_runs (Resident value indexed) = []
 form_runs (Mapped sizes pairs) = runs_or (runs_of sizes.first pairs)
 
-unfoldable pub piece_runs : Attr → List Run
-piece_runs a = form_runs a.form
+unfoldable pub attribute_runs : Attr → List Run
+attribute_runs a = form_runs a.form
 
--- a stream by the form of its first piece, which has its sizes
+-- a stream by the form of its first attribute, which has its sizes
 abbrev pub form_stream : OwnForm → List Run → Stream
 form_stream (Resident value indexed) runs = Held value
 form_stream (Mapped sizes pairs) runs = Placed (record { runs = runs; allocated = sizes.allocated; real = sizes.real; initialised = sizes.initialised })
 
 abbrev pub joined : List Attr → Option Stream
 joined [] = None
-joined (a ∷ pieces) = Some (form_stream a.form (flat_map piece_runs (a ∷ pieces)))
+joined (a ∷ attributes) = Some (form_stream a.form (flat_map attribute_runs (a ∷ attributes)))
 
 -- the stream with this type and name among attributes, if there is one
 unfoldable pub stream_of : ℕ → List ℕ → List Attr → Option Stream
-stream_of kind name attrs = joined (pieces_of kind name attrs)
+stream_of kind name attrs = joined (attributes_of kind name attrs)
 
 -- the real size, in bytes
 abbrev pub real_size : Stream → ℕ

@@ -3,13 +3,14 @@ use Rattle.std.specs.Prelude.{ℕ, zero, suc, Bool, false, not, ◌&&◌, ◌||�
 use Rattle.std.specs.List.{range_with_len, list_any, filter_map, flat_map}
 use Rattle.host_base.specs.declared.file_ref.FileRef.{FileRef}
 use Rattle.record_model.specs.Records.{Record}
-use Rattle.tree_model.specs.declared.link.Link.{Link}
-use Rattle.tree_model.specs.declared.node.Kind.{Kind}
-use Rattle.tree_model.specs.declared.node.Kind.TheVariants.{Directory, File, Fixed, Opaque, System}
-use Rattle.tree_model.specs.declared.node.Node.{Node}
-use Rattle.tree_model.specs.declared.tree.Tree.{Tree}
-use Rattle.tree_model.specs.Walks.{root}
-use Rattle.state_model.specs.Files.{Table, file_at, links_at, record_links, is_directory_record, has_type, object_id, info_of, data_of, attr_bytes, why_of, is_opaque, is_fixed}
+use Rattle.record_model.specs.Constants.{object_id}
+use Rattle.file_tree.specs.declared.link.Link.{Link}
+use Rattle.file_tree.specs.declared.node.Kind.{Kind}
+use Rattle.file_tree.specs.declared.node.Kind.TheVariants.{Directory, File, Fixed, Opaque, System}
+use Rattle.file_tree.specs.declared.node.Node.{Node}
+use Rattle.file_tree.specs.declared.tree.Tree.{Tree}
+use Rattle.file_tree.specs.Walks.{root}
+use Rattle.state_model.specs.Files.{Table, file_at, links_at, record_links, is_directory_record, has_type, info_of, data_of, attr_bytes, why_of, is_opaque, is_fixed}
 
 -- ---- the way up
 

@@ -4,7 +4,7 @@ use record_model::Runs;
 /// The clusters of a stream, and its sizes in bytes.
 #[derive(Debug, Drop)]
 pub struct Extents {
-    /// The runs of its pieces, one piece after the other by rising first VCN.
+    /// The runs of its attributes, one attribute after the other by rising first VCN.
     pub runs: Runs,
     pub allocated: u64,
     pub real: u64,

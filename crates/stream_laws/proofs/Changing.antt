@@ -17,12 +17,12 @@ use Rattle.state_model.specs.declared.stream.Extents.{Extents}
 use Rattle.state_model.specs.declared.stream.Stream.{Stream}
 use Rattle.state_model.specs.declared.stream.Stream.TheVariants.{Held, Placed}
 use Rattle.state_model.specs.Streams.{block_at, sector_bytes, byte_at, extent_bytes}
-use Rattle.state_model.specs.Loads.{table_piece, records_of}
+use Rattle.state_model.specs.Loads.{table_slot, records_of}
 use Rattle.volume_model.specs.Volumes.{Volume, bytes_or, record_bytes, is_in_use}
 use Rattle.volume_model.specs.Indexes.{index_block, index_stream, index_links}
 use Rattle.stream_laws.specs.Frames.{SameBytesInSome, SameRecordIn, SameIndexIn}
 use Rattle.stream_laws.specs.Changes.{put_in, stream_put, AreElsewhere, LeavesBytes, LeavesRecord, LeavesIndex}
-use Rattle.stream_laws.proofs.Framing.{same_file, same_piece, same_records, same_record_bytes, same_in_use, same_links}
+use Rattle.stream_laws.proofs.Framing.{same_file, same_slot, same_records, same_record_bytes, same_in_use, same_links}
 
 pub has_sectors : (k : BlockKind) → 0 < sectors k
 has_sectors Plain = omega arith
@@ -104,10 +104,10 @@ bytes_stay c writes per s leaves = same_file c (overlay c writes) per s (bytes_a
 pub record_agrees : (c : Content) (writes : List Write) (per : ℕ) (e : Extents) (n : ℕ) → HasSizes c → LeavesRecord writes per e n → SameRecordIn c (overlay c writes) per e n
 record_agrees c writes per e n sized leaves = λ b is. body_elsewhere c writes b sized (leaves b is)
 
-pub piece_stays : (c : Content) (writes : List Write) (per : ℕ) (e : Extents) (n : ℕ) → HasSizes c → LeavesRecord writes per e n → table_piece (overlay c writes) per e n ≡ table_piece c per e n
-piece_stays c writes per e n sized leaves = same_piece c (overlay c writes) per e n (record_agrees c writes per e n sized leaves)
+pub slot_stays : (c : Content) (writes : List Write) (per : ℕ) (e : Extents) (n : ℕ) → HasSizes c → LeavesRecord writes per e n → table_slot (overlay c writes) per e n ≡ table_slot c per e n
+slot_stays c writes per e n sized leaves = same_slot c (overlay c writes) per e n (record_agrees c writes per e n sized leaves)
 
-pub records_stay : (c : Content) (writes : List Write) (per : ℕ) (e : Extents) (count : ℕ) → HasSizes c → ((n : ℕ) → n < count → LeavesRecord writes per e n) → records_of (table_piece (overlay c writes) per e) count ≡ records_of (table_piece c per e) count
+pub records_stay : (c : Content) (writes : List Write) (per : ℕ) (e : Extents) (count : ℕ) → HasSizes c → ((n : ℕ) → n < count → LeavesRecord writes per e n) → records_of (table_slot (overlay c writes) per e) count ≡ records_of (table_slot c per e) count
 records_stay c writes per e count sized leaves = same_records c (overlay c writes) per e count (λ n below. record_agrees c writes per e n sized (leaves n below))
 
 pub record_bytes_stay : (c : Content) (writes : List Write) (v : Volume) (n : ℕ) → HasSizes c → LeavesRecord writes v.per v.table n → record_bytes (overlay c writes) v n ≡ record_bytes c v n

@@ -14,13 +14,13 @@ use Rattle.record_model.specs.declared.entry.Entry.{Entry}
 use Rattle.record_model.specs.Nodes.{root_at}
 use Rattle.record_model.specs.Records.{Record}
 use Rattle.index_model.specs.Indexes.{Place, number_of, node_of_body, node_of_part, node_of_block}
-use Rattle.index_model.specs.Indexes.{block_at as block_of_vcn}
+use Rattle.index_model.specs.Indexes.{node_block as block_of_vcn}
 use Rattle.index_model.specs.Walks.{root_vcn, met_in, sought_in, met_from, walk_of, find_of}
 use Rattle.state_model.specs.declared.stream.Extents.{Extents}
 use Rattle.state_model.specs.declared.stream.Stream.{Stream}
 use Rattle.state_model.specs.declared.stream.Stream.TheVariants.{Held, Placed}
 use Rattle.state_model.specs.Streams.{block_at, sector_bytes, byte_at, extent_bytes, stream_bytes}
-use Rattle.state_model.specs.Loads.{Piece, Free, is_used, piece_at, piece_of, table_piece, used_record, records_of}
+use Rattle.state_model.specs.Loads.{Slot, Free, is_used, slot_at, slot_of, table_slot, used_record, records_of}
 use Rattle.volume_model.specs.Volumes.{Volume, bytes_or, block_bytes, record_block, record_bytes, is_in_use}
 use Rattle.volume_model.specs.Indexes.{block_count, index_block, blocks_of, stream_blocks, index_stream, index_place, root_value, links_read, links_below, index_links}
 use Rattle.stream_laws.specs.Frames.{SameBytesIn, SameBytesInStream, SameBytesInSome, SameRecordIn, SameNodesIn, SameIndexIn}
@@ -63,22 +63,22 @@ same_file c d per (Some s) same = same_stream c d per s same
 
 -- ---- file records
 
-same_piece_in : (c d : Content) (o : Option Block) → ((b : Block) → o ≡ Some b → d b ≡ c b) → piece_at d o ≡ piece_at c o
-same_piece_in c d None same = refl
-same_piece_in c d (Some b) same = ap piece_of (same b refl)
+same_slot_in : (c d : Content) (o : Option Block) → ((b : Block) → o ≡ Some b → d b ≡ c b) → slot_at d o ≡ slot_at c o
+same_slot_in c d None same = refl
+same_slot_in c d (Some b) same = ap slot_of (same b refl)
 
-pub same_piece : (c d : Content) (per : ℕ) (e : Extents) (n : ℕ) → SameRecordIn c d per e n → table_piece d per e n ≡ table_piece c per e n
-unfolding table_piece
-same_piece c d per e n same =
+pub same_slot : (c d : Content) (per : ℕ) (e : Extents) (n : ℕ) → SameRecordIn c d per e n → table_slot d per e n ≡ table_slot c per e n
+unfolding table_slot
+same_slot c d per e n same =
     elim (cases_lt (1024 * n) e.initialised) [
-      | inl below ↦ ap (λ (x : Piece). cond (leb e.initialised (1024 * n)) Free x) (same_piece_in c d (block_at per e.runs FileRec n) (λ b lies. same b (record { below = below; lies = lies })))
+      | inl below ↦ ap (λ (x : Slot). cond (leb e.initialised (1024 * n)) Free x) (same_slot_in c d (block_at per e.runs FileRec n) (λ b lies. same b (record { below = below; lies = lies })))
       | inr past ↦ rw (le-leb e.initialised (1024 * n) past) refl
     ]
 
-pub same_records : (c d : Content) (per : ℕ) (e : Extents) (count : ℕ) → ((n : ℕ) → n < count → SameRecordIn c d per e n) → records_of (table_piece d per e) count ≡ records_of (table_piece c per e) count
+pub same_records : (c d : Content) (per : ℕ) (e : Extents) (count : ℕ) → ((n : ℕ) → n < count → SameRecordIn c d per e n) → records_of (table_slot d per e) count ≡ records_of (table_slot c per e) count
 unfolding records_of
 same_records c d per e count same =
-    same_map (λ n. used_record (table_piece d per e n)) (λ n. used_record (table_piece c per e n)) 0 count (λ n low high. ap used_record (same_piece c d per e n (same n (omega arith))))
+    same_map (λ n. used_record (table_slot d per e n)) (λ n. used_record (table_slot c per e n)) 0 count (λ n low high. ap used_record (same_slot c d per e n (same n (omega arith))))
 
 same_body_bytes : (c d : Content) (o : Option Block) → ((b : Block) → o ≡ Some b → d b ≡ c b) → block_bytes d o ≡ block_bytes c o
 same_body_bytes c d None same = refl

@@ -9,7 +9,7 @@ use Rattle.disk_model.specs.Writes.{Write, overlay}
 use Rattle.record_model.specs.Records.{Record, record_at}
 use Rattle.record_model.specs.declared.attribute.Attr.{Attr}
 use Rattle.record_model.specs.ListEntries.{ReadEntries, list_entries}
-use Rattle.tree_model.specs.declared.node.Node.{Node}
+use Rattle.file_tree.specs.declared.node.Node.{Node}
 use Rattle.bit_set.specs.Words.{bits_of_bytes}
 use Rattle.state_model.specs.declared.geometry.Geometry.{Geometry}
 use Rattle.state_model.specs.declared.geometry.MapRefusal.{MapRefusal}
@@ -18,18 +18,18 @@ use Rattle.state_model.specs.declared.stream.Stream.{Stream}
 use Rattle.state_model.specs.Files.{Table, file_at}
 use Rattle.state_model.specs.Trees.{is_nameless}
 use Rattle.state_model.specs.Streams.{has_cut_block}
-use Rattle.state_model.specs.Loads.{Piece, piece_by, boot_block, judged, extents_in, record_count, table_of, table_piece, records_of, table_in, list_stream, entries_in, entries_of, holds_all, has_held_list, named_attrs, all_attrs, whole_file, joined_file, cuts_index, breaks_9, breaks_list, breaks_10, broken_rule, or_rule, rule_at, torn_refusal, rule_refusal, first_some, first_of, unless, files_of, files_in, data_stream}
+use Rattle.state_model.specs.Loads.{Slot, slot_by, boot_block, judged, extents_in, record_count, table_of, table_slot, records_of, table_in, list_stream, list_entries_in, entries_of, holds_all, has_held_list, named_attrs, all_attrs, whole_file, joined_file, cuts_index, breaks_9, breaks_list, breaks_10, broken_rule, or_rule, rule_at, torn_refusal, rule_refusal, first_some, first_of, unless, files_of, files_in, data_stream}
 use Rattle.volume_model.specs.Volumes.{Volume, volume_of, count_of, file_in, bytes_or, cluster_bitmap, record_bitmap, cluster_bits, record_bits}
 use Rattle.volume_model.specs.Nodes.{kind_in, shows_data, data_shown, node_with, node_by, some_node, node_at}
 use Rattle.stream_laws.specs.Frames.{SameBytesInSome}
 use Rattle.stream_laws.specs.Changes.{AreElsewhere}
 use Rattle.stream_laws.specs.Volumes.{SameTableIn, LeavesTable, SameDataIn}
-use Rattle.stream_laws.proofs.Framing.{same_map, same_stream, same_file, same_piece, same_records}
+use Rattle.stream_laws.proofs.Framing.{same_map, same_stream, same_file, same_slot, same_records}
 use Rattle.stream_laws.proofs.Changing.{body_elsewhere, bytes_agree, record_agrees}
 
 -- ---- attribute lists
 
-same_entries_in : (c d : Content) (per : ℕ) (s : Option Stream) → SameBytesInSome c d per s → entries_in d per s ≡ entries_in c per s
+same_entries_in : (c d : Content) (per : ℕ) (s : Option Stream) → SameBytesInSome c d per s → list_entries_in d per s ≡ list_entries_in c per s
 same_entries_in c d per None same = refl
 same_entries_in c d per (Some s) same = ap list_entries (same_stream c d per s same)
 
@@ -76,23 +76,23 @@ same_10 c d per p n same = same_list_test c d per p n (file_at p n) same
 -- ---- the records of the table
 
 module _ (c d : Content) (per : ℕ) (e : Extents) (same : SameTableIn c d per e) where
-  table : records_of (table_piece d per e) (record_count e) ≡ records_of (table_piece c per e) (record_count e)
+  table : records_of (table_slot d per e) (record_count e) ≡ records_of (table_slot c per e) (record_count e)
   table = same_records c d per e (record_count e) same.records
 
   same_rule : (n : ℕ) → n < record_count e → rule_at d per e n ≡ rule_at c per e n
   unfolding rule_at
   same_rule n below =
-      let p = table_in (records_of (table_piece c per e) (record_count e)) in
+      let p = table_in (records_of (table_slot c per e) (record_count e)) in
       let lists : SameListIn c d per (file_at p n) = λ r is. same.lists n r is in
-      ap (λ (l : List (Option Record)). or_rule (broken_rule (table_piece d per e n)) (breaks_9 d per e (table_in l) (record_count e) n) (breaks_10 d per (table_in l) n)) table
-      ∙ ap (λ (x : Piece). or_rule (broken_rule x) (breaks_9 d per e p (record_count e) n) (breaks_10 d per p n)) (same_piece c d per e n (same.records n below))
-      ∙ ap (λ (t : Bool). or_rule (broken_rule (table_piece c per e n)) t (breaks_10 d per p n)) (same_9 c d per e p (record_count e) n lists)
-      ∙ ap (λ (t : Bool). or_rule (broken_rule (table_piece c per e n)) (breaks_9 c per e p (record_count e) n) t) (same_10 c d per p n lists)
+      ap (λ (l : List (Option Record)). or_rule (broken_rule (table_slot d per e n)) (breaks_9 d per e (table_in l) (record_count e) n) (breaks_10 d per (table_in l) n)) table
+      ∙ ap (λ (x : Slot). or_rule (broken_rule x) (breaks_9 d per e p (record_count e) n) (breaks_10 d per p n)) (same_slot c d per e n (same.records n below))
+      ∙ ap (λ (t : Bool). or_rule (broken_rule (table_slot c per e n)) t (breaks_10 d per p n)) (same_9 c d per e p (record_count e) n lists)
+      ∙ ap (λ (t : Bool). or_rule (broken_rule (table_slot c per e n)) (breaks_9 c per e p (record_count e) n) t) (same_10 c d per p n lists)
 
-  same_files_of : files_of d per (table_in (records_of (table_piece d per e) (record_count e))) (record_count e) ≡ files_of c per (table_in (records_of (table_piece c per e) (record_count e))) (record_count e)
+  same_files_of : files_of d per (table_in (records_of (table_slot d per e) (record_count e))) (record_count e) ≡ files_of c per (table_in (records_of (table_slot c per e) (record_count e))) (record_count e)
   unfolding files_of
   same_files_of =
-      let p = table_in (records_of (table_piece c per e) (record_count e)) in
+      let p = table_in (records_of (table_slot c per e) (record_count e)) in
       ap (λ (l : List (Option Record)). map (joined_file d per (table_in l) (record_count e)) (range_with_len 0 (record_count e))) table
       ∙ same_map (joined_file d per p (record_count e)) (joined_file c per p (record_count e)) 0 (record_count e) (λ n low high. same_joined c d per p (record_count e) n (λ r is. same.lists n r is))
 
@@ -110,10 +110,10 @@ pub same_files : (c d : Content) (per : ℕ) (e : Extents) → SameTableIn c d p
 unfolding files_in answer
 same_files c d per e same =
     let count = record_count e in
-    let torn : Content → Option MapRefusal = λ x. first_of (λ n. torn_refusal n (table_piece x per e n)) count in
+    let torn : Content → Option MapRefusal = λ x. first_of (λ n. torn_refusal n (table_slot x per e n)) count in
     let broken : Content → Option MapRefusal = λ x. first_of (λ n. rule_refusal n (rule_at x per e n)) count in
-    let files : Content → List (Option Record) = λ x. files_of x per (table_in (records_of (table_piece x per e) count)) count in
-    ap (λ (o : Option MapRefusal). answer o (broken d) (files d)) (first_same (λ n. torn_refusal n (table_piece d per e n)) (λ n. torn_refusal n (table_piece c per e n)) count (λ n below. ap (torn_refusal n) (same_piece c d per e n (same.records n below))))
+    let files : Content → List (Option Record) = λ x. files_of x per (table_in (records_of (table_slot x per e) count)) count in
+    ap (λ (o : Option MapRefusal). answer o (broken d) (files d)) (first_same (λ n. torn_refusal n (table_slot d per e n)) (λ n. torn_refusal n (table_slot c per e n)) count (λ n below. ap (torn_refusal n) (same_slot c d per e n (same.records n below))))
     ∙ ap (λ (o : Option MapRefusal). answer (torn c) o (files d)) (first_same (λ n. rule_refusal n (rule_at d per e n)) (λ n. rule_refusal n (rule_at c per e n)) count (λ n below. ap (rule_refusal n) (same_rule c d per e same n below)))
     ∙ ap (answer (torn c) (broken c)) (same_files_of c d per e same)
 
@@ -121,7 +121,7 @@ same_files c d per e same =
 
 pub same_table : (c d : Content) (g : Geometry) → d (boot_block g 0) ≡ c (boot_block g 0) → table_of d g ≡ table_of c g
 unfolding table_of
-same_table c d g same = ap (λ (b : Body). judged 0 (piece_by record_at b) >>= extents_in) same
+same_table c d g same = ap (λ (b : Body). judged 0 (slot_by record_at b) >>= extents_in) same
 
 of_files : ℕ → ℕ → ℕ → Extents → Result (List (Option Record)) MapRefusal → Result Volume MapRefusal
 of_files per clusters mft e read = read >>= λ files. Ok (record { per = per; clusters = clusters; mft = mft; table = e; files = files })

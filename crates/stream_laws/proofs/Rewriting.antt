@@ -7,6 +7,7 @@ use Rattle.std.proofs.lemmas.List.{append-nil, get_or_past, get_or-set_same, get
 use Rattle.std.proofs.lemmas.List.FromFn.{length-map-range_with_len, get_or-map-range_with_len}
 use Rattle.std.proofs.Math.ListN.{length-set}
 use Rattle.host_base.specs.Answers.{◌>>=◌}
+use Rattle.host_base.specs.FileRefs.{same_reference}
 use Rattle.disk_model.specs.declared.block.BlockKind.TheVariants.{FileRec}
 use Rattle.disk_model.specs.Content.{Content, HasSizes}
 use Rattle.disk_model.specs.Writes.{Write, overlay}
@@ -18,15 +19,14 @@ use Rattle.state_model.specs.declared.geometry.Geometry.{Geometry}
 use Rattle.state_model.specs.declared.geometry.MapRefusal.{MapRefusal}
 use Rattle.state_model.specs.declared.stream.Extents.{Extents}
 use Rattle.state_model.specs.Files.{Table, file_at, only_base, is_base_record, reference}
-use Rattle.state_model.specs.Rules.{same_reference}
 use Rattle.state_model.specs.Streams.{has_cut_block}
-use Rattle.state_model.specs.Loads.{Piece, Torn, Free, Broken, Used, boot_block, record_count, table_of, table_piece, used_record, records_of, table_in, list_stream, entries_in, entries_of, no_entries, is_named_in, named_attrs, all_attrs, whole_file, joined_file, holds_named, is_held, holds_all, has_held_list, cuts_index, breaks_9, breaks_list, breaks_10, broken_rule, or_rule, rule_at, torn_refusal, rule_refusal, first_some, first_of, unless, files_of, files_in}
+use Rattle.state_model.specs.Loads.{Slot, Torn, Free, Broken, Used, boot_block, record_count, table_of, table_slot, used_record, records_of, table_in, list_stream, list_entries_in, entries_of, no_entries, is_named_in, named_attrs, all_attrs, whole_file, joined_file, holds_named, is_held, holds_all, has_held_list, cuts_index, breaks_9, breaks_list, breaks_10, broken_rule, or_rule, rule_at, torn_refusal, rule_refusal, first_some, first_of, unless, files_of, files_in}
 use Rattle.volume_model.specs.Volumes.{Volume, volume_of, count_of}
 use Rattle.stream_laws.specs.Changes.{AreElsewhere}
 use Rattle.stream_laws.specs.Volumes.{base_record}
 use Rattle.stream_laws.specs.Replacing.{FileEdit, with_edits, AreEdits}
 use Rattle.stream_laws.specs.Rewrites.{StandsAlone, names_one, ChangesRecords, new_file, changed_file, with_files, changed_volume, is_edited, RewritesRecords}
-use Rattle.stream_laws.proofs.Framing.{same_map, same_piece}
+use Rattle.stream_laws.proofs.Framing.{same_map, same_slot}
 use Rattle.stream_laws.proofs.Changing.{body_elsewhere, bytes_agree, record_agrees}
 use Rattle.stream_laws.proofs.Editing.{length-with_edits, other_file}
 use Rattle.stream_laws.proofs.Counting.{same_list}
@@ -83,7 +83,7 @@ same_holders p q touched n r (e ∷ entries) same unnamed =
 
 entries_alone : (d : Content) (per : ℕ) (r : Record) → list_stream r ≡ None → entries_of d per r ≡ no_entries
 unfolding entries_of
-entries_alone d per r alone = ap (entries_in d per) alone
+entries_alone d per r alone = ap (list_entries_in d per) alone
 
 -- the same record, its fields one by one
 again : Record → List Attr → Option Record
@@ -101,7 +101,7 @@ unfolding again
 whole_alone d per q count m r true alone = ap (again r) (attrs_alone d per q count m r alone)
 whole_alone d per q count m r false alone = refl
 
-file_alone : (d : Content) (per : ℕ) (q : Table) (count m : ℕ) (x : Piece) → StandsAlone per x → whole_file d per q count m (only_base (used_record x)) ≡ only_base (used_record x)
+file_alone : (d : Content) (per : ℕ) (q : Table) (count m : ℕ) (x : Slot) → StandsAlone per x → whole_file d per q count m (only_base (used_record x)) ≡ only_base (used_record x)
 file_alone d per q count m Torn alone = absurd alone
 file_alone d per q count m Free alone = refl
 file_alone d per q count m (Broken rule) alone = absurd alone
@@ -111,7 +111,7 @@ uncut_base : (per : ℕ) (r : Record) (t : Bool) → cuts_index per (Some r) ≡
 uncut_base per r true uncut = uncut
 uncut_base per r false uncut = refl
 
-uncut_alone : (per : ℕ) (x : Piece) → StandsAlone per x → cuts_index per (only_base (used_record x)) ≡ false
+uncut_alone : (per : ℕ) (x : Slot) → StandsAlone per x → cuts_index per (only_base (used_record x)) ≡ false
 uncut_alone per Torn alone = absurd alone
 uncut_alone per Free alone = refl
 uncut_alone per (Broken rule) alone = absurd alone
@@ -122,19 +122,19 @@ unfolding has_held_list
 held_alone d per q m r true alone = ap (λ (l : ReadEntries). not (holds_all q m r l)) (entries_alone d per r alone)
 held_alone d per q m r false alone = refl
 
-list_alone : (d : Content) (per : ℕ) (q : Table) (m : ℕ) (x : Piece) → StandsAlone per x → breaks_list d per q m (only_base (used_record x)) ≡ false
+list_alone : (d : Content) (per : ℕ) (q : Table) (m : ℕ) (x : Slot) → StandsAlone per x → breaks_list d per q m (only_base (used_record x)) ≡ false
 list_alone d per q m Torn alone = absurd alone
 list_alone d per q m Free alone = refl
 list_alone d per q m (Broken rule) alone = absurd alone
 list_alone d per q m (Used r) alone = held_alone d per q m r (is_base_record r) alone.0
 
-untorn_alone : (per m : ℕ) (x : Piece) → StandsAlone per x → torn_refusal m x ≡ None
+untorn_alone : (per m : ℕ) (x : Slot) → StandsAlone per x → torn_refusal m x ≡ None
 untorn_alone per m Torn alone = absurd alone
 untorn_alone per m Free alone = refl
 untorn_alone per m (Broken rule) alone = absurd alone
 untorn_alone per m (Used r) alone = refl
 
-unbroken_alone : (per : ℕ) (x : Piece) → StandsAlone per x → broken_rule x ≡ None
+unbroken_alone : (per : ℕ) (x : Slot) → StandsAlone per x → broken_rule x ≡ None
 unbroken_alone per Torn alone = absurd alone
 unbroken_alone per Free alone = refl
 unbroken_alone per (Broken rule) alone = absurd alone
@@ -176,30 +176,30 @@ no_rule o nine ten none first second = rw (none, first, second) refl
 -- ---- the table of two contents that differ in some records
 
 module _ (c d : Content) (per : ℕ) (e : Extents) (touched : ℕ → Bool) (changes : ChangesRecords c d per e touched) where
-  same_other : (m : ℕ) → m < record_count e → touched m ≡ false → table_piece d per e m ≡ table_piece c per e m
-  same_other m below other = same_piece c d per e m (changes.others m below other)
+  same_other : (m : ℕ) → m < record_count e → touched m ≡ false → table_slot d per e m ≡ table_slot c per e m
+  same_other m below other = same_slot c d per e m (changes.others m below other)
 
-  in_table : (x : Content) (m : ℕ) → m < record_count e → table_in (records_of (table_piece x per e) (record_count e)) m ≡ used_record (table_piece x per e m)
+  in_table : (x : Content) (m : ℕ) → m < record_count e → table_in (records_of (table_slot x per e) (record_count e)) m ≡ used_record (table_slot x per e m)
   unfolding records_of
-  in_table x m below = get_or-map-range_with_len (λ n. used_record (table_piece x per e n)) 0 (record_count e) m m None below (omega arith)
+  in_table x m below = get_or-map-range_with_len (λ n. used_record (table_slot x per e n)) 0 (record_count e) m m None below (omega arith)
 
-  past_table : (x : Content) (m : ℕ) → record_count e ≤ m → table_in (records_of (table_piece x per e) (record_count e)) m ≡ None
+  past_table : (x : Content) (m : ℕ) → record_count e ≤ m → table_in (records_of (table_slot x per e) (record_count e)) m ≡ None
   unfolding records_of
   past_table x m past =
-      let size = length-map-range_with_len (λ n. used_record (table_piece x per e n)) 0 (record_count e) in
-      get_or_past (map (λ n. used_record (table_piece x per e n)) (range_with_len 0 (record_count e))) m None (omega (arith, size))
+      let size = length-map-range_with_len (λ n. used_record (table_slot x per e n)) 0 (record_count e) in
+      get_or_past (map (λ n. used_record (table_slot x per e n)) (range_with_len 0 (record_count e))) m None (omega (arith, size))
 
-  same_in_table : (m : ℕ) → touched m ≡ false → table_in (records_of (table_piece d per e) (record_count e)) m ≡ table_in (records_of (table_piece c per e) (record_count e)) m
+  same_in_table : (m : ℕ) → touched m ≡ false → table_in (records_of (table_slot d per e) (record_count e)) m ≡ table_in (records_of (table_slot c per e) (record_count e)) m
   same_in_table m other = elim (cases_lt m (record_count e)) [
     | inl below ↦ in_table d m below ∙ ap used_record (same_other m below other) ∙ sym (in_table c m below)
     | inr past ↦ past_table d m past ∙ sym (past_table c m past)
   ]
 
-  same_base : (m : ℕ) → touched m ≡ false → file_at (table_in (records_of (table_piece d per e) (record_count e))) m ≡ base_record c per e m
+  same_base : (m : ℕ) → touched m ≡ false → file_at (table_in (records_of (table_slot d per e) (record_count e))) m ≡ base_record c per e m
   unfolding file_at
   same_base m other = ap only_base (same_in_table m other)
 
-  new_base : (m : ℕ) → m < record_count e → file_at (table_in (records_of (table_piece d per e) (record_count e))) m ≡ only_base (used_record (table_piece d per e m))
+  new_base : (m : ℕ) → m < record_count e → file_at (table_in (records_of (table_slot d per e) (record_count e))) m ≡ only_base (used_record (table_slot d per e m))
   unfolding file_at
   new_base m below = ap only_base (in_table d m below)
 
@@ -207,103 +207,103 @@ module _ (c d : Content) (per : ℕ) (e : Extents) (touched : ℕ → Bool) (cha
 
   -- the attributes of a file that isn't touched
   same_named : (n : ℕ) (r : Record) (entries : List ListEntry) → names_one touched entries ≡ false → (k : ℕ)
-      → named_attrs entries n r k (table_in (records_of (table_piece d per e) (record_count e)) k) ≡ named_attrs entries n r k (table_in (records_of (table_piece c per e) (record_count e)) k)
+      → named_attrs entries n r k (table_in (records_of (table_slot d per e) (record_count e)) k) ≡ named_attrs entries n r k (table_in (records_of (table_slot c per e) (record_count e)) k)
   same_named n r entries unnamed k =
-      let new = table_in (records_of (table_piece d per e) (record_count e)) k in
-      let old = table_in (records_of (table_piece c per e) (record_count e)) k in
+      let new = table_in (records_of (table_slot d per e) (record_count e)) k in
+      let old = table_in (records_of (table_slot c per e) (record_count e)) k in
       elim (cases_Bool (touched k)) [
         | inl is ↦ nothing_named touched entries n r k new unnamed is ∙ sym (nothing_named touched entries n r k old unnamed is)
         | inr other ↦ ap (named_attrs entries n r k) (same_in_table k other)
       ]
 
   same_all : (m : ℕ) (r : Record) → touched m ≡ false → base_record c per e m ≡ Some r
-      → all_attrs d per (table_in (records_of (table_piece d per e) (record_count e))) (record_count e) m r ≡ all_attrs c per (table_in (records_of (table_piece c per e) (record_count e))) (record_count e) m r
+      → all_attrs d per (table_in (records_of (table_slot d per e) (record_count e))) (record_count e) m r ≡ all_attrs c per (table_in (records_of (table_slot c per e) (record_count e))) (record_count e) m r
   unfolding all_attrs
   same_all m r other is =
-      let q = table_in (records_of (table_piece d per e) (record_count e)) in
+      let q = table_in (records_of (table_slot d per e) (record_count e)) in
       let entries = (entries_of c per r).entries in
       ap (λ (l : ReadEntries). r.attrs ++ flat_map (λ k. named_attrs l.entries m r k (q k)) (range_with_len 0 (record_count e))) (same_entries c d per r (changes.lists m r other is))
       ∙ ap (λ (f : ℕ → List Attr). r.attrs ++ flat_map f (range_with_len 0 (record_count e))) (fun_ext (λ k. same_named m r entries (changes.unnamed m r other is) k))
 
   whole_other : (m : ℕ) (o : Option Record) → touched m ≡ false → base_record c per e m ≡ o
-      → whole_file d per (table_in (records_of (table_piece d per e) (record_count e))) (record_count e) m o ≡ whole_file c per (table_in (records_of (table_piece c per e) (record_count e))) (record_count e) m o
+      → whole_file d per (table_in (records_of (table_slot d per e) (record_count e))) (record_count e) m o ≡ whole_file c per (table_in (records_of (table_slot c per e) (record_count e))) (record_count e) m o
   unfolding again
   whole_other m None other is = refl
   whole_other m (Some r) other is = ap (again r) (same_all m r other is)
 
   joined_other : (m : ℕ) → touched m ≡ false
-      → joined_file d per (table_in (records_of (table_piece d per e) (record_count e))) (record_count e) m ≡ joined_file c per (table_in (records_of (table_piece c per e) (record_count e))) (record_count e) m
+      → joined_file d per (table_in (records_of (table_slot d per e) (record_count e))) (record_count e) m ≡ joined_file c per (table_in (records_of (table_slot c per e) (record_count e))) (record_count e) m
   unfolding joined_file
   joined_other m other =
-      let q = table_in (records_of (table_piece d per e) (record_count e)) in
+      let q = table_in (records_of (table_slot d per e) (record_count e)) in
       ap (whole_file d per q (record_count e) m) (same_base m other) ∙ whole_other m (base_record c per e m) other refl
 
   joined_new : (m : ℕ) → m < record_count e → touched m ≡ true
-      → joined_file d per (table_in (records_of (table_piece d per e) (record_count e))) (record_count e) m ≡ only_base (used_record (table_piece d per e m))
+      → joined_file d per (table_in (records_of (table_slot d per e) (record_count e))) (record_count e) m ≡ only_base (used_record (table_slot d per e m))
   unfolding joined_file
   joined_new m below is =
-      let q = table_in (records_of (table_piece d per e) (record_count e)) in
-      ap (whole_file d per q (record_count e) m) (new_base m below) ∙ file_alone d per q (record_count e) m (table_piece d per e m) (changes.alone m below is)
+      let q = table_in (records_of (table_slot d per e) (record_count e)) in
+      ap (whole_file d per q (record_count e) m) (new_base m below) ∙ file_alone d per q (record_count e) m (table_slot d per e m) (changes.alone m below is)
 
   -- ---- its rules
 
   held_other : (m : ℕ) (r : Record) → touched m ≡ false → base_record c per e m ≡ Some r
-      → has_held_list d per (table_in (records_of (table_piece d per e) (record_count e))) m r ≡ has_held_list c per (table_in (records_of (table_piece c per e) (record_count e))) m r
+      → has_held_list d per (table_in (records_of (table_slot d per e) (record_count e))) m r ≡ has_held_list c per (table_in (records_of (table_slot c per e) (record_count e))) m r
   unfolding has_held_list
   held_other m r other is =
-      let q = table_in (records_of (table_piece d per e) (record_count e)) in
-      let p = table_in (records_of (table_piece c per e) (record_count e)) in
+      let q = table_in (records_of (table_slot d per e) (record_count e)) in
+      let p = table_in (records_of (table_slot c per e) (record_count e)) in
       let read = entries_of c per r in
       ap (holds_all q m r) (same_entries c d per r (changes.lists m r other is))
       ∙ ap (λ (t : Bool). read.whole && t) (same_holders p q touched m r read.entries same_in_table (changes.unnamed m r other is))
 
   list_other : (m : ℕ) (o : Option Record) → touched m ≡ false → base_record c per e m ≡ o
-      → breaks_list d per (table_in (records_of (table_piece d per e) (record_count e))) m o ≡ breaks_list c per (table_in (records_of (table_piece c per e) (record_count e))) m o
+      → breaks_list d per (table_in (records_of (table_slot d per e) (record_count e))) m o ≡ breaks_list c per (table_in (records_of (table_slot c per e) (record_count e))) m o
   list_other m None other is = refl
   list_other m (Some r) other is = ap not (held_other m r other is)
 
   ten_other : (m : ℕ) → touched m ≡ false
-      → breaks_10 d per (table_in (records_of (table_piece d per e) (record_count e))) m ≡ breaks_10 c per (table_in (records_of (table_piece c per e) (record_count e))) m
+      → breaks_10 d per (table_in (records_of (table_slot d per e) (record_count e))) m ≡ breaks_10 c per (table_in (records_of (table_slot c per e) (record_count e))) m
   unfolding breaks_10
   ten_other m other =
-      let q = table_in (records_of (table_piece d per e) (record_count e)) in
+      let q = table_in (records_of (table_slot d per e) (record_count e)) in
       ap (breaks_list d per q m) (same_base m other) ∙ list_other m (base_record c per e m) other refl
 
   nine_other : (m : ℕ) → touched m ≡ false
-      → breaks_9 d per e (table_in (records_of (table_piece d per e) (record_count e))) (record_count e) m ≡ breaks_9 c per e (table_in (records_of (table_piece c per e) (record_count e))) (record_count e) m
+      → breaks_9 d per e (table_in (records_of (table_slot d per e) (record_count e))) (record_count e) m ≡ breaks_9 c per e (table_in (records_of (table_slot c per e) (record_count e))) (record_count e) m
   unfolding breaks_9
   nine_other m other = ap (λ (o : Option Record). ((eqb m 0) && has_cut_block per FileRec (record_count e) e.runs) || cuts_index per o) (joined_other m other)
 
   rule_other : (m : ℕ) → m < record_count e → touched m ≡ false → rule_at d per e m ≡ rule_at c per e m
   unfolding rule_at
   rule_other m below other =
-      let q = table_in (records_of (table_piece d per e) (record_count e)) in
-      ap (λ (x : Piece). or_rule (broken_rule x) (breaks_9 d per e q (record_count e) m) (breaks_10 d per q m)) (same_other m below other)
-      ∙ ap (λ (t : Bool). or_rule (broken_rule (table_piece c per e m)) t (breaks_10 d per q m)) (nine_other m other)
-      ∙ ap (or_rule (broken_rule (table_piece c per e m)) (breaks_9 c per e (table_in (records_of (table_piece c per e) (record_count e))) (record_count e) m)) (ten_other m other)
+      let q = table_in (records_of (table_slot d per e) (record_count e)) in
+      ap (λ (x : Slot). or_rule (broken_rule x) (breaks_9 d per e q (record_count e) m) (breaks_10 d per q m)) (same_other m below other)
+      ∙ ap (λ (t : Bool). or_rule (broken_rule (table_slot c per e m)) t (breaks_10 d per q m)) (nine_other m other)
+      ∙ ap (or_rule (broken_rule (table_slot c per e m)) (breaks_9 c per e (table_in (records_of (table_slot c per e) (record_count e))) (record_count e) m)) (ten_other m other)
 
   uncut_table : (m : ℕ) → rule_at c per e m ≡ None → ((eqb m 0) && has_cut_block per FileRec (record_count e) e.runs) ≡ false
   unfolding rule_at breaks_9
   uncut_table m lawful =
-      let p = table_in (records_of (table_piece c per e) (record_count e)) in
-      let nine = first_part (broken_rule (table_piece c per e m)) (breaks_9 c per e p (record_count e) m) (breaks_10 c per p m) lawful in
+      let p = table_in (records_of (table_slot c per e) (record_count e)) in
+      let nine = first_part (broken_rule (table_slot c per e m)) (breaks_9 c per e p (record_count e) m) (breaks_10 c per p m) lawful in
       (or_parts ((eqb m 0) && has_cut_block per FileRec (record_count e) e.runs) (cuts_index per (joined_file c per p (record_count e) m)) nine).0
 
-  nine_new : (m : ℕ) → m < record_count e → touched m ≡ true → rule_at c per e m ≡ None → breaks_9 d per e (table_in (records_of (table_piece d per e) (record_count e))) (record_count e) m ≡ false
+  nine_new : (m : ℕ) → m < record_count e → touched m ≡ true → rule_at c per e m ≡ None → breaks_9 d per e (table_in (records_of (table_slot d per e) (record_count e))) (record_count e) m ≡ false
   unfolding breaks_9
   nine_new m below is lawful =
-      let q = table_in (records_of (table_piece d per e) (record_count e)) in
-      or_from _ _ (uncut_table m lawful) (ap (cuts_index per) (joined_new m below is) ∙ uncut_alone per (table_piece d per e m) (changes.alone m below is))
+      let q = table_in (records_of (table_slot d per e) (record_count e)) in
+      or_from _ _ (uncut_table m lawful) (ap (cuts_index per) (joined_new m below is) ∙ uncut_alone per (table_slot d per e m) (changes.alone m below is))
 
-  ten_new : (m : ℕ) → m < record_count e → touched m ≡ true → breaks_10 d per (table_in (records_of (table_piece d per e) (record_count e))) m ≡ false
+  ten_new : (m : ℕ) → m < record_count e → touched m ≡ true → breaks_10 d per (table_in (records_of (table_slot d per e) (record_count e))) m ≡ false
   unfolding breaks_10
   ten_new m below is =
-      let q = table_in (records_of (table_piece d per e) (record_count e)) in
-      ap (breaks_list d per q m) (new_base m below) ∙ list_alone d per q m (table_piece d per e m) (changes.alone m below is)
+      let q = table_in (records_of (table_slot d per e) (record_count e)) in
+      ap (breaks_list d per q m) (new_base m below) ∙ list_alone d per q m (table_slot d per e m) (changes.alone m below is)
 
   rule_new : (m : ℕ) → m < record_count e → touched m ≡ true → rule_at c per e m ≡ None → rule_at d per e m ≡ None
   unfolding rule_at
-  rule_new m below is lawful = no_rule _ _ _ (unbroken_alone per (table_piece d per e m) (changes.alone m below is)) (nine_new m below is lawful) (ten_new m below is)
+  rule_new m below is lawful = no_rule _ _ _ (unbroken_alone per (table_slot d per e m) (changes.alone m below is)) (nine_new m below is lawful) (ten_new m below is)
 
   no_rule_now : (m : ℕ) → m < record_count e → rule_at c per e m ≡ None → rule_at d per e m ≡ None
   no_rule_now m below lawful = elim (cases_Bool (touched m)) [
@@ -311,19 +311,19 @@ module _ (c d : Content) (per : ℕ) (e : Extents) (touched : ℕ → Bool) (cha
     | inr other ↦ rule_other m below other ∙ lawful
   ]
 
-  untorn_now : (m : ℕ) → m < record_count e → torn_refusal m (table_piece c per e m) ≡ None → torn_refusal m (table_piece d per e m) ≡ None
+  untorn_now : (m : ℕ) → m < record_count e → torn_refusal m (table_slot c per e m) ≡ None → torn_refusal m (table_slot d per e m) ≡ None
   untorn_now m below whole = elim (cases_Bool (touched m)) [
-    | inl is ↦ untorn_alone per m (table_piece d per e m) (changes.alone m below is)
+    | inl is ↦ untorn_alone per m (table_slot d per e m) (changes.alone m below is)
     | inr other ↦ ap (torn_refusal m) (same_other m below other) ∙ whole
   ]
 
   -- the file at each number, where the old files are these
-  file_now : (files : List (Option Record)) (m : ℕ) → m < record_count e → files ≡ files_of c per (table_in (records_of (table_piece c per e) (record_count e))) (record_count e)
-      → joined_file d per (table_in (records_of (table_piece d per e) (record_count e))) (record_count e) m ≡ cond (touched m) (only_base (used_record (table_piece d per e m))) (table_in files m)
+  file_now : (files : List (Option Record)) (m : ℕ) → m < record_count e → files ≡ files_of c per (table_in (records_of (table_slot c per e) (record_count e))) (record_count e)
+      → joined_file d per (table_in (records_of (table_slot d per e) (record_count e))) (record_count e) m ≡ cond (touched m) (only_base (used_record (table_slot d per e m))) (table_in files m)
   unfolding files_of
   file_now files m below are =
-      let p = table_in (records_of (table_piece c per e) (record_count e)) in
-      let new = only_base (used_record (table_piece d per e m)) in
+      let p = table_in (records_of (table_slot c per e) (record_count e)) in
+      let new = only_base (used_record (table_slot d per e m)) in
       elim (cases_Bool (touched m)) [
         | inl is ↦ joined_new m below is ∙ sym (ap (λ (t : Bool). cond t new (table_in files m)) is)
         | inr other ↦
@@ -348,11 +348,11 @@ asked_none torn broken now files whole lawful are = rw (whole, lawful) (ap (λ (
 
 -- what the files are
 pub parts_of_files : (c : Content) (per : ℕ) (e : Extents) (files : List (Option Record)) → files_in c per e ≡ Ok files
-    → ((m : ℕ) → m < record_count e → torn_refusal m (table_piece c per e m) ≡ None) × ((m : ℕ) → m < record_count e → rule_at c per e m ≡ None) × (files ≡ files_of c per (table_in (records_of (table_piece c per e) (record_count e))) (record_count e))
+    → ((m : ℕ) → m < record_count e → torn_refusal m (table_slot c per e m) ≡ None) × ((m : ℕ) → m < record_count e → rule_at c per e m ≡ None) × (files ≡ files_of c per (table_in (records_of (table_slot c per e) (record_count e))) (record_count e))
 unfolding files_in
 parts_of_files c per e files is =
-    let p = table_in (records_of (table_piece c per e) (record_count e)) in
-    let torn : ℕ → Option MapRefusal = λ n. torn_refusal n (table_piece c per e n) in
+    let p = table_in (records_of (table_slot c per e) (record_count e)) in
+    let torn : ℕ → Option MapRefusal = λ n. torn_refusal n (table_slot c per e n) in
     let broken : ℕ → Option MapRefusal = λ n. rule_refusal n (rule_at c per e n) in
     let parts = asked_parts (first_of torn (record_count e)) (first_of broken (record_count e)) (files_of c per p (record_count e)) files is in (
       none_below torn (record_count e) parts.0,
@@ -361,16 +361,16 @@ parts_of_files c per e files is =
     )
 
 pub files_now : (c d : Content) (per : ℕ) (e : Extents) (touched : ℕ → Bool) (files : List (Option Record)) → ChangesRecords c d per e touched → files_in c per e ≡ Ok files
-    → files_in d per e ≡ Ok (map (λ m. cond (touched m) (only_base (used_record (table_piece d per e m))) (table_in files m)) (range_with_len 0 (length files)))
+    → files_in d per e ≡ Ok (map (λ m. cond (touched m) (only_base (used_record (table_slot d per e m))) (table_in files m)) (range_with_len 0 (length files)))
 unfolding files_in files_of
 files_now c d per e touched files changes is =
     let old = parts_of_files c per e files is in
-    let q = table_in (records_of (table_piece d per e) (record_count e)) in
-    let p = table_in (records_of (table_piece c per e) (record_count e)) in
-    let now : ℕ → Option Record = λ m. cond (touched m) (only_base (used_record (table_piece d per e m))) (table_in files m) in
+    let q = table_in (records_of (table_slot d per e) (record_count e)) in
+    let p = table_in (records_of (table_slot c per e) (record_count e)) in
+    let now : ℕ → Option Record = λ m. cond (touched m) (only_base (used_record (table_slot d per e m))) (table_in files m) in
     let size : length files ≡ record_count e = ap length old.2 ∙ length-map-range_with_len (joined_file c per p (record_count e)) 0 (record_count e) in
     asked_none _ _ _ _
-    (none_at_all (λ n. torn_refusal n (table_piece d per e n)) (record_count e) (λ m below. untorn_now c d per e touched changes m below (old.0 m below)))
+    (none_at_all (λ n. torn_refusal n (table_slot d per e n)) (record_count e) (λ m below. untorn_now c d per e touched changes m below (old.0 m below)))
     (none_at_all (λ n. rule_refusal n (rule_at d per e n)) (record_count e) (λ m below. ap (rule_refusal m) (no_rule_now c d per e touched changes m below (old.1 m below))))
     (same_map (joined_file d per q (record_count e)) now 0 (record_count e) (λ m low high. file_now c d per e touched changes files m (omega arith) old.2)
     ∙ ap (λ (k : ℕ). map now (range_with_len 0 k)) (sym size))

@@ -16,7 +16,7 @@ use Rattle.record_model.specs.declared.runs.Run.{Run}
 use Rattle.record_model.specs.Records.{Record}
 use Rattle.state_model.specs.Files.{file_at, only_base, is_base_record}
 use Rattle.state_model.specs.Loads.{table_in}
-use Rattle.state_model.specs.Streams.{first_vcn, is_piece_of, with_piece, sorted_into, pieces_of, piece_runs, form_stream, joined, stream_of, block_at}
+use Rattle.state_model.specs.Streams.{first_vcn, is_attribute_of, with_attribute, sorted_into, attributes_of, attribute_runs, form_stream, joined, stream_of, block_at}
 use Rattle.volume_model.specs.Volumes.{Volume, file_in, file_stream}
 use Rattle.volume_model.specs.Owners.{file_runs, volume_runs, uses}
 use Rattle.stream_laws.specs.Places.{AreOnce, AreApart}
@@ -37,7 +37,7 @@ uses-flat_map {X} f (y ∷ xs) x = uses-append (f y) (flat_map f xs) x ∙ ap (�
 
 -- how often an attribute has a cluster, and how often a file
 abbrev pub attr_uses : ℕ → Attr → ℕ
-attr_uses x a = uses (piece_runs a) x
+attr_uses x a = uses (attribute_runs a) x
 
 abbrev pub file_uses : ℕ → Option Record → ℕ
 file_uses x o = uses (file_runs o) x
@@ -48,62 +48,62 @@ volume_sum files x = uses-flat_map file_runs files x
 
 -- ---- attributes
 
-one_file : (o : Option Record) → file_runs o ≡ flat_map piece_runs (file_attrs o)
+one_file : (o : Option Record) → file_runs o ≡ flat_map attribute_runs (file_attrs o)
 one_file None = refl
 one_file (Some r) = refl
 
-pub runs_of_attrs : (files : List (Option Record)) → volume_runs files ≡ flat_map piece_runs (volume_attrs files)
+pub runs_of_attrs : (files : List (Option Record)) → volume_runs files ≡ flat_map attribute_runs (volume_attrs files)
 unfolding volume_runs
 runs_of_attrs [] = refl
 runs_of_attrs (o ∷ files) =
     ap (λ (l : List Run). l ++ flat_map file_runs files) (one_file o)
-    ∙ ap (λ (l : List Run). flat_map piece_runs (file_attrs o) ++ l) (runs_of_attrs files)
-    ∙ sym (flat_map-append piece_runs (file_attrs o) (volume_attrs files))
+    ∙ ap (λ (l : List Run). flat_map attribute_runs (file_attrs o) ++ l) (runs_of_attrs files)
+    ∙ sym (flat_map-append attribute_runs (file_attrs o) (volume_attrs files))
 
-pub attrs_apart : (files : List (Option Record)) (i j : ℕ) (a b : Attr) → AreOnce (volume_runs files) → i ≢ j → slice_get (volume_attrs files) i ≡ Some a → slice_get (volume_attrs files) j ≡ Some b → AreApart (piece_runs a) (piece_runs b)
+pub attrs_apart : (files : List (Option Record)) (i j : ℕ) (a b : Attr) → AreOnce (volume_runs files) → i ≢ j → slice_get (volume_attrs files) i ≡ Some a → slice_get (volume_attrs files) j ≡ Some b → AreApart (attribute_runs a) (attribute_runs b)
 attrs_apart files i j a b once differ first second x =
-    let all : uses (volume_runs files) x ≡ sum_by (attr_uses x) (volume_attrs files) = ap (λ (l : List Run). uses l x) (runs_of_attrs files) ∙ uses-flat_map piece_runs (volume_attrs files) x in
+    let all : uses (volume_runs files) x ≡ sum_by (attr_uses x) (volume_attrs files) = ap (λ (l : List Run). uses l x) (runs_of_attrs files) ∙ uses-flat_map attribute_runs (volume_attrs files) x in
     let two = two_of_all (attr_uses x) (volume_attrs files) i j differ in
     let mine : weight (attr_uses x) (slice_get (volume_attrs files) i) ≡ attr_uses x a = ap (weight (attr_uses x)) first in
     let its : weight (attr_uses x) (slice_get (volume_attrs files) j) ≡ attr_uses x b = ap (weight (attr_uses x)) second in
     omega (arith, all, two, mine, its, once x)
 
-pub attr_blocks_apart : (per : ℕ) (files : List (Option Record)) (i j : ℕ) (a b : Attr) (kind other : BlockKind) (n m : ℕ) (x y : Block) → 0 < per → AreOnce (volume_runs files) → i ≢ j → slice_get (volume_attrs files) i ≡ Some a → slice_get (volume_attrs files) j ≡ Some b → block_at per (piece_runs a) kind n ≡ Some x → block_at per (piece_runs b) other m ≡ Some y → overlap x y ≡ false
-attr_blocks_apart per files i j a b kind other n m x y some once differ first second = lists_apart per (piece_runs a) (piece_runs b) kind other n m x y some (attrs_apart files i j a b once differ first second)
+pub attr_blocks_apart : (per : ℕ) (files : List (Option Record)) (i j : ℕ) (a b : Attr) (kind other : BlockKind) (n m : ℕ) (x y : Block) → 0 < per → AreOnce (volume_runs files) → i ≢ j → slice_get (volume_attrs files) i ≡ Some a → slice_get (volume_attrs files) j ≡ Some b → block_at per (attribute_runs a) kind n ≡ Some x → block_at per (attribute_runs b) other m ≡ Some y → overlap x y ≡ false
+attr_blocks_apart per files i j a b kind other n m x y some once differ first second = lists_apart per (attribute_runs a) (attribute_runs b) kind other n m x y some (attrs_apart files i j a b once differ first second)
 
--- ---- the pieces of a stream
+-- ---- the attributes of a stream
 
-with_piece_sum : (f : Attr → ℕ) (a : Attr) (pieces : List Attr) → sum_by f (with_piece a pieces) ≡ f a + sum_by f pieces
-with_piece_sum f a [] = sum_by-cons f a []
-with_piece_sum f a (b ∷ pieces) = elim (cases_Bool (ltb (first_vcn a) (first_vcn b))) [
-  | inl before ↦ rw before (sum_by-cons f a (b ∷ pieces))
-  | inr behind ↦ rw behind (omega (arith, sum_by-cons f b (with_piece a pieces), sum_by-cons f b pieces, with_piece_sum f a pieces))
+with_attribute_sum : (f : Attr → ℕ) (a : Attr) (attributes : List Attr) → sum_by f (with_attribute a attributes) ≡ f a + sum_by f attributes
+with_attribute_sum f a [] = sum_by-cons f a []
+with_attribute_sum f a (b ∷ attributes) = elim (cases_Bool (ltb (first_vcn a) (first_vcn b))) [
+  | inl before ↦ rw before (sum_by-cons f a (b ∷ attributes))
+  | inr behind ↦ rw behind (omega (arith, sum_by-cons f b (with_attribute a attributes), sum_by-cons f b attributes, with_attribute_sum f a attributes))
 ]
 
-sorted_sum : (f : Attr → ℕ) (pieces attrs : List Attr) → sum_by f (sorted_into pieces attrs) ≡ sum_by f pieces + sum_by f attrs
-sorted_sum f pieces [] = omega arith
-sorted_sum f pieces (a ∷ attrs) = omega (arith, sorted_sum f (with_piece a pieces) attrs, with_piece_sum f a pieces, sum_by-cons f a attrs)
+sorted_sum : (f : Attr → ℕ) (attributes attrs : List Attr) → sum_by f (sorted_into attributes attrs) ≡ sum_by f attributes + sum_by f attrs
+sorted_sum f attributes [] = omega arith
+sorted_sum f attributes (a ∷ attrs) = omega (arith, sorted_sum f (with_attribute a attributes) attrs, with_attribute_sum f a attributes, sum_by-cons f a attrs)
 
-pieces_sum : (f : Attr → ℕ) (kind : ℕ) (name : List ℕ) (attrs : List Attr) → sum_by f (pieces_of kind name attrs) ≡ sum_by f (filter (is_piece_of kind name) attrs)
-unfolding pieces_of
-pieces_sum f kind name attrs =
-    let none : 0 + sum_by f (filter (is_piece_of kind name) attrs) ≡ sum_by f (filter (is_piece_of kind name) attrs) = omega arith in
-    sorted_sum f [] (filter (is_piece_of kind name) attrs) ∙ none
+attributes_sum : (f : Attr → ℕ) (kind : ℕ) (name : List ℕ) (attrs : List Attr) → sum_by f (attributes_of kind name attrs) ≡ sum_by f (filter (is_attribute_of kind name) attrs)
+unfolding attributes_of
+attributes_sum f kind name attrs =
+    let none : 0 + sum_by f (filter (is_attribute_of kind name) attrs) ≡ sum_by f (filter (is_attribute_of kind name) attrs) = omega arith in
+    sorted_sum f [] (filter (is_attribute_of kind name) attrs) ∙ none
 
 form_uses : (form : OwnForm) (runs : List Run) (x : ℕ) → uses (runs_in (Some (form_stream form runs))) x ≤ uses runs x
 form_uses (Resident value indexed) runs x = omega (arith, uses-none x)
 form_uses (Mapped sizes pairs) runs x = omega arith
 
-joined_uses : (pieces : List Attr) (x : ℕ) → uses (runs_in (joined pieces)) x ≤ sum_by (attr_uses x) pieces
+joined_uses : (attributes : List Attr) (x : ℕ) → uses (runs_in (joined attributes)) x ≤ sum_by (attr_uses x) attributes
 joined_uses [] x = omega (arith, uses-none x)
-joined_uses (a ∷ pieces) x = omega (arith, form_uses a.form (flat_map piece_runs (a ∷ pieces)) x, uses-flat_map piece_runs (a ∷ pieces) x)
+joined_uses (a ∷ attributes) x = omega (arith, form_uses a.form (flat_map attribute_runs (a ∷ attributes)) x, uses-flat_map attribute_runs (a ∷ attributes) x)
 
--- the clusters of a stream are those of its pieces
-stream_uses : (kind : ℕ) (name : List ℕ) (attrs : List Attr) (x : ℕ) → uses (runs_in (stream_of kind name attrs)) x ≤ sum_by (attr_uses x) (filter (is_piece_of kind name) attrs)
+-- the clusters of a stream are those of its attributes
+stream_uses : (kind : ℕ) (name : List ℕ) (attrs : List Attr) (x : ℕ) → uses (runs_in (stream_of kind name attrs)) x ≤ sum_by (attr_uses x) (filter (is_attribute_of kind name) attrs)
 unfolding stream_of
-stream_uses kind name attrs x = omega (arith, joined_uses (pieces_of kind name attrs) x, pieces_sum (attr_uses x) kind name attrs)
+stream_uses kind name attrs x = omega (arith, joined_uses (attributes_of kind name attrs) x, attributes_sum (attr_uses x) kind name attrs)
 
--- ---- which stream an attribute is a piece of
+-- ---- which stream an attribute belongs to
 
 same_from_test : (xs ys : List ℕ) → pointwise nat_eq xs ys ≡ true → xs ≡ ys
 same_from_test [] [] same = refl
@@ -115,9 +115,9 @@ same_from_test (x ∷ xs) (y ∷ ys) same =
     let rest : xs ≡ ys = same_from_test xs ys parts.1 in
     cc
 
-piece_kind : (kind : ℕ) (name : List ℕ) (a : Attr) → is_piece_of kind name a ≡ true → (a.head.kind ≡ kind) × (a.name ≡ name)
-unfolding is_piece_of
-piece_kind kind name a is =
+attribute_kind : (kind : ℕ) (name : List ℕ) (a : Attr) → is_attribute_of kind name a ≡ true → (a.head.kind ≡ kind) × (a.name ≡ name)
+unfolding is_attribute_of
+attribute_kind kind name a is =
     let parts = and_parts (eqb a.head.kind kind) (pointwise nat_eq a.name name) is in
     (eqb-true a.head.kind kind parts.0, same_from_test a.name name parts.1)
 
@@ -125,12 +125,12 @@ piece_kind kind name a is =
 
 stream_of_file : (kind : ℕ) (name : List ℕ) (o : Option Record) (x : ℕ) → uses (runs_in (file_stream kind name o)) x ≤ file_uses x o
 stream_of_file kind name None x = omega arith
-stream_of_file kind name (Some r) x = omega (arith, stream_uses kind name r.attrs x, filter_of_all (attr_uses x) (is_piece_of kind name) r.attrs, uses-flat_map piece_runs r.attrs x)
+stream_of_file kind name (Some r) x = omega (arith, stream_uses kind name r.attrs x, filter_of_all (attr_uses x) (is_attribute_of kind name) r.attrs, uses-flat_map attribute_runs r.attrs x)
 
-streams_of_file : (kind other : ℕ) (name alias : List ℕ) (o : Option Record) (x : ℕ) → ((a : Attr) → is_piece_of kind name a ≡ true → is_piece_of other alias a ≡ true → ⊥) → uses (runs_in (file_stream kind name o)) x + uses (runs_in (file_stream other alias o)) x ≤ file_uses x o
+streams_of_file : (kind other : ℕ) (name alias : List ℕ) (o : Option Record) (x : ℕ) → ((a : Attr) → is_attribute_of kind name a ≡ true → is_attribute_of other alias a ≡ true → ⊥) → uses (runs_in (file_stream kind name o)) x + uses (runs_in (file_stream other alias o)) x ≤ file_uses x o
 streams_of_file kind other name alias None x never = omega (arith, uses-none x)
 streams_of_file kind other name alias (Some r) x never =
-    omega (arith, stream_uses kind name r.attrs x, stream_uses other alias r.attrs x, filters_of_all (attr_uses x) (is_piece_of kind name) (is_piece_of other alias) r.attrs never, uses-flat_map piece_runs r.attrs x)
+    omega (arith, stream_uses kind name r.attrs x, stream_uses other alias r.attrs x, filters_of_all (attr_uses x) (is_attribute_of kind name) (is_attribute_of other alias) r.attrs never, uses-flat_map attribute_runs r.attrs x)
 
 -- ---- streams of a volume
 
@@ -164,9 +164,9 @@ same_key s t file kind name =
 pub streams_apart : (v : Volume) (s t : StreamKey) → AreOnce (volume_runs v.files) → s ≢ t → AreApart (runs_in (stream_at v s)) (runs_in (stream_at v t))
 streams_apart v s t once differ x = elim (cases_eq s.file t.file) [
   | inl file ↦
-      (let never : (a : Attr) → is_piece_of s.kind s.name a ≡ true → is_piece_of t.kind t.name a ≡ true → ⊥ = λ a first second.
-      let mine = piece_kind s.kind s.name a first in
-      let its = piece_kind t.kind t.name a second in
+      (let never : (a : Attr) → is_attribute_of s.kind s.name a ≡ true → is_attribute_of t.kind t.name a ≡ true → ⊥ = λ a first second.
+      let mine = attribute_kind s.kind s.name a first in
+      let its = attribute_kind t.kind t.name a second in
       differ (same_key s t file (sym mine.0 ∙ its.0) (sym mine.1 ∙ its.1)) in
       let both = streams_of_file s.kind t.kind s.name t.name (file_in v s.file) x never in
       let here : uses (runs_in (file_stream t.kind t.name (file_in v s.file))) x ≡ uses (runs_in (stream_at v t)) x = ap (λ (n : ℕ). uses (runs_in (file_stream t.kind t.name (file_in v n))) x) file in

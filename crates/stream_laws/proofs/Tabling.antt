@@ -13,8 +13,9 @@ use Rattle.record_model.specs.declared.attribute.Attr.{Attr}
 use Rattle.record_model.specs.declared.record.RecHead.{RecHead}
 use Rattle.record_model.specs.declared.runs.Run.{Run}
 use Rattle.record_model.specs.Attributes.{is_inside, attr_of}
-use Rattle.record_model.specs.Values.{has_lawful_value, attribute_list, data_type}
+use Rattle.record_model.specs.Values.{has_lawful_value}
 use Rattle.record_model.specs.Records.{Record, Pieces, cut, most_attributes, types_rise, has_first, has_size, attribute_bytes, rec_head_of, record_at, shaped_at, has_lawful_values}
+use Rattle.record_model.specs.Constants.{attribute_list, data_type}
 use Rattle.state_model.specs.declared.geometry.Geometry.{Geometry}
 use Rattle.state_model.specs.declared.geometry.MapRefusal.{MapRefusal}
 use Rattle.state_model.specs.declared.geometry.MapRefusal.TheVariants.{BadRecord, MftList, MftLarge}
@@ -22,8 +23,8 @@ use Rattle.state_model.specs.declared.stream.Extents.{Extents}
 use Rattle.state_model.specs.declared.stream.Stream.{Stream}
 use Rattle.state_model.specs.declared.stream.Stream.TheVariants.{Held, Placed}
 use Rattle.state_model.specs.Files.{Table, file_at, only_base, is_base_record, has_type}
-use Rattle.state_model.specs.Streams.{is_piece_of, sorted_into, pieces_of, joined, stream_of, block_at}
-use Rattle.state_model.specs.Loads.{Piece, Torn, Free, Broken, Used, is_used, piece_in, piece_by, piece_of, whole_record, has_all_pairs, boot_block, judged, data_stream, extents_or, record_count, most_records, table_extents, extents_in, table_of, piece_at, table_piece, used_record, records_of, table_in, list_stream, all_attrs, whole_file, joined_file, files_of, files_in}
+use Rattle.state_model.specs.Streams.{is_attribute_of, sorted_into, attributes_of, joined, stream_of, block_at}
+use Rattle.state_model.specs.Loads.{Slot, Torn, Free, Broken, Used, is_used, slot_in, slot_by, slot_of, whole_record, has_all_pairs, boot_block, judged, data_stream, extents_or, record_count, most_records, table_extents, extents_in, table_of, slot_at, table_slot, used_record, records_of, table_in, list_stream, all_attrs, whole_file, joined_file, files_of, files_in}
 use Rattle.volume_model.specs.Volumes.{Volume, file_in, file_stream, table_file}
 use Rattle.volume_model.specs.Owners.{volume_runs}
 use Rattle.stream_laws.specs.Places.{AreOnce, AreApart}
@@ -72,14 +73,14 @@ shape_of_whole body r is = behind_shape (shaped_at body) has_all_pairs has_lawfu
 
 -- ---- the record in the boot sector's block
 
--- a piece in use is read from a body that is whole and in use
-read_in_use : (torn used : Bool) (read : Result Record ℕ) (r : Record) → cond torn Torn (cond used (piece_in read) Free) ≡ Used r → (torn ≡ false) × (used ≡ true) × (read ≡ Ok r)
+-- a slot in use is read from a body that is whole and in use
+read_in_use : (torn used : Bool) (read : Result Record ℕ) (r : Record) → cond torn Torn (cond used (slot_in read) Free) ≡ Used r → (torn ≡ false) × (used ≡ true) × (read ≡ Ok r)
 read_in_use true used read r is = absurd cc
 read_in_use false false read r is = absurd cc
 read_in_use false true (Ok x) r is = (refl, refl, cc)
 read_in_use false true (Err rule) r is = absurd cc
 
-judged_record : (torn used : Bool) (read : Result Record ℕ) (e : Extents) → torn ≡ false → used ≡ true → (judged 0 (cond torn Torn (cond used (piece_in read) Free)) >>= extents_in) ≡ Ok e → (r : Record) × (read ≡ Ok r) × (extents_in (Some r) ≡ Ok e)
+judged_record : (torn used : Bool) (read : Result Record ℕ) (e : Extents) → torn ≡ false → used ≡ true → (judged 0 (cond torn Torn (cond used (slot_in read) Free)) >>= extents_in) ≡ Ok e → (r : Record) × (read ≡ Ok r) × (extents_in (Some r) ≡ Ok e)
 judged_record true used read e whole in_use is = absurd cc
 judged_record false false read e whole in_use is = absurd cc
 judged_record false true (Ok r) e whole in_use is = (r, refl, is)
@@ -97,16 +98,16 @@ table_record r e is = no_list (has_type attribute_list r) (leb (record_count (ta
 
 -- ---- no attribute list
 
-no_pieces : (kind : ℕ) (name : List ℕ) (attrs : List Attr) → list_any (λ (a : Attr). eqb a.head.kind kind) attrs ≡ false → filter (is_piece_of kind name) attrs ≡ []
-unfolding is_piece_of
-no_pieces kind name [] has = refl
-no_pieces kind name (a ∷ attrs) has =
+no_attributes : (kind : ℕ) (name : List ℕ) (attrs : List Attr) → list_any (λ (a : Attr). eqb a.head.kind kind) attrs ≡ false → filter (is_attribute_of kind name) attrs ≡ []
+unfolding is_attribute_of
+no_attributes kind name [] has = refl
+no_attributes kind name (a ∷ attrs) has =
     let parts = or_parts (eqb a.head.kind kind) (list_any (λ (b : Attr). eqb b.head.kind kind) attrs) has in
-    rw (and_left (eqb a.head.kind kind) (pointwise nat_eq a.name name) parts.0) (no_pieces kind name attrs parts.1)
+    rw (and_left (eqb a.head.kind kind) (pointwise nat_eq a.name name) parts.0) (no_attributes kind name attrs parts.1)
 
 no_list_stream : (r : Record) → has_type attribute_list r ≡ false → list_stream r ≡ None
-unfolding has_type list_stream stream_of pieces_of
-no_list_stream r has = ap (λ (l : List Attr). joined (sorted_into [] l)) (no_pieces attribute_list _ r.attrs has)
+unfolding has_type list_stream stream_of attributes_of
+no_list_stream r has = ap (λ (l : List Attr). joined (sorted_into [] l)) (no_attributes attribute_list _ r.attrs has)
 
 -- ---- the first file
 
@@ -118,7 +119,7 @@ only_base_some (Some r) f is = passed (is_base_record r) is
     passed true e = e
     passed false e = absurd cc
 
-used_some : (x : Piece) (r : Record) → used_record x ≡ Some r → x ≡ Used r
+used_some : (x : Slot) (r : Record) → used_record x ≡ Some r → x ≡ Used r
 used_some Torn r is = absurd cc
 used_some Free r is = absurd cc
 used_some (Broken rule) r is = absurd cc
@@ -141,7 +142,7 @@ inside_list files n f is = elim (cases_lt n (length files)) [
     clash : None ≡ Some f → ⊥
     clash e = cc
 
-used_part : (initialised at : ℕ) (x : Piece) (r : Record) → cond (leb initialised at) Free x ≡ Used r → x ≡ Used r
+used_part : (initialised at : ℕ) (x : Slot) (r : Record) → cond (leb initialised at) Free x ≡ Used r → x ≡ Used r
 used_part initialised at x r is = passed (leb initialised at) is
   where
     passed : (t : Bool) → cond t Free x ≡ Used r → x ≡ Used r
@@ -151,16 +152,16 @@ used_part initialised at x r is = passed (leb initialised at) is
 -- the record of file 0, which has the file's attributes where it has no attribute list
 pub record FirstRecord (c : Content) (v : Volume) (f : Record) : Type 0 where
   pub base : Record
-  pub piece : table_piece c v.per v.table 0 ≡ Used base
-  pub attrs : f.attrs ≡ all_attrs c v.per (table_in (records_of (table_piece c v.per v.table) (record_count v.table))) (record_count v.table) 0 base
+  pub slot : table_slot c v.per v.table 0 ≡ Used base
+  pub attrs : f.attrs ≡ all_attrs c v.per (table_in (records_of (table_slot c v.per v.table) (record_count v.table))) (record_count v.table) 0 base
 
-first_record : (c : Content) (v : Volume) (f : Record) → v.files ≡ files_of c v.per (table_in (records_of (table_piece c v.per v.table) (record_count v.table))) (record_count v.table) → file_in v table_file ≡ Some f → FirstRecord c v f
+first_record : (c : Content) (v : Volume) (f : Record) → v.files ≡ files_of c v.per (table_in (records_of (table_slot c v.per v.table) (record_count v.table))) (record_count v.table) → file_in v table_file ≡ Some f → FirstRecord c v f
 unfolding files_of records_of file_at joined_file
 first_record c v f are is =
     let e = v.table in
     let count = record_count e in
-    let pieces : ℕ → Option Record = λ n. used_record (table_piece c v.per e n) in
-    let p = table_in (records_of (table_piece c v.per e) count) in
+    let pieces : ℕ → Option Record = λ n. used_record (table_slot c v.per e n) in
+    let p = table_in (records_of (table_slot c v.per e) count) in
     let there : get_or v.files 0 None ≡ Some f = only_base_some (table_in v.files 0) f is in
     let within : 0 < length v.files = inside_list v.files 0 f there in
     let size : length v.files ≡ count = ap length are ∙ length-map-range_with_len (joined_file c v.per p count) 0 count in
@@ -168,23 +169,23 @@ first_record c v f are is =
     let file : joined_file c v.per p count 0 ≡ Some f = sym (ap (λ (l : List (Option Record)). get_or l 0 None) are ∙ get_or-map-range_with_len (joined_file c v.per p count) 0 count 0 0 None below (omega arith)) ∙ there in
     let whole = whole_some c v.per p count 0 (file_at p 0) f file in
     let held : p 0 ≡ Some whole.0 = only_base_some (p 0) whole.0 whole.1 in
-    let read : used_record (table_piece c v.per e 0) ≡ Some whole.0 = sym (get_or-map-range_with_len pieces 0 count 0 0 None below (omega arith)) ∙ held in
-    record { base = whole.0; piece = used_some (table_piece c v.per e 0) whole.0 read; attrs = whole.2 }
+    let read : used_record (table_slot c v.per e 0) ≡ Some whole.0 = sym (get_or-map-range_with_len pieces 0 count 0 0 None below (omega arith)) ∙ held in
+    record { base = whole.0; slot = used_some (table_slot c v.per e 0) whole.0 read; attrs = whole.2 }
 
 -- ---- the extents
 
-in_boot_block : (c : Content) (g : Geometry) (v : Volume) (r : Record) → block_at v.per v.table.runs FileRec 0 ≡ Some (boot_block g 0) → table_piece c v.per v.table 0 ≡ Used r → piece_of (c (boot_block g 0)) ≡ Used r
-unfolding table_piece
-in_boot_block c g v r first is = sym (ap (piece_at c) first) ∙ used_part v.table.initialised (1024 * 0) (piece_at c (block_at v.per v.table.runs FileRec 0)) r is
+in_boot_block : (c : Content) (g : Geometry) (v : Volume) (r : Record) → block_at v.per v.table.runs FileRec 0 ≡ Some (boot_block g 0) → table_slot c v.per v.table 0 ≡ Used r → slot_of (c (boot_block g 0)) ≡ Used r
+unfolding table_slot
+in_boot_block c g v r first is = sym (ap (slot_at c) first) ∙ used_part v.table.initialised (1024 * 0) (slot_at c (block_at v.per v.table.runs FileRec 0)) r is
 
 one_answer : (read : Result Record ℕ) (x y : Record) → read ≡ Ok x → read ≡ Ok y → x ≡ y
 one_answer read x y first second = cc
 
 -- both readers give the same record of one body, and so the extents are those of its data
-of_body : (body : Body) (r : Record) (e : Extents) → piece_of body ≡ Used r → (judged 0 (piece_by record_at body) >>= extents_in) ≡ Ok e → (has_type attribute_list r ≡ false) × (table_extents r ≡ e)
-unfolding piece_of
-of_body body r e piece table =
-    let read = read_in_use body.torn (is_used body.bytes) (whole_record body.bytes) r piece in
+of_body : (body : Body) (r : Record) (e : Extents) → slot_of body ≡ Used r → (judged 0 (slot_by record_at body) >>= extents_in) ≡ Ok e → (has_type attribute_list r ≡ false) × (table_extents r ≡ e)
+unfolding slot_of
+of_body body r e slot table =
+    let read = read_in_use body.torn (is_used body.bytes) (whole_record body.bytes) r slot in
     let judgement = judged_record body.torn (is_used body.bytes) (record_at body.bytes) e read.0 read.1 table in
     let found = table_record judgement.0 e judgement.2 in
     let same : judgement.0 ≡ r = one_answer (shaped_at body.bytes) judgement.0 r (shape_of_record body.bytes judgement.0 judgement.1) (shape_of_whole body.bytes r read.2) in
@@ -197,7 +198,7 @@ table_extents_is c g clusters v begins =
     let loaded = ap (λ (per : ℕ). files_in c per v.table) (sym parts.per) ∙ parts.files in
     let files = parts_of_files c v.per v.table v.files loaded in
     let first = first_record c v begins.file files.2 begins.is_file in
-    let found = of_body (c (boot_block g 0)) first.base v.table (in_boot_block c g v first.base begins.first first.piece) parts.table in
+    let found = of_body (c (boot_block g 0)) first.base v.table (in_boot_block c g v first.base begins.first first.slot) parts.table in
     let attrs : begins.file.attrs ≡ first.base.attrs = first.attrs ∙ attrs_alone c v.per _ (record_count v.table) 0 first.base (no_list_stream first.base found.0) in
     ap (λ (o : Option Record). extents_or (file_stream data_type [] o)) begins.is_file
     ∙ ap (λ (l : List Attr). extents_or (stream_of data_type [] l)) attrs

@@ -13,7 +13,7 @@ use Rattle.state_model.specs.declared.stream.Extents.{Extents}
 use Rattle.state_model.specs.declared.stream.Stream.{Stream}
 use Rattle.state_model.specs.declared.stream.Stream.TheVariants.{Held, Placed}
 use Rattle.state_model.specs.Streams.{block_at, extent_bytes}
-use Rattle.state_model.specs.Loads.{table_piece, records_of}
+use Rattle.state_model.specs.Loads.{table_slot, records_of}
 use Rattle.volume_model.specs.Volumes.{Volume, bytes_or, record_bytes, is_in_use}
 use Rattle.volume_model.specs.Indexes.{block_count, index_block, index_stream, index_links}
 use Rattle.stream_laws.specs.Frames.{IsRead, IsRecordBlock}
@@ -64,8 +64,8 @@ LeavesIndex writes per (Some (Placed e)) = (i : ℕ) → i < block_count per e �
 pub record StaysElsewhere : Type 0 where
   pub apart : (b : Block) (w : Write) → overlap b w.block ≡ false → IsElsewhere b w
   pub bytes : (c : Content) (writes : List Write) (per : ℕ) (s : Option Stream) → LeavesBytes writes per s → bytes_or (overlay c writes) per s ≡ bytes_or c per s
-  pub piece : (c : Content) (writes : List Write) (per : ℕ) (e : Extents) (n : ℕ) → HasSizes c → LeavesRecord writes per e n → table_piece (overlay c writes) per e n ≡ table_piece c per e n
-  pub records : (c : Content) (writes : List Write) (per : ℕ) (e : Extents) (count : ℕ) → HasSizes c → ((n : ℕ) → n < count → LeavesRecord writes per e n) → records_of (table_piece (overlay c writes) per e) count ≡ records_of (table_piece c per e) count
+  pub slot : (c : Content) (writes : List Write) (per : ℕ) (e : Extents) (n : ℕ) → HasSizes c → LeavesRecord writes per e n → table_slot (overlay c writes) per e n ≡ table_slot c per e n
+  pub records : (c : Content) (writes : List Write) (per : ℕ) (e : Extents) (count : ℕ) → HasSizes c → ((n : ℕ) → n < count → LeavesRecord writes per e n) → records_of (table_slot (overlay c writes) per e) count ≡ records_of (table_slot c per e) count
   pub body : (c : Content) (writes : List Write) (v : Volume) (n : ℕ) → HasSizes c → LeavesRecord writes v.per v.table n → record_bytes (overlay c writes) v n ≡ record_bytes c v n
   pub in_use : (c : Content) (writes : List Write) (v : Volume) (n : ℕ) → HasSizes c → LeavesRecord writes v.per v.table n → is_in_use (overlay c writes) v n ≡ is_in_use c v n
   pub links : (c : Content) (writes : List Write) (per : ℕ) (upper : List ℕ) (r : Record) → HasSizes c → LeavesIndex writes per (index_stream r) → index_links (overlay c writes) per upper r ≡ index_links c per upper r

@@ -10,7 +10,7 @@ use Rattle.state_model.specs.declared.stream.Extents.{Extents}
 use Rattle.state_model.specs.declared.stream.Stream.{Stream}
 use Rattle.state_model.specs.declared.stream.Stream.TheVariants.{Held, Placed}
 use Rattle.state_model.specs.Streams.{block_at, extent_bytes, stream_bytes}
-use Rattle.state_model.specs.Loads.{table_piece, records_of}
+use Rattle.state_model.specs.Loads.{table_slot, records_of}
 use Rattle.volume_model.specs.Volumes.{Volume, bytes_or, record_bytes, is_in_use}
 use Rattle.volume_model.specs.Indexes.{block_count, index_block, index_stream, index_place, index_links}
 
@@ -53,8 +53,8 @@ SameRecordIn c d per e n = (b : Block) → IsRecordBlock per e n b → d b ≡ c
 
 -- then the record is the same in both, and so are all the records in use where this holds of each
 pub record FrameOfRecords : Type 0 where
-  pub piece : (c d : Content) (per : ℕ) (e : Extents) (n : ℕ) → SameRecordIn c d per e n → table_piece d per e n ≡ table_piece c per e n
-  pub records : (c d : Content) (per : ℕ) (e : Extents) (count : ℕ) → ((n : ℕ) → n < count → SameRecordIn c d per e n) → records_of (table_piece d per e) count ≡ records_of (table_piece c per e) count
+  pub slot : (c d : Content) (per : ℕ) (e : Extents) (n : ℕ) → SameRecordIn c d per e n → table_slot d per e n ≡ table_slot c per e n
+  pub records : (c d : Content) (per : ℕ) (e : Extents) (count : ℕ) → ((n : ℕ) → n < count → SameRecordIn c d per e n) → records_of (table_slot d per e) count ≡ records_of (table_slot c per e) count
   pub bytes : (c d : Content) (v : Volume) (n : ℕ) → SameRecordIn c d v.per v.table n → record_bytes d v n ≡ record_bytes c v n
   pub in_use : (c d : Content) (v : Volume) (n : ℕ) → SameRecordIn c d v.per v.table n → is_in_use d v n ≡ is_in_use c v n
 

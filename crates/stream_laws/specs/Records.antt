@@ -8,7 +8,7 @@ use Rattle.disk_model.specs.Writes.{Write, overlay}
 use Rattle.record_model.specs.declared.runs.Run.{Run}
 use Rattle.state_model.specs.declared.stream.Extents.{Extents}
 use Rattle.state_model.specs.Streams.{block_at}
-use Rattle.state_model.specs.Loads.{piece_of, table_piece, used_record, records_of}
+use Rattle.state_model.specs.Loads.{slot_of, table_slot, used_record, records_of}
 use Rattle.volume_model.specs.Volumes.{Volume, record_bytes}
 use Rattle.stream_laws.specs.Changes.{LeavesRecord}
 use Rattle.stream_laws.specs.Places.{AreOnce}
@@ -29,12 +29,12 @@ AreInRecord per runs n writes = AllByRecursion (λ w. block_at per runs FileRec 
 -- Where no cluster lies twice in the file table, a record stays under writes to others.
 pub record OthersStay : Type 0 where
   pub leaves : (writes : List Write) (per : ℕ) (e : Extents) (m : ℕ) → 0 < per → AreOnce e.runs → AreInOthers per e.runs m writes → LeavesRecord writes per e m
-  pub piece : (c : Content) (writes : List Write) (per : ℕ) (e : Extents) (m : ℕ) → HasSizes c → 0 < per → AreOnce e.runs → AreInOthers per e.runs m writes → table_piece (overlay c writes) per e m ≡ table_piece c per e m
+  pub slot : (c : Content) (writes : List Write) (per : ℕ) (e : Extents) (m : ℕ) → HasSizes c → 0 < per → AreOnce e.runs → AreInOthers per e.runs m writes → table_slot (overlay c writes) per e m ≡ table_slot c per e m
   pub body : (c : Content) (writes : List Write) (v : Volume) (m : ℕ) → HasSizes c → 0 < v.per → AreOnce v.table.runs → AreInOthers v.per v.table.runs m writes → record_bytes (overlay c writes) v m ≡ record_bytes c v m
 
 -- Writes to the block of one record change that record alone; it becomes what its new body says.
 pub record OneRecordChanged : Type 0 where
-  pub others : (c : Content) (writes : List Write) (per : ℕ) (e : Extents) (n m : ℕ) → HasSizes c → 0 < per → AreOnce e.runs → AreInRecord per e.runs n writes → m ≢ n → table_piece (overlay c writes) per e m ≡ table_piece c per e m
+  pub others : (c : Content) (writes : List Write) (per : ℕ) (e : Extents) (n m : ℕ) → HasSizes c → 0 < per → AreOnce e.runs → AreInRecord per e.runs n writes → m ≢ n → table_slot (overlay c writes) per e m ≡ table_slot c per e m
   pub records : (c : Content) (writes : List Write) (per : ℕ) (e : Extents) (n count : ℕ) → HasSizes c → 0 < per → AreOnce e.runs → AreInRecord per e.runs n writes
-      → records_of (table_piece (overlay c writes) per e) count ≡ slice_set (records_of (table_piece c per e) count) n (used_record (table_piece (overlay c writes) per e n))
-  pub changed : (c : Content) (writes : List Write) (per : ℕ) (e : Extents) (n : ℕ) (b : Block) → 1024 * n < e.initialised → block_at per e.runs FileRec n ≡ Some b → table_piece (overlay c writes) per e n ≡ piece_of (overlay c writes b)
+      → records_of (table_slot (overlay c writes) per e) count ≡ slice_set (records_of (table_slot c per e) count) n (used_record (table_slot (overlay c writes) per e n))
+  pub changed : (c : Content) (writes : List Write) (per : ℕ) (e : Extents) (n : ℕ) (b : Block) → 1024 * n < e.initialised → block_at per e.runs FileRec n ≡ Some b → table_slot (overlay c writes) per e n ≡ slot_of (overlay c writes b)

@@ -8,7 +8,7 @@ use Rattle.record_model.specs.Records.{Record}
 use Rattle.state_model.specs.declared.geometry.Geometry.{Geometry}
 use Rattle.state_model.specs.declared.stream.Extents.{Extents}
 use Rattle.state_model.specs.Files.{only_base}
-use Rattle.state_model.specs.Loads.{Piece, Torn, Free, Broken, Used, boot_block, record_count, table_piece, used_record, table_in, list_stream, entries_of, cuts_index}
+use Rattle.state_model.specs.Loads.{Slot, Torn, Free, Broken, Used, boot_block, record_count, table_slot, used_record, table_in, list_stream, entries_of, cuts_index}
 use Rattle.volume_model.specs.Volumes.{Volume, volume_of, count_of}
 use Rattle.stream_laws.specs.Frames.{SameBytesInSome, SameRecordIn}
 use Rattle.stream_laws.specs.Changes.{AreElsewhere, LeavesBytes, LeavesRecord}
@@ -16,7 +16,7 @@ use Rattle.stream_laws.specs.Replacing.{FileEdit, with_edits, AreEdits}
 use Rattle.stream_laws.specs.Volumes.{base_record}
 
 -- a record that isn't in use; or one in use that breaks no rule by itself, has no attribute list and no index block in two runs
-abbrev pub StandsAlone : ℕ → Piece → Type 0
+abbrev pub StandsAlone : ℕ → Slot → Type 0
 StandsAlone per Torn = ⊥
 StandsAlone per Free = ⊤
 StandsAlone per (Broken rule) = ⊥
@@ -32,11 +32,11 @@ pub record ChangesRecords (c d : Content) (per : ℕ) (e : Extents) (touched : �
   pub others : (m : ℕ) → m < record_count e → touched m ≡ false → SameRecordIn c d per e m
   pub lists : (m : ℕ) (r : Record) → touched m ≡ false → base_record c per e m ≡ Some r → SameBytesInSome c d per (list_stream r)
   pub unnamed : (m : ℕ) (r : Record) → touched m ≡ false → base_record c per e m ≡ Some r → names_one touched (entries_of c per r).entries ≡ false
-  pub alone : (m : ℕ) → m < record_count e → touched m ≡ true → StandsAlone per (table_piece d per e m)
+  pub alone : (m : ℕ) → m < record_count e → touched m ≡ true → StandsAlone per (table_slot d per e m)
 
 -- the file that a record is by itself: a base record in use
 abbrev pub new_file : Content → Volume → ℕ → Option Record
-new_file d v m = only_base (used_record (table_piece d v.per v.table m))
+new_file d v m = only_base (used_record (table_slot d v.per v.table m))
 
 abbrev pub changed_file : Content → Volume → (ℕ → Bool) → ℕ → Option Record
 changed_file d v touched m = if touched m then new_file d v m else table_in v.files m
@@ -59,7 +59,7 @@ pub record RewritesRecords (c : Content) (writes : List Write) (per : ℕ) (e : 
   pub others : (m : ℕ) → m < record_count e → touched m ≡ false → LeavesRecord writes per e m
   pub lists : (m : ℕ) (r : Record) → touched m ≡ false → base_record c per e m ≡ Some r → LeavesBytes writes per (list_stream r)
   pub unnamed : (m : ℕ) (r : Record) → touched m ≡ false → base_record c per e m ≡ Some r → names_one touched (entries_of c per r).entries ≡ false
-  pub alone : (m : ℕ) → m < record_count e → touched m ≡ true → StandsAlone per (table_piece (overlay c writes) per e m)
+  pub alone : (m : ℕ) → m < record_count e → touched m ≡ true → StandsAlone per (table_slot (overlay c writes) per e m)
 
 -- Then the volume has the new files in the places of the old ones, where record 0 stays at its place by the boot sector. These
 -- are the old files with one replaced, or after edits.

@@ -9,7 +9,7 @@ use Rattle.record_model.specs.declared.runs.Run.{Run}
 use Rattle.record_model.specs.Records.{Record}
 use Rattle.state_model.specs.declared.stream.Stream.{Stream}
 use Rattle.state_model.specs.declared.stream.Stream.TheVariants.{Held, Placed}
-use Rattle.state_model.specs.Streams.{piece_runs, block_at}
+use Rattle.state_model.specs.Streams.{attribute_runs, block_at}
 use Rattle.volume_model.specs.Volumes.{Volume, file_in, file_stream}
 use Rattle.volume_model.specs.Owners.{volume_runs, uses}
 use Rattle.stream_laws.specs.Places.{AreOnce, AreApart}
@@ -26,10 +26,10 @@ volume_attrs files = flat_map file_attrs files
 
 -- Where no cluster lies twice in a volume, blocks in the runs of two attributes share no sector.
 pub record AttributesApart : Type 0 where
-  pub runs : (files : List (Option Record)) → volume_runs files ≡ flat_map piece_runs (volume_attrs files)
-  pub clusters : (files : List (Option Record)) (i j : ℕ) (a b : Attr) → AreOnce (volume_runs files) → i ≢ j → slice_get (volume_attrs files) i ≡ Some a → slice_get (volume_attrs files) j ≡ Some b → AreApart (piece_runs a) (piece_runs b)
+  pub runs : (files : List (Option Record)) → volume_runs files ≡ flat_map attribute_runs (volume_attrs files)
+  pub clusters : (files : List (Option Record)) (i j : ℕ) (a b : Attr) → AreOnce (volume_runs files) → i ≢ j → slice_get (volume_attrs files) i ≡ Some a → slice_get (volume_attrs files) j ≡ Some b → AreApart (attribute_runs a) (attribute_runs b)
   pub blocks : (per : ℕ) (files : List (Option Record)) (i j : ℕ) (a b : Attr) (kind other : BlockKind) (n m : ℕ) (x y : Block) → 0 < per → AreOnce (volume_runs files) → i ≢ j → slice_get (volume_attrs files) i ≡ Some a → slice_get (volume_attrs files) j ≡ Some b
-      → block_at per (piece_runs a) kind n ≡ Some x → block_at per (piece_runs b) other m ≡ Some y → overlap x y ≡ false
+      → block_at per (attribute_runs a) kind n ≡ Some x → block_at per (attribute_runs b) other m ≡ Some y → overlap x y ≡ false
 
 -- ---- streams
 

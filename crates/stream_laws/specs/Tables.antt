@@ -2,8 +2,8 @@
 use Rattle.std.specs.Prelude.{◌≡◌, ◌≢◌, ℕ, [], Some, Ok}
 use Rattle.disk_model.specs.declared.block.BlockKind.TheVariants.{FileRec}
 use Rattle.disk_model.specs.Content.{Content}
-use Rattle.record_model.specs.Values.{data_type}
 use Rattle.record_model.specs.Records.{Record}
+use Rattle.record_model.specs.Constants.{data_type}
 use Rattle.state_model.specs.declared.geometry.Geometry.{Geometry}
 use Rattle.state_model.specs.Streams.{block_at}
 use Rattle.state_model.specs.Loads.{boot_block, extents_or}

@@ -6,7 +6,7 @@ use Rattle.record_model.specs.Records.{Record}
 use Rattle.state_model.specs.declared.geometry.Geometry.{Geometry}
 use Rattle.state_model.specs.declared.stream.Extents.{Extents}
 use Rattle.state_model.specs.Files.{file_at}
-use Rattle.state_model.specs.Loads.{boot_block, record_count, table_of, table_piece, records_of, table_in, list_stream, data_stream, files_in}
+use Rattle.state_model.specs.Loads.{boot_block, record_count, table_of, table_slot, records_of, table_in, list_stream, data_stream, files_in}
 use Rattle.volume_model.specs.Volumes.{Volume, volume_of, file_in, bytes_or, cluster_bitmap, record_bitmap, cluster_bits, record_bits}
 use Rattle.volume_model.specs.Nodes.{node_at}
 use Rattle.stream_laws.specs.Frames.{SameBytesInSome, SameRecordIn}
@@ -14,7 +14,7 @@ use Rattle.stream_laws.specs.Changes.{AreElsewhere, LeavesBytes, LeavesRecord}
 
 -- the base record in use with this number, without what its attribute list names
 abbrev pub base_record : Content → ℕ → Extents → ℕ → Option Record
-base_record c per e n = file_at (table_in (records_of (table_piece c per e) (record_count e))) n
+base_record c per e n = file_at (table_in (records_of (table_slot c per e) (record_count e))) n
 
 -- the contents have the same bodies in the blocks of the file table's records, and the same bytes in each attribute list
 pub record SameTableIn (c d : Content) (per : ℕ) (e : Extents) : Type 0 where

@@ -10,7 +10,7 @@ use Rattle.record_model.specs.declared.attribute.Attr.{Attr}
 use Rattle.record_model.specs.Pairs.{runs_of, Follow, cluster_limit}
 use Rattle.record_model.proofs.PairsBack.{read_spelled}
 use Rattle.state_model.specs.declared.stream.Stream.{Stream}
-use Rattle.state_model.specs.Streams.{runs_or, form_runs, piece_runs, form_stream, joined}
+use Rattle.state_model.specs.Streams.{runs_or, form_runs, attribute_runs, form_stream, joined}
 use Rattle.stream_map.specs.Runs.{IsSmall, AreSmall, HasSmallRuns}
 
 small_following : (first clusters : ℕ) (runs : List Run) → Follow first clusters runs → AreSmall runs
@@ -29,20 +29,20 @@ small_form : (form : OwnForm) → AreSmall (form_runs form)
 small_form (Resident value indexed) = All-nil IsSmall
 small_form (Mapped sizes pairs) = small_read sizes.first pairs (runs_of sizes.first pairs) refl
 
-small_pieces : (pieces : List Attr) → AreSmall (flat_map piece_runs pieces)
-unfolding piece_runs
-small_pieces [] = All-nil IsSmall
-small_pieces (a ∷ pieces) = All-append IsSmall (piece_runs a) (flat_map piece_runs pieces) (small_form a.form) (small_pieces pieces)
+small_attributes : (attributes : List Attr) → AreSmall (flat_map attribute_runs attributes)
+unfolding attribute_runs
+small_attributes [] = All-nil IsSmall
+small_attributes (a ∷ attributes) = All-append IsSmall (attribute_runs a) (flat_map attribute_runs attributes) (small_form a.form) (small_attributes attributes)
 
 small_stream : (form : OwnForm) (runs : List Run) → AreSmall runs → HasSmallRuns (form_stream form runs)
 small_stream (Resident value indexed) runs small = tt
 small_stream (Mapped sizes pairs) runs small = small
 
-small_joined : (pieces : List Attr) → IfSome (joined pieces) HasSmallRuns
+small_joined : (attributes : List Attr) → IfSome (joined attributes) HasSmallRuns
 small_joined [] = tt
-small_joined (a ∷ pieces) = small_stream a.form (flat_map piece_runs (a ∷ pieces)) (small_pieces (a ∷ pieces))
+small_joined (a ∷ attributes) = small_stream a.form (flat_map attribute_runs (a ∷ attributes)) (small_attributes (a ∷ attributes))
 
--- the runs of joined pieces are small
-pub small_answer : {E : Type 0} (pieces : List Attr) (answer : Result (Option Stream) E) → IfOk answer (λ s. s ≡ joined pieces) → IfOk answer (λ s. IfSome s HasSmallRuns)
-small_answer pieces (Ok s) is = subst (λ (x : Option Stream). IfSome x HasSmallRuns) (sym is) (small_joined pieces)
-small_answer pieces (Err e) is = tt
+-- the runs of joined attributes are small
+pub small_answer : {E : Type 0} (attributes : List Attr) (answer : Result (Option Stream) E) → IfOk answer (λ s. s ≡ joined attributes) → IfOk answer (λ s. IfSome s HasSmallRuns)
+small_answer attributes (Ok s) is = subst (λ (x : Option Stream). IfSome x HasSmallRuns) (sym is) (small_joined attributes)
+small_answer attributes (Err e) is = tt

@@ -1,3 +1,3 @@
-pub mod Pieces
+pub mod Attributes
 pub mod Reads
 pub mod Runs

@@ -20,6 +20,6 @@ HasSmallRuns (Held value) = ⊤
 HasSmallRuns (Placed e) = AreSmall e.runs
 
 -- the bytes of the stream stand in its record
-abbrev pub IsHeld : Stream → Type 0
-IsHeld (Held value) = ⊤
-IsHeld (Placed extents) = ⊥
+abbrev pub IsResident : Stream → Type 0
+IsResident (Held value) = ⊤
+IsResident (Placed extents) = ⊥

@@ -6,7 +6,7 @@ ghost use Rattle.disk_model.specs.declared.block.BlockKind.TheVariants.{Plain};
 ghost use Rattle.block_view.specs.declared.fault.ViewFault.TheVariants.{Fault};
 ghost use Rattle.state_model.specs.Streams.{byte_at, extent_bytes, stream_bytes};
 ghost use Rattle.stream_map.specs.Reads.{placed_bytes};
-ghost use Rattle.stream_map.specs.Runs.{AreSmall, HasSmallRuns, IsHeld};
+ghost use Rattle.stream_map.specs.Runs.{AreSmall, HasSmallRuns, IsResident};
 
 use super::places::block_at;
 use block_view::{Block, BlockKind, Body, View, ViewFault};
@@ -230,7 +230,7 @@ pub fn front<V: View>(
     ensures same { V.content v.new ≡ V.content v.old }
     ensures kept { V.kept v.new ≡ V.kept v.old }
     ensures cause { HasCause (V.faults v.old) (V.faults v.new) result }
-    ensures unasked { IsHeld stream.now → IsOk result × (v.new ≡ v.old) }
+    ensures unasked { IsResident stream.now → IsOk result × (v.new ≡ v.old) }
 {
     match stream {
         Stream::Held(value) => {

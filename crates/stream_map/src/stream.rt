@@ -1,11 +1,11 @@
 ghost use Rattle.std.specs.Prelude.{◌≡◌, ◌++◌, IfOk, OnOk, IfSome, length};
 ghost use Rattle.std.specs.List.{flat_map};
 ghost use Rattle.record_model.specs.Pairs.{runs_of};
-ghost use Rattle.state_model.specs.Streams.{runs_or, form_runs, piece_runs, joined, stream_of, real_size};
-ghost use Rattle.stream_map.specs.Pieces.{behind};
+ghost use Rattle.state_model.specs.Streams.{runs_or, form_runs, attribute_runs, joined, stream_of, real_size};
+ghost use Rattle.stream_map.specs.Attributes.{behind};
 ghost use Rattle.stream_map.specs.Runs.{HasSmallRuns};
 
-use super::pieces::pieces_of;
+use super::attributes::attributes_of;
 use host_base::Memory;
 use record_model::{Attr, OwnForm, PairsFault, Run, Runs};
 use state_model::{Extents, Stream};
@@ -37,27 +37,27 @@ fn push_runs(alloc: Global, out: &mut Vec<Run>, form: &OwnForm) -> Result<(), Me
     }
 }
 
-#[tactic(auto, unfolding(state_model::specs::Streams::piece_runs))]
-fn joined_runs(alloc: Global, pieces: &[&Attr]) -> Result<Runs, Memory>
-    ensures { IfOk result (λ runs. runs ≡ flat_map piece_runs (behind pieces.now)) }
+#[tactic(auto, unfolding(state_model::specs::Streams::attribute_runs))]
+fn joined_runs(alloc: Global, attributes: &[&Attr]) -> Result<Runs, Memory>
+    ensures { IfOk result (λ runs. runs ≡ flat_map attribute_runs (behind attributes.now)) }
 {
     let mut runs = Vec::new(alloc);
-    for piece in pieces {
-        push_runs(alloc, &mut runs, &piece.form)?;
+    for attribute in attributes {
+        push_runs(alloc, &mut runs, &attribute.form)?;
     }
     Ok(Runs::from(runs))
 }
 
-fn joined(alloc: Global, pieces: &[&Attr]) -> Result<Option<Stream>, Memory>
-    ensures { IfOk result (λ stream. stream ≡ joined (behind pieces.now)) }
+fn joined(alloc: Global, attributes: &[&Attr]) -> Result<Option<Stream>, Memory>
+    ensures { IfOk result (λ stream. stream ≡ joined (behind attributes.now)) }
 {
-    let Some((first, _)) = pieces.split_first() else {
+    let Some((first, _)) = attributes.split_first() else {
         return Ok(None);
     };
     match &first.form {
         OwnForm::Resident { value, .. } => Ok(Some(Stream::Held(value.clone()?))),
         OwnForm::Mapped { sizes, .. } => Ok(Some(Stream::Placed(Extents {
-            runs: joined_runs(alloc, pieces)?,
+            runs: joined_runs(alloc, attributes)?,
             allocated: sizes.allocated,
             real: sizes.real,
             initialised: sizes.initialised,
@@ -66,12 +66,12 @@ fn joined(alloc: Global, pieces: &[&Attr]) -> Result<Option<Stream>, Memory>
 }
 
 /// The stream with this type and name (in UTF-16 units) among a record's attributes, if there is
-/// one (Linux-NTFS documentation, "Attribute Header"): the value of its first piece, where that is
-/// resident, else the runs of all its pieces by rising first VCN, with the sizes of the first. A
-/// piece whose mapping pairs are at fault has no runs. The error is want of memory.
+/// one (Linux-NTFS documentation, "Attribute Header"): the value of its first attribute, where that is
+/// resident, else the runs of all its attributes by rising first VCN, with the sizes of the first. A
+/// attribute whose mapping pairs are at fault has no runs. The error is want of memory.
 ///
-/// Linear in the attributes and the runs where the pieces stand by rising first VCN; each piece
-/// that does not takes one pass over the pieces before it.
+/// Linear in the attributes and the runs where the attributes stand by rising first VCN; each attribute
+/// that does not takes one pass over the attributes before it.
 #[tactic(auto, unfolding(state_model::specs::Streams::stream_of))]
 pub fn stream_of(
     alloc: Global,
@@ -82,11 +82,11 @@ pub fn stream_of(
     ensures value { IfOk result (λ stream. stream ≡ stream_of kind name.now attrs.now) }
     ensures small { IfOk result (λ stream. IfSome stream HasSmallRuns) }
 {
-    let pieces = pieces_of(alloc, kind, name, attrs)?;
-    joined(alloc, &pieces)
+    let attributes = attributes_of(alloc, kind, name, attrs)?;
+    joined(alloc, &attributes)
 }
 
-/// The real size of a stream in bytes: that of its value, or the one that its first piece states.
+/// The real size of a stream in bytes: that of its value, or the one that its first attribute states.
 pub fn real_size(stream: &Stream) -> u64
     ensures { result ≡ real_size stream.now }
 {

@@ -1,9 +1,10 @@
 //! What the streams of files keep.
 use block_view::MemoryView;
+use record_model::{DATA, INDEX_ALLOCATION, NAMES_INDEX};
 use std::alloc::{AllocError, Global};
 use std::test::Fail;
 use stream_sizes::{Body, FileRec, SizesFault, first_broken, keeps_streams};
-use volume_images::{DATA, Kept, NAMES_INDEX, Part, index_view, put_file, record};
+use volume_images::{Kept, Part, index_view, put_file, record};
 
 // 8 clusters from cluster 16 on, or 8 that are sparse.
 fn pairs(is_sparse: bool) -> &'static [u8] {
@@ -41,10 +42,24 @@ static STREAMS: [KeptRow; 11] = [
     KeptRow(24, 24, Row(true, 0, 0, false), Ok(true)),
 ];
 
+// Two pieces of data, each by its first VCN and its pairs, and whether they are one stream of eight
+// clusters.
+static PIECES: [((u64, &[u8]), (u64, &[u8]), bool); 4] = [
+    ((0, &[0x11, 4, 16, 0]), (4, &[0x11, 4, 20, 0]), true),
+    ((4, &[0x11, 4, 20, 0]), (0, &[0x11, 4, 16, 0]), true),
+    // a piece of no clusters, before its neighbour and behind it
+    ((0, &[0]), (0, &[0x11, 8, 16, 0]), false),
+    ((0, &[0x11, 8, 16, 0]), (0, &[0]), false),
+];
+
 fn file_of(alloc: Global, row: &Row) -> Result<FileRec, AllocError> {
     let kept = Kept::Pairs(row.1, (4096, 4000, row.2), pairs(row.3));
     if row.0 {
-        record(alloc, (0, 0, 3), &[Part(0xA0, 0, &NAMES_INDEX, kept)])
+        record(
+            alloc,
+            (0, 0, 3),
+            &[Part(INDEX_ALLOCATION, 0, &NAMES_INDEX, kept)],
+        )
     } else {
         record(alloc, (0, 0, 1), &[Part(DATA, 0, &[], kept)])
     }
@@ -55,17 +70,38 @@ fn view(alloc: Global) -> Result<MemoryView, AllocError> {
     index_view(alloc, vec![in alloc; 0; 4096]?, true, 2)
 }
 
-fn keeps(alloc: Global, row: &KeptRow) -> Result<Result<bool, SizesFault>, AllocError> {
-    let file = file_of(alloc, &row.2)?;
+fn keeps(
+    alloc: Global,
+    clusters: u64,
+    number: u64,
+    file: &FileRec,
+) -> Result<Result<bool, SizesFault>, AllocError> {
     let mut view = view(alloc)?;
     let mut body = Body::empty(alloc)?;
-    Ok(keeps_streams(alloc, &mut view, 1, row.0, row.1, &file, &mut body))
+    Ok(keeps_streams(alloc, &mut view, 1, clusters, number, file, &mut body))
 }
 
 #[test]
 fn streams_keep_their_rules(rt: HostRuntime) -> Result<(), Fail> {
     for (number, row) in STREAMS.iter().enumerate() {
-        assert_eq!(rt; keeps(rt.alloc(), row)?, row.3, "row {number}");
+        let file = file_of(rt.alloc(), &row.2)?;
+        let kept = keeps(rt.alloc(), row.0, row.1, &file)?;
+        assert_eq!(rt; kept, row.3, "row {number}");
+    }
+    Ok(())
+}
+
+fn piece(first: u64, pairs: &'static [u8]) -> Part<'static> {
+    Part(DATA, 0, &[], Kept::Pairs(first, (4096, 4000, 4000), pairs))
+}
+
+#[test]
+fn a_piece_beside_another_has_clusters(rt: HostRuntime) -> Result<(), Fail> {
+    for (number, (first, next, want)) in PIECES.iter().enumerate() {
+        let pieces = [piece(first.0, first.1), piece(next.0, next.1)];
+        let file = record(rt.alloc(), (0, 0, 1), &pieces)?;
+        let kept = keeps(rt.alloc(), 24, 24, &file)?;
+        assert_eq!(rt; kept, Ok(*want), "row {number}");
     }
     Ok(())
 }

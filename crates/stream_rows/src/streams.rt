@@ -3,13 +3,14 @@ ghost use Rattle.std.specs.Prelude.{IfOk, IfSome};
 ghost use Rattle.stream_map.specs.Runs.{AreSmall, HasSmallRuns};
 
 use block_view::MemoryView;
+use record_model::DATA;
 use std::alloc::{AllocError, Global};
 use std::test::Fail;
 use stream_map::{
     Block, BlockKind, Body, Extents, Memory, Stream, ViewFault, block_at, fill, front,
     has_cut_block, real_size, stream_of,
 };
-use volume_images::{DATA, Kept, Part, per_cluster, record, run, sectors_view};
+use volume_images::{Kept, Part, per_cluster, record, run, sectors_view};
 
 // The sectors of a cluster, a block by its kind and number, and its first sector.
 static BLOCKS: [(u8, BlockKind, u32, Option<u64>); 3] = [

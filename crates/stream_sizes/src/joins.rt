@@ -1,12 +1,12 @@
-//! Pieces that leave no VCN out.
-ghost use Rattle.std.specs.Prelude.{◌≡◌, ◌+◌, ◌^◌, ◌<◌, ◌≤◌, IsTrue, IfOk};
+//! Attributes that leave no VCN out.
+ghost use Rattle.std.specs.Prelude.{◌≡◌, ◌+◌, ◌^◌, ◌≤◌, IfOk};
 ghost use Rattle.record_model.specs.Pairs.{runs_of};
-ghost use Rattle.state_model.specs.Streams.{runs_or, form_runs, pieces_of};
+ghost use Rattle.state_model.specs.Streams.{runs_or, form_runs, attributes_of};
 ghost use Rattle.state_model.specs.Loads.{total_clusters};
-ghost use Rattle.stream_map.specs.Pieces.{behind};
-ghost use Rattle.volume_model.specs.Sizes.{begins_at, follow, stands_alone, are_joined};
+ghost use Rattle.stream_map.specs.Attributes.{behind};
+ghost use Rattle.volume_model.specs.Sizes.{follow, are_joined};
 
-use crate::pieces::pieces_of;
+use crate::attributes::{attributes_of, first_vcn};
 use host_base::Memory;
 use record_model::{Attr, OwnForm, PairsFault, Run, Runs};
 use std::alloc::Global;
@@ -36,7 +36,7 @@ fn runs_or(alloc: Global, first: u64, pairs: &[u8]) -> Result<Runs, Memory>
     }
 }
 
-// How many clusters a piece has.
+// How many clusters an attribute has.
 fn form_clusters(alloc: Global, form: &OwnForm) -> Result<u128, Memory>
     ensures value { IfOk result (λ n. n ≡ total_clusters (form_runs form.now)) }
     ensures most { IfOk result (λ n. n + 2 ^ 64 ≤ 2 ^ 128) }
@@ -50,60 +50,40 @@ fn form_clusters(alloc: Global, form: &OwnForm) -> Result<u128, Memory>
     }
 }
 
-fn begins_at(vcn: u128, form: &OwnForm) -> bool
-    ensures value { result ≡ begins_at vcn form.now }
-    ensures below { IsTrue result → vcn < 2 ^ 64 }
-{
-    match form {
-        OwnForm::Resident { .. } => false,
-        OwnForm::Mapped { sizes, .. } => u128::from(sizes.first) == vcn,
-    }
-}
-
-// Whether each piece stands in clusters, the first from VCN 0 on, and each from the end of the one
-// before it.
-#[tactic(auto, unfolding(state_model::specs::Streams::piece_runs))]
-fn follow(alloc: Global, pieces: &[&Attr]) -> Result<bool, Memory>
-    ensures { IfOk result (λ all. all ≡ follow 0 (behind pieces.now)) }
+// Whether attributes have clusters, at least one each, the first from VCN 0 on, and each other one from
+// the end of the one before it.
+#[tactic(auto, unfolding(state_model::specs::Streams::attribute_runs))]
+fn follow(alloc: Global, attributes: &[&Attr]) -> Result<bool, Memory>
+    ensures { IfOk result (λ all. all ≡ follow 0 (behind attributes.now)) }
 {
     let mut vcn = 0;
-    for piece in pieces {
-        if !begins_at(vcn, &piece.form) {
+    for attribute in attributes {
+        let clusters = form_clusters(alloc, &attribute.form)?;
+        if u128::from(first_vcn(attribute)) != vcn || clusters == 0 {
             return Ok(false);
         }
-        vcn += form_clusters(alloc, &piece.form)?;
+        vcn += clusters;
     }
     Ok(true)
 }
 
-fn stands_alone(form: &OwnForm, others: &[&Attr]) -> bool
-    ensures { result ≡ stands_alone form.now (behind others.now) }
+fn are_joined(alloc: Global, attributes: &[&Attr]) -> Result<bool, Memory>
+    ensures { IfOk result (λ joined. joined ≡ are_joined (behind attributes.now)) }
 {
-    match form {
-        OwnForm::Resident { .. } => others.is_empty(),
-        OwnForm::Mapped { .. } => false,
+    match attributes {
+        [] => Ok(true),
+        [attribute] => Ok(first_vcn(attribute) == 0),
+        [_, _, ..] => follow(alloc, attributes),
     }
 }
 
-fn are_joined(alloc: Global, pieces: &[&Attr]) -> Result<bool, Memory>
-    ensures { IfOk result (λ joined. joined ≡ are_joined (behind pieces.now)) }
-{
-    let Some((first, others)) = pieces.split_first() else {
-        return Ok(true);
-    };
-    if stands_alone(&first.form, others) {
-        return Ok(true);
-    }
-    follow(alloc, pieces)
-}
-
-/// Whether the stream with this type and name (in UTF-16 units) among attributes is one value in a
-/// record, or pieces in clusters that leave no VCN out (Linux-NTFS documentation, "Attribute
-/// Header"). The error is want of memory. Linear in the attributes and the runs where the pieces
-/// stand by rising first VCN; each piece that does not takes one pass over the pieces before it.
+/// Whether the stream with this type and name (in UTF-16 units) among attributes is one attribute that
+/// begins at VCN 0, or attributes with clusters that have each VCN once (Linux-NTFS documentation,
+/// "Attribute Header"). The error is want of memory. Linear in the attributes and the runs where the attributes
+/// stand by rising first VCN; each attribute that does not takes one pass over the attributes before it.
 pub fn is_joined(alloc: Global, kind: u32, name: &[u16], attrs: &[Attr]) -> Result<bool, Memory>
-    ensures { IfOk result (λ joined. joined ≡ are_joined (pieces_of kind name.now attrs.now)) }
+    ensures { IfOk result (λ joined. joined ≡ are_joined (attributes_of kind name.now attrs.now)) }
 {
-    let pieces = pieces_of(alloc, kind, name, attrs)?;
-    are_joined(alloc, &pieces)
+    let attributes = attributes_of(alloc, kind, name, attrs)?;
+    are_joined(alloc, &attributes)
 }

@@ -1,17 +1,15 @@
 //! What each stream keeps.
 ghost use Rattle.std.specs.Prelude.{◌≡◌, ◌≤◌, ◌&&◌, true, IfOk, IfSome, IsTrue};
 ghost use Rattle.std.specs.List.{list_all};
-ghost use Rattle.state_model.specs.Streams.{pieces_of, stream_of};
+ghost use Rattle.state_model.specs.Streams.{attributes_of, stream_of};
 ghost use Rattle.volume_model.specs.Sizes.{are_joined, fits_volume, keeps_stream};
 
 use crate::fitting::fits_volume;
 use crate::joins::is_joined;
 use host_base::Memory;
-use record_model::Attr;
+use record_model::{Attr, FILE_NAME};
 use std::alloc::Global;
 use stream_map::stream_of;
-
-const FILE_NAME: u32 = 0x30;
 
 fn fits(
     alloc: Global,
@@ -37,12 +35,12 @@ fn keeps_named(
     attrs: &[Attr],
 ) -> Result<bool, Memory>
     requires { per ≤ 8 }
-    ensures { IfOk result (λ keeps. keeps ≡ (are_joined (pieces_of kind name.now attrs.now) && fits_volume per clusters (stream_of kind name.now attrs.now))) }
+    ensures { IfOk result (λ keeps. keeps ≡ (are_joined (attributes_of kind name.now attrs.now) && fits_volume per clusters (stream_of kind name.now attrs.now))) }
 {
     Ok(is_joined(alloc, kind, name, attrs)? && fits(alloc, per, clusters, kind, name, attrs)?)
 }
 
-// Whether the stream that an attribute is a piece of keeps what streams have to.
+// Whether the stream that an attribute belongs to keeps what streams have to.
 #[tactic(auto, unfolding(volume_model::specs::Sizes::keeps_stream))]
 fn keeps_stream(
     alloc: Global,
@@ -93,10 +91,10 @@ fn keeps_next(
     }
 }
 
-/// Whether each stream that attributes are pieces of, but for file names, has every VCN, lies below
+/// Whether each stream that attributes belong to, but for file names, has every VCN, lies below
 /// so many clusters and has lawful sizes (Linux-NTFS documentation, "Attribute Header"); a volume
 /// has `per` sectors a cluster. The error is want of memory. Linear in the attributes and the runs
-/// where the pieces of each stream stand one behind the other and by rising first VCN, for each
+/// where the attributes of each stream stand one behind the other and by rising first VCN, for each
 /// stream; else one such pass for each attribute.
 pub fn keep_all(alloc: Global, per: u64, clusters: u64, attrs: &[Attr]) -> Result<bool, Memory>
     requires { per ≤ 8 }

@@ -7,11 +7,11 @@
 //! "$INDEX_ALLOCATION".
 #![tactic(auto)]
 
+mod attributes;
 mod fault;
 mod fitting;
 mod joins;
 mod kept;
-mod pieces;
 mod streams;
 mod torn;
 mod volume;

@@ -4,10 +4,8 @@ ghost use Rattle.std.specs.List.{list_any, range_with_len};
 ghost use Rattle.host_base.specs.Causes.{Rose, Counts};
 ghost use Rattle.disk_model.specs.declared.block.BlockKind.TheVariants.{FileRec as file_kind, Index as index_kind};
 ghost use Rattle.disk_model.specs.Sectors.{sectors};
-ghost use Rattle.record_model.specs.Values.{data_type};
+ghost use Rattle.record_model.specs.Constants.{data_type, names_index, index_allocation};
 ghost use Rattle.state_model.specs.Files.{is_directory_record};
-ghost use Rattle.state_model.specs.Indexes.{names_index};
-ghost use Rattle.state_model.specs.Loads.{index_allocation};
 ghost use Rattle.state_model.specs.Rules.{implies};
 ghost use Rattle.state_model.specs.Streams.{holds, block_at, stream_of};
 ghost use Rattle.stream_map.specs.Runs.{AreSmall, HasSmallRuns};
@@ -17,11 +15,11 @@ ghost use Rattle.volume_model.specs.Sizes.{is_torn_at, begun, stream_has_torn, k
 ghost use Rattle.volume_model.specs.Volumes.{table_file, mirror_file};
 
 use crate::fault::SizesFault;
-use crate::whole::{DATA, INDEX_ALLOCATION, MIRROR, NAMES_INDEX, TABLE, is_directory};
+use crate::whole::{MIRROR, TABLE, is_directory};
 use block_view::View;
 use disk_model::{BlockKind, Body};
 use file_record::FileRec;
-use record_model::{Attr, Run};
+use record_model::{Attr, DATA, INDEX_ALLOCATION, NAMES_INDEX, Run};
 use state_model::Stream;
 use std::alloc::Global;
 use stream_map::{block_at, stream_of};
@@ -228,7 +226,6 @@ fn keeps_records<V: View>(
     is_untorn(alloc, view, per, BlockKind::FileRec, DATA, &[], attrs, body)
 }
 
-#[tactic(auto, unfolding(state_model::specs::Indexes::names_index))]
 fn keeps_blocks<V: View>(
     alloc: Global,
     view: &mut V,

@@ -3,7 +3,7 @@ ghost use Rattle.std.specs.Prelude.{◌≡◌, ◌==◌, ◌<◌, ◌≤◌, ◌
 ghost use Rattle.std.specs.Option.{option_copied};
 ghost use Rattle.host_base.specs.Answers.{GivesOrFails};
 ghost use Rattle.host_base.specs.Causes.{Rose, Counts};
-ghost use Rattle.record_model.specs.Values.{data_type};
+ghost use Rattle.record_model.specs.Constants.{data_type, bitmap_type};
 ghost use Rattle.state_model.specs.Files.{is_base_record, only_base, file_at};
 ghost use Rattle.state_model.specs.Loads.{table_in};
 ghost use Rattle.state_model.specs.Rules.{implies, at_file, first_failing};
@@ -11,15 +11,16 @@ ghost use Rattle.stream_sizes.specs.Errors.{sizes_cause};
 ghost use Rattle.block_view.specs.Views.{KeepsView};
 ghost use Rattle.stream_sizes.specs.Volumes.{TablePlace, volume_with};
 ghost use Rattle.volume_model.specs.Sizes.{keeps_streams, keeps_bitmaps, keeps_sizes};
-ghost use Rattle.volume_model.specs.Volumes.{file_stream, size_or, bitmap_type, bitmap_file, table_file};
+ghost use Rattle.volume_model.specs.Volumes.{file_stream, size_or, bitmap_file, table_file};
 
 use crate::fault::SizesFault;
 use crate::streams::keeps_streams;
-use crate::whole::{BITMAP, BITMAP_TYPE, DATA, TABLE};
+use crate::whole::{BITMAP, TABLE};
 use block_view::View;
 use disk_model::Body;
 use file_record::FileRec;
 use host_base::Memory;
+use record_model::{BITMAP_TYPE, DATA};
 use state_model::Stream;
 use std::alloc::Global;
 use stream_map::{real_size, stream_of};

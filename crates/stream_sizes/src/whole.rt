@@ -1,19 +1,17 @@
 //! The streams of the volume itself and of indexes: no sparse run, and the file table is
 //! initialised.
 ghost use Rattle.std.specs.Prelude.{◌≡◌, ◌==◌, ◌&&◌, not, [], IfOk};
-ghost use Rattle.record_model.specs.Values.{data_type};
+ghost use Rattle.record_model.specs.Constants.{data_type, names_index, index_allocation, bitmap_type};
 ghost use Rattle.state_model.specs.Files.{is_directory_record};
-ghost use Rattle.state_model.specs.Indexes.{names_index};
-ghost use Rattle.state_model.specs.Loads.{index_allocation};
 ghost use Rattle.state_model.specs.Rules.{implies};
 ghost use Rattle.state_model.specs.Streams.{stream_of};
 ghost use Rattle.volume_model.specs.Sizes.{has_hole, is_whole_file, keeps_whole, keeps_table, is_initialised};
-ghost use Rattle.volume_model.specs.Volumes.{table_file, bitmap_type};
+ghost use Rattle.volume_model.specs.Volumes.{table_file};
 
 use crate::fitting::{has_hole, is_initialised};
 use file_record::FileRec;
 use host_base::Memory;
-use record_model::{Attr, RecordFlags};
+use record_model::{Attr, BITMAP_TYPE, DATA, INDEX_ALLOCATION, NAMES_INDEX, RecordFlags};
 use std::alloc::Global;
 use stream_map::stream_of;
 
@@ -25,16 +23,6 @@ pub const MIRROR: u64 = 1;
 pub const LOG: u64 = 2;
 
 pub const BITMAP: u64 = 6;
-
-/// Types of attributes.
-pub const DATA: u32 = 0x80;
-
-pub const INDEX_ALLOCATION: u32 = 0xA0;
-
-pub const BITMAP_TYPE: u32 = 0xB0;
-
-/// `$I30`, the name of the index of names.
-pub const NAMES_INDEX: [u16; 4] = [0x24, 0x49, 0x33, 0x30];
 
 /// Whether the file is a directory.
 pub fn is_directory(file: &FileRec) -> bool
@@ -69,7 +57,6 @@ fn keeps_bitmap(alloc: Global, number: u64, attrs: &[Attr]) -> Result<bool, Memo
     Ok(number != TABLE || is_whole(alloc, BITMAP_TYPE, &[], attrs)?)
 }
 
-#[tactic(auto, unfolding(state_model::specs::Indexes::names_index))]
 fn is_index_whole(alloc: Global, attrs: &[Attr]) -> Result<bool, Memory>
     ensures { IfOk result (λ whole. whole ≡ (not (has_hole (stream_of index_allocation names_index attrs.now)) && not (has_hole (stream_of bitmap_type names_index attrs.now)))) }
 {

@@ -1,12 +1,12 @@
 //! What is printed of an image: its long names, its tree, what a check says of it, and its
 //! journal.
-use image_dump::{check_text, dump_text, journal_text, scan_text};
-use std::alloc::Global;
-use std::test::Fail;
-use tree_model::{
+use file_tree::{
     Bytes, FileRef, FileRefList, Journal, Kind, Link, LinkList, Name, Node, NodeList, Tree, Usn,
     UsnList,
 };
+use image_dump::{check_text, dump_text, journal_text, scan_text};
+use std::alloc::Global;
+use std::test::Fail;
 
 // A name of a file in the root: the file's number and sequence, the name's space, and the name.
 struct Named(u64, u16, u8, &'static str);

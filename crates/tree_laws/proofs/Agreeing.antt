@@ -11,12 +11,12 @@ use Rattle.disk_model.specs.declared.block.BlockKind.TheVariants.{FileRec, Index
 use Rattle.disk_model.specs.Content.{Content}
 use Rattle.disk_model.specs.Writes.{Write, overlay}
 use Rattle.record_model.specs.declared.values.JournalMax.{JournalMax}
-use Rattle.record_model.specs.Values.{data_type}
 use Rattle.record_model.specs.Records.{Record}
-use Rattle.tree_model.specs.declared.journal.Journal.{Journal}
-use Rattle.tree_model.specs.declared.journal.Usn.{Usn}
-use Rattle.tree_model.specs.declared.link.Link.{Link}
-use Rattle.tree_model.specs.declared.node.Node.{Node}
+use Rattle.record_model.specs.Constants.{data_type, names_index, index_allocation}
+use Rattle.file_tree.specs.declared.journal.Journal.{Journal}
+use Rattle.file_tree.specs.declared.journal.Usn.{Usn}
+use Rattle.file_tree.specs.declared.link.Link.{Link}
+use Rattle.file_tree.specs.declared.node.Node.{Node}
 use Rattle.bit_set.specs.Bits.{bit}
 use Rattle.upcase_order.specs.Tables.{upcase_of}
 use Rattle.journal_model.specs.Journals.{journal_in, is_owned}
@@ -24,8 +24,6 @@ use Rattle.state_model.specs.declared.stream.Extents.{Extents}
 use Rattle.state_model.specs.declared.stream.Stream.{Stream}
 use Rattle.state_model.specs.declared.stream.Stream.TheVariants.{Held, Placed}
 use Rattle.state_model.specs.Files.{is_directory_record, reference}
-use Rattle.state_model.specs.Indexes.{names_index}
-use Rattle.state_model.specs.Loads.{index_allocation}
 use Rattle.state_model.specs.Rules.{implies, at_file}
 use Rattle.state_model.specs.Streams.{stream_of, block_at, byte_at}
 use Rattle.state_model.specs.Trees.{is_nameless, first_user_record}

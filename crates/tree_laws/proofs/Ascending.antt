@@ -8,10 +8,10 @@ use Rattle.record_model.specs.declared.attribute.Attr.{Attr}
 use Rattle.record_model.specs.declared.values.FileNameValue.{FileNameValue}
 use Rattle.record_model.specs.declared.values.ValueFault.{ValueFault}
 use Rattle.record_model.specs.StdValues.{file_name_of}
-use Rattle.record_model.specs.Values.{file_name}
 use Rattle.record_model.specs.Records.{Record}
-use Rattle.tree_model.specs.declared.link.Link.{Link}
-use Rattle.tree_model.specs.Walks.{root}
+use Rattle.record_model.specs.Constants.{file_name}
+use Rattle.file_tree.specs.declared.link.Link.{Link}
+use Rattle.file_tree.specs.Walks.{root}
 use Rattle.state_model.specs.Files.{Table, reference, named, form_link, attr_link, record_links, links_of, file_at, links_at, is_directory_record}
 use Rattle.state_model.specs.Rules.{implies, at_file, keeps_8}
 use Rattle.state_model.specs.Trees.{first_parent, parent_at, at_some, leads, first_user_record, is_in_system, is_system}

@@ -2,9 +2,9 @@
 use Rattle.std.proofs.Common.{◌≡◌, ◌≢◌, ℕ, ◌<◌, ◌≤◌, Bool, true, cond, List, [], ◌∷◌, length, Option, Some, None, refl, ap, ◌∙◌, arith}
 use Rattle.std.specs.List.{filter_map, cons_option, range_with_len, AllByRecursion}
 use Rattle.record_model.specs.Records.{Record}
-use Rattle.tree_model.specs.declared.link.Link.{Link}
-use Rattle.tree_model.specs.declared.node.Kind.{Kind}
-use Rattle.tree_model.specs.declared.node.Kind.TheVariants.{Directory, File, Fixed, Opaque, System}
+use Rattle.file_tree.specs.declared.link.Link.{Link}
+use Rattle.file_tree.specs.declared.node.Kind.{Kind}
+use Rattle.file_tree.specs.declared.node.Kind.TheVariants.{Directory, File, Fixed, Opaque, System}
 use Rattle.state_model.specs.declared.stream.Stream.{Stream}
 use Rattle.state_model.specs.Files.{Table, record_links, is_directory_record}
 use Rattle.state_model.specs.Loads.{table_in}

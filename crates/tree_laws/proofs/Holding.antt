@@ -4,7 +4,7 @@ use Rattle.std.specs.Prelude.{count_by}
 use Rattle.std.proofs.lemmas.Bool.{eqb-true, eqb-false, ne_eqb}
 use Rattle.disk_model.specs.Content.{Content}
 use Rattle.record_model.specs.Records.{Record}
-use Rattle.tree_model.specs.declared.tree.Tree.{Tree}
+use Rattle.file_tree.specs.declared.tree.Tree.{Tree}
 use Rattle.bit_set.specs.Bits.{bit}
 use Rattle.state_model.specs.Files.{file_at, links_at, reference, is_directory_record}
 use Rattle.state_model.specs.Loads.{table_in}

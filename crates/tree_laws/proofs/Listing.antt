@@ -5,7 +5,7 @@ use Rattle.std.proofs.lemmas.Bool.{and_parts, and_from, or_right, eqb-true, eq-e
 use Rattle.host_base.specs.declared.file_ref.FileRef.{FileRef}
 use Rattle.disk_model.specs.Content.{Content}
 use Rattle.record_model.specs.Records.{Record}
-use Rattle.tree_model.specs.declared.link.Link.{Link}
+use Rattle.file_tree.specs.declared.link.Link.{Link}
 use Rattle.state_model.specs.Files.{Table, links_at, reference, is_directory_record}
 use Rattle.state_model.specs.Rules.{implies, at_file, same_link, count_in, names_in, is_rising, is_name_in, is_index}
 use Rattle.volume_model.specs.Volumes.{Volume, files_by_number, count_of, file_in}

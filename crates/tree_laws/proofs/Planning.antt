@@ -8,19 +8,18 @@ use Rattle.disk_model.specs.Content.{Content, HasSizes}
 use Rattle.disk_model.specs.Laws.{IsElsewhere}
 use Rattle.disk_model.specs.Writes.{Write, overlay}
 use Rattle.record_model.specs.declared.runs.Run.{Run}
-use Rattle.record_model.specs.Values.{data_type}
 use Rattle.record_model.specs.Records.{Record}
-use Rattle.tree_model.specs.declared.node.Kind.TheVariants.{Directory, System}
+use Rattle.record_model.specs.Constants.{data_type, names_index, index_allocation, bitmap_type}
+use Rattle.file_tree.specs.declared.node.Kind.TheVariants.{Directory, System}
 use Rattle.bit_set.specs.Bits.{bit}
 use Rattle.state_model.specs.declared.geometry.Geometry.{Geometry}
 use Rattle.state_model.specs.declared.stream.Stream.{Stream}
 use Rattle.state_model.specs.declared.stream.Stream.TheVariants.{Held, Placed}
 use Rattle.state_model.specs.Files.{is_directory_record}
-use Rattle.state_model.specs.Indexes.{names_index}
-use Rattle.state_model.specs.Loads.{index_allocation, data_stream}
+use Rattle.state_model.specs.Loads.{data_stream}
 use Rattle.state_model.specs.Streams.{stream_of, block_at}
 use Rattle.state_model.specs.Trees.{is_system}
-use Rattle.volume_model.specs.Volumes.{Volume, count_of, file_in, file_stream, table_file, upcase_file, bitmap_type, record_bits, upper_of}
+use Rattle.volume_model.specs.Volumes.{Volume, count_of, file_in, file_stream, table_file, upcase_file, record_bits, upper_of}
 use Rattle.volume_model.specs.Indexes.{void_block, index_block, index_stream}
 use Rattle.volume_model.specs.Nodes.{kind_in, shows_data}
 use Rattle.volume_state.specs.Journals.{entries_name, file_or_none, journal_file}

@@ -4,7 +4,7 @@ use Rattle.std.specs.List.{IsDistinct, list_any, AllByRecursion}
 use Rattle.std.proofs.lemmas.Bool.{cases_Bool, cases_lt, or_left, or_right, both_ways, eqb-true, ne_eqb}
 use Rattle.std.proofs.lemmas.Map.Steps.{length-le_from_distinct_below}
 use Rattle.record_model.specs.Records.{Record}
-use Rattle.tree_model.specs.Walks.{root}
+use Rattle.file_tree.specs.Walks.{root}
 use Rattle.state_model.specs.Files.{Table, file_at, links_at, is_directory_record}
 use Rattle.state_model.specs.Loads.{table_in}
 use Rattle.state_model.specs.Rules.{implies, at_file, keeps_8}

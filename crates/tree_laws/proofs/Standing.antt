@@ -7,17 +7,18 @@ use Rattle.std.proofs.lemmas.Bool.{cases_Bool, cases_lt, and_parts, and_from, an
 use Rattle.std.proofs.lemmas.List.Elements.{filter-append}
 use Rattle.std.proofs.lemmas.List.Sums.{sum_by-cons, length-filter}
 use Rattle.host_base.specs.declared.file_ref.FileRef.{FileRef}
+use Rattle.host_base.specs.FileRefs.{same_reference}
 use Rattle.disk_model.specs.Content.{Content}
 use Rattle.record_model.specs.Records.{Record}
-use Rattle.tree_model.specs.declared.link.Link.{Link}
-use Rattle.tree_model.specs.Names.{name_order, same_units, same_name}
-use Rattle.tree_model.specs.declared.node.Node.{Node}
-use Rattle.tree_model.specs.Trees.{is_in, first_of_two, first_in_order, same_links, look_up}
-use Rattle.tree_model.specs.Walks.{child_in}
+use Rattle.file_tree.specs.declared.link.Link.{Link}
+use Rattle.file_tree.specs.Names.{name_order, same_units, same_name}
+use Rattle.file_tree.specs.declared.node.Node.{Node}
+use Rattle.file_tree.specs.Trees.{is_in, first_of_two, first_in_order, same_links, look_up}
+use Rattle.file_tree.specs.Walks.{child_in}
 use Rattle.state_model.specs.declared.stream.Stream.{Stream}
 use Rattle.state_model.specs.Files.{Table, reference, record_links, links_of, file_at, links_at, is_directory_record}
 use Rattle.state_model.specs.Loads.{table_in}
-use Rattle.state_model.specs.Rules.{implies, at_file, same_reference, same_link, is_directory_with, is_directory_at, keeps_2, count_in, names_in, is_name_in, keeps_8}
+use Rattle.state_model.specs.Rules.{implies, at_file, same_link, is_directory_with, is_directory_at, keeps_2, count_in, names_in, is_name_in, keeps_8}
 use Rattle.state_model.specs.Trees.{first_parent, parent_at, is_system, all_links}
 use Rattle.volume_model.specs.Volumes.{Volume, files_by_number, count_of, file_in}
 use Rattle.volume_model.specs.Indexes.{index_links, lists_names, keeps_index}

@@ -3,8 +3,8 @@ use Rattle.std.specs.Prelude.{◌≡◌, ◌≢◌, ℕ, ◌<◌, true, false, L
 use Rattle.disk_model.specs.declared.block.Block.{Block}
 use Rattle.disk_model.specs.Content.{Content}
 use Rattle.disk_model.specs.Writes.{Write, overlay}
-use Rattle.record_model.specs.Values.{data_type}
 use Rattle.record_model.specs.Records.{Record}
+use Rattle.record_model.specs.Constants.{data_type}
 use Rattle.bit_set.specs.Bits.{bit}
 use Rattle.state_model.specs.Files.{is_directory_record}
 use Rattle.state_model.specs.Streams.{stream_of}

@@ -3,14 +3,15 @@
 use Rattle.std.specs.Prelude.{◌≡◌, ◌≢◌, ℕ, false, List, [], length, filter, Option, Some, None}
 use Rattle.std.specs.List.{cons_option}
 use Rattle.host_base.specs.declared.file_ref.FileRef.{FileRef}
+use Rattle.host_base.specs.FileRefs.{same_reference}
 use Rattle.disk_model.specs.Content.{Content}
 use Rattle.record_model.specs.Records.{Record}
-use Rattle.tree_model.specs.declared.link.Link.{Link}
-use Rattle.tree_model.specs.Trees.{look_up}
+use Rattle.file_tree.specs.declared.link.Link.{Link}
+use Rattle.file_tree.specs.Trees.{look_up}
 use Rattle.state_model.specs.declared.stream.Stream.{Stream}
 use Rattle.state_model.specs.Files.{Table, links_at, reference}
 use Rattle.state_model.specs.Loads.{table_in}
-use Rattle.state_model.specs.Rules.{same_reference, keeps_2, names_in, keeps_8}
+use Rattle.state_model.specs.Rules.{keeps_2, names_in, keeps_8}
 use Rattle.state_model.specs.Trees.{all_links}
 use Rattle.volume_model.specs.Volumes.{Volume, files_by_number, count_of, file_in}
 use Rattle.volume_model.specs.Indexes.{keeps_index}

@@ -2,8 +2,8 @@
 use Rattle.std.specs.Prelude.{◌≡◌, ◌≢◌, ℕ, List, [], Option}
 use Rattle.std.specs.List.{cons_option}
 use Rattle.record_model.specs.Records.{Record}
-use Rattle.tree_model.specs.declared.link.Link.{Link}
-use Rattle.tree_model.specs.Trees.{node_at as node_by_number}
+use Rattle.file_tree.specs.declared.link.Link.{Link}
+use Rattle.file_tree.specs.Trees.{node_at as node_by_number}
 use Rattle.state_model.specs.declared.stream.Stream.{Stream}
 use Rattle.state_model.specs.Files.{Table}
 use Rattle.state_model.specs.Loads.{table_in}

@@ -2,7 +2,7 @@
 use Rattle.std.specs.Prelude.{◌≡◌, ◌≢◌, ℕ, List, Option, Some}
 use Rattle.disk_model.specs.Content.{Content}
 use Rattle.record_model.specs.Records.{Record}
-use Rattle.tree_model.specs.Walks.{child_in}
+use Rattle.file_tree.specs.Walks.{child_in}
 use Rattle.state_model.specs.Loads.{table_in}
 use Rattle.state_model.specs.Trees.{all_links}
 use Rattle.volume_model.specs.Volumes.{Volume, files_by_number, count_of, table_file, bitmap_file, upcase_file, record_bits, cluster_bits, upper_of}

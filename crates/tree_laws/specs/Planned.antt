@@ -5,15 +5,13 @@ use Rattle.disk_model.specs.declared.block.BlockKind.{BlockKind}
 use Rattle.disk_model.specs.declared.block.BlockKind.TheVariants.{FileRec}
 use Rattle.disk_model.specs.Content.{Content, HasSizes}
 use Rattle.disk_model.specs.Writes.{Write, overlay}
-use Rattle.record_model.specs.Values.{data_type}
 use Rattle.record_model.specs.Records.{Record}
+use Rattle.record_model.specs.Constants.{data_type, names_index, index_allocation, bitmap_type}
 use Rattle.bit_set.specs.Bits.{bit}
 use Rattle.state_model.specs.declared.geometry.Geometry.{Geometry}
 use Rattle.state_model.specs.Files.{is_directory_record}
-use Rattle.state_model.specs.Indexes.{names_index}
-use Rattle.state_model.specs.Loads.{index_allocation}
 use Rattle.state_model.specs.Streams.{block_at}
-use Rattle.volume_model.specs.Volumes.{Volume, count_of, file_in, table_file, upcase_file, bitmap_type, record_bits, upper_of}
+use Rattle.volume_model.specs.Volumes.{Volume, count_of, file_in, table_file, upcase_file, record_bits, upper_of}
 use Rattle.volume_model.specs.Indexes.{void_block}
 use Rattle.volume_model.specs.Nodes.{kind_in, shows_data}
 use Rattle.volume_model.specs.Owners.{volume_runs}

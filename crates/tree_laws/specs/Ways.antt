@@ -2,8 +2,8 @@
 use Rattle.std.specs.Prelude.{◌≡◌, ◌≢◌, ℕ, ◌≤◌, Bool, true, ◌||◌, nat_lt, List, length, Option, Some}
 use Rattle.std.specs.List.{AllByRecursion}
 use Rattle.record_model.specs.Records.{Record}
-use Rattle.tree_model.specs.declared.link.Link.{Link}
-use Rattle.tree_model.specs.Walks.{root}
+use Rattle.file_tree.specs.declared.link.Link.{Link}
+use Rattle.file_tree.specs.Walks.{root}
 use Rattle.state_model.specs.Files.{Table, file_at, links_at}
 use Rattle.state_model.specs.Loads.{table_in}
 use Rattle.state_model.specs.Rules.{keeps_8}

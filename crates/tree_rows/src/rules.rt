@@ -1,16 +1,16 @@
 //! The rules over the names of records that are held in memory, each in a call of its own.
 use crate::files::{D, DOT, FG, Form, ITSELF, OLD, OneFile, OneName, records_of, value_of};
 use file_record::FileRec;
-use host_base::FileRef;
+use file_tree::{Link, LinkList};
+use host_base::{FileRef, is_same_reference};
 use record_model::StdInfo;
 use record_rules::{
     Climber, all_links, counts_in, file_at, first_misnamed, first_misplaced, first_unrooted,
-    has_type, info_of, is_compressed, is_directory_record, is_encrypted, is_index,
-    is_same_reference, is_sparse, links_in, links_of, push_some, record_links, value_link,
+    has_type, info_of, is_compressed, is_directory_record, is_encrypted, is_index, is_sparse,
+    links_in, links_of, push_some, record_links, value_link,
 };
 use std::alloc::Global;
 use std::test::Fail;
-use tree_model::{Link, LinkList};
 
 // The records of a volume, and the least numbers at which the rules 1, 2 and 8 are broken.
 struct Row(&'static [OneFile], [Option<u64>; 3]);

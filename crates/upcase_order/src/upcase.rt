@@ -1,17 +1,17 @@
 ghost use Rattle.std.specs.Prelude.{◌≡◌, ◌+◌, ◌-◌, ◌*◌, ◌<◌, ◌≤◌, IfOk, length};
 ghost use Rattle.host_base.specs.Answers.{Gives};
 ghost use Rattle.record_model.specs.Attributes.{units_at};
-ghost use Rattle.tree_model.specs.Names.{name_order, same_name};
+ghost use Rattle.file_tree.specs.Names.{name_order, same_name};
 ghost use Rattle.upcase_order.specs.declared.upcase.UpcaseFault.TheVariants.{Memory as no_memory};
 ghost use Rattle.upcase_order.specs.Tables.{upcase_of, upcase_cause, standard_upper, standard_units, standard_table};
 
 use byteorder::{ByteOrder, LittleEndian};
+use file_tree::{compare_names, is_same_name};
 use host_base::Memory;
 use std::alloc::{AllocError, Global};
 use std::cmp::Ordering;
 use std::marker::Model;
 use thiserror::Error;
-use tree_model::{compare_names, is_same_name};
 
 /// Why bytes are no table of upper-case units.
 #[derive(Clone, Copy, Debug, PartialEq, Eq, Error)]

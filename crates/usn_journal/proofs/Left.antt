@@ -9,7 +9,7 @@ use Rattle.host_base.proofs.Known.{both, one}
 use Rattle.disk_model.specs.Content.{Content}
 use Rattle.record_model.specs.declared.runs.Run.{Run}
 use Rattle.stream_map.specs.Runs.{IsSmall, AreSmall}
-use Rattle.tree_model.specs.declared.journal.Usn.{Usn}
+use Rattle.file_tree.specs.declared.journal.Usn.{Usn}
 use Rattle.state_model.specs.declared.stream.Extents.{Extents}
 use Rattle.state_model.specs.Streams.{byte_at}
 use Rattle.journal_model.specs.Journals.{page_entries, pages_before, journal_from, journal_in}

@@ -2,7 +2,7 @@
 ghost use Rattle.std.specs.Prelude.{◌≡◌, ◌+◌, ◌-◌, ◌*◌, ◌/◌, ◌^◌, ◌<◌, ◌≤◌, ◌++◌, Vec, min, length, take, All, IfOk, OnOk, IfSome, IsOk, Ok, IsErrOf};
 ghost use Rattle.host_base.specs.Answers.{GivesOrFails};
 ghost use Rattle.host_base.specs.Causes.{Rose, Counts};
-ghost use Rattle.tree_model.specs.declared.journal.Usn.{Usn as UsnOf};
+ghost use Rattle.file_tree.specs.declared.journal.Usn.{Usn as UsnOf};
 ghost use Rattle.journal_model.specs.Journals.{page_entries};
 ghost use Rattle.state_model.specs.Streams.{byte_at};
 ghost use Rattle.stream_map.specs.Runs.{AreSmall};
@@ -14,10 +14,10 @@ ghost use Rattle.usn_journal.specs.Pulls.{usn_end, from_on, read_entries};
 use crate::fault::PageFault;
 use block_view::View;
 use disk_model::Body;
+use file_tree::{Usn, UsnList};
 use state_model::Extents;
 use std::alloc::{AllocError, Global};
 use stream_map::fill;
-use tree_model::{Usn, UsnList};
 use usn_record::read_page;
 
 // The bytes of a page of the journal.

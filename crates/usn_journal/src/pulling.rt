@@ -1,7 +1,7 @@
 ghost use Rattle.std.specs.Prelude.{◌≡◌, ◌+◌, ◌*◌, ◌^◌, ◌<◌, ◌≤◌, ◌⊎◌, not, find, length, All, IfOk, IfErr, IfSome, IsOk, Ok, Err, IsErrOf};
 ghost use Rattle.host_base.specs.Answers.{GivesOrFails};
 ghost use Rattle.host_base.specs.Causes.{Rose, Counts};
-ghost use Rattle.tree_model.specs.declared.journal.Usn.{Usn as UsnOf};
+ghost use Rattle.file_tree.specs.declared.journal.Usn.{Usn as UsnOf};
 ghost use Rattle.stream_map.specs.Runs.{AreSmall};
 ghost use Rattle.block_view.specs.Views.{KeepsView};
 ghost use Rattle.std.specs.Option.{option_copied};
@@ -14,10 +14,10 @@ use crate::fault::PullFault;
 use crate::pages::read_pages;
 use block_view::View;
 use disk_model::Body;
+use file_tree::{Usn, UsnList};
 use record_model::Run;
 use state_model::Extents;
 use std::alloc::{AllocError, Global};
-use tree_model::{Usn, UsnList};
 
 // The bytes of a page of the journal.
 const PAGE: usize = 4096;

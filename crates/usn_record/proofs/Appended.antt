@@ -6,7 +6,7 @@ use Rattle.disk_model.specs.Numbers.{spell}
 use Rattle.disk_model.specs.Bytes.{zeros, up8}
 use Rattle.record_model.specs.Attributes.{unit_bytes, filled}
 use Rattle.record_model.proofs.UnitBytes.{length-unit_bytes}
-use Rattle.tree_model.specs.declared.journal.Usn.{Usn}
+use Rattle.file_tree.specs.declared.journal.Usn.{Usn}
 use Rattle.journal_model.specs.UsnRecords.{head_spelling, usn_spelling}
 
 -- one zero more

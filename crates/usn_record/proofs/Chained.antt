@@ -3,7 +3,7 @@ use Rattle.std.proofs.Common.{◌≡◌, ℕ, Bool, true, false, not, List, take
 use Rattle.std.specs.Prelude.{◌&&◌, ◌==◌, if◌then◌else◌}
 use Rattle.host_base.specs.Answers.{◌>>=◌, needs, Explains}
 use Rattle.disk_model.specs.Numbers.{field}
-use Rattle.tree_model.specs.declared.journal.Usn.{Usn}
+use Rattle.file_tree.specs.declared.journal.Usn.{Usn}
 use Rattle.journal_model.specs.declared.fault.UsnFault.{UsnFault}
 use Rattle.journal_model.specs.declared.fault.UsnFault.TheVariants.{Cut, Shape, Memory}
 use Rattle.journal_model.specs.UsnRecords.{usn_cause, known_version, is_whole, is_length, own_bytes, is_usn, usn_of, entry_in, usn_in}

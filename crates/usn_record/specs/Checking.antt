@@ -1,7 +1,7 @@
 -- Records and pages that are judged, and not kept.
 use Rattle.std.specs.Prelude.{ℕ, List, [], ◌∷◌, Option, Some, None, Result, Ok}
 use Rattle.host_base.specs.Answers.{◌>>=◌}
-use Rattle.tree_model.specs.declared.journal.Usn.{Usn}
+use Rattle.file_tree.specs.declared.journal.Usn.{Usn}
 use Rattle.journal_model.specs.declared.fault.UsnFault.{UsnFault}
 use Rattle.journal_model.specs.UsnRecords.{usn_in}
 use Rattle.journal_model.specs.Pages.{page_records}

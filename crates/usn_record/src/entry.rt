@@ -7,11 +7,11 @@ ghost use Rattle.journal_model.specs.UsnRecords.{usn_cause, name_units, usn_of, 
 use crate::front::{HEAD, from_offset};
 use crate::judging::{checked_length, is_known, name_bytes};
 use disk_model::{u32_at, u64_at};
+use file_tree::Usn;
 use host_base::FileRef;
 use journal_model::UsnFault;
 use record_model::units_at;
 use std::alloc::Global;
-use tree_model::Usn;
 use utf16_name::Name;
 
 // The name of a record whose units were judged.

@@ -13,7 +13,7 @@ mod page;
 mod writing;
 
 pub use entry::read;
+pub use file_tree::{Usn, UsnList};
 pub use journal_model::UsnFault;
 pub use page::{check_page, ends_in_record, read_page};
-pub use tree_model::{Usn, UsnList};
 pub use writing::write;

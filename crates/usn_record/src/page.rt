@@ -7,9 +7,9 @@ ghost use Rattle.usn_record.specs.Checking.{page_check, listed};
 use crate::entry::first_record;
 use crate::front::{all_zeros, from_offset, is_whole, own_length};
 use crate::judging::checked_length;
+use file_tree::{Usn, UsnList};
 use journal_model::UsnFault;
 use std::alloc::{AllocError, Global};
-use tree_model::{Usn, UsnList};
 
 // Adds an entry, where there is one.
 fn keep(entries: &mut UsnList, entry: Option<Usn>) -> Result<(), AllocError>

@@ -6,9 +6,9 @@ ghost use Rattle.journal_model.specs.UsnRecords.{head_spelling, usn_spelling};
 
 use crate::front::{HEAD, KNOWN_VERSION, up8};
 use disk_model::{put_u16, put_u32, put_u64};
+use file_tree::Usn;
 use host_base::Memory;
 use std::alloc::{AllocError, Global};
-use tree_model::Usn;
 
 // The fields before the name. The minor version is 0.
 #[tactic(auto, unfolding(journal_model::specs::UsnRecords::head_spelling, disk_model::specs::Numbers::spell))]

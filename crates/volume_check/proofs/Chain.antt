@@ -5,8 +5,8 @@ use Rattle.std.specs.Option.{option_map}
 use Rattle.host_base.specs.Answers.{GivesOrFails}
 use Rattle.host_base.proofs.Known.{both, one}
 use Rattle.disk_model.specs.Content.{Content}
-use Rattle.tree_model.specs.declared.journal.Journal.{Journal}
-use Rattle.tree_model.specs.declared.tree.Tree.{Tree}
+use Rattle.file_tree.specs.declared.journal.Journal.{Journal}
+use Rattle.file_tree.specs.declared.tree.Tree.{Tree}
 use Rattle.state_model.specs.declared.broken.Broken.{Broken}
 use Rattle.state_model.specs.Rules.{broken_or}
 use Rattle.volume_model.specs.Volumes.{Volume, upper_of}

@@ -1,8 +1,8 @@
 -- A check in steps: the first rule that is broken from each rule on, and what the last one leaves.
 use Rattle.std.specs.Prelude.{ℕ, Option, None, Result, Ok, Err}
 use Rattle.disk_model.specs.Content.{Content}
-use Rattle.tree_model.specs.declared.journal.Journal.{Journal}
-use Rattle.tree_model.specs.declared.tree.Tree.{Tree}
+use Rattle.file_tree.specs.declared.journal.Journal.{Journal}
+use Rattle.file_tree.specs.declared.tree.Tree.{Tree}
 use Rattle.state_model.specs.declared.broken.Broken.{Broken}
 use Rattle.state_model.specs.Rules.{broken_or}
 use Rattle.volume_model.specs.Volumes.{Volume, upper_of}

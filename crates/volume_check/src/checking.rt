@@ -15,9 +15,9 @@ use crate::report::report;
 use crate::rules::from_1;
 use block_view::View;
 use disk_model::Body;
+use file_tree::Tree;
 use record_rules::Climber;
 use std::alloc::Global;
-use tree_model::Tree;
 use volume_map::VolumeMap;
 
 // The same, by the marks of the volume.

@@ -3,10 +3,10 @@ ghost use Rattle.std.specs.Prelude.{IfOk};
 ghost use Rattle.volume_check.specs.Parts.{AreNames};
 
 use file_record::FileRec;
+use file_tree::LinkList;
 use host_base::Memory;
 use record_rules::{counts_in, links_in};
 use std::alloc::Global;
-use tree_model::LinkList;
 
 /// The names of files.
 #[derive(Drop)]

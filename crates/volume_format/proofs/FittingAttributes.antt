@@ -8,8 +8,9 @@ use Rattle.record_model.specs.Pairs.{signed_bytes, delta_bytes, pair_of, pairs_f
 use Rattle.record_model.specs.Values.{has_lawful_value}
 use Rattle.record_model.proofs.PairsSigned.{length-signed_bytes, signed_width-le}
 use Rattle.record_model.proofs.UnitBytes.{length-filled}
+use Rattle.record_model.specs.Constants.{names_index}
 use Rattle.record_writer.proofs.Measures.{length-spelling}
-use Rattle.volume_format.specs.Files.{index_name, bad_name, resident, one_run, mapped}
+use Rattle.volume_format.specs.Files.{bad_name, resident, one_run, mapped}
 
 -- ---- mapping pairs
 
@@ -39,8 +40,8 @@ pub record FitsIn (a : Attr) : Type 0 where
 pub no_units : All (λ unit. unit < 2 ^ 16) []
 no_units = All-from_recursion (λ unit. unit < 2 ^ 16) [] tt
 
-pub index_units : All (λ unit. unit < 2 ^ 16) index_name
-index_units = All-from_recursion (λ unit. unit < 2 ^ 16) index_name (omega arith, (omega arith, (omega arith, (omega arith, tt))))
+pub index_units : All (λ unit. unit < 2 ^ 16) names_index
+index_units = All-from_recursion (λ unit. unit < 2 ^ 16) names_index (omega arith, (omega arith, (omega arith, (omega arith, tt))))
 
 pub bad_units : All (λ unit. unit < 2 ^ 16) bad_name
 bad_units = All-from_recursion (λ unit. unit < 2 ^ 16) bad_name (omega arith, (omega arith, (omega arith, (omega arith, tt))))

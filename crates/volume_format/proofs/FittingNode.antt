@@ -3,10 +3,10 @@ use Rattle.std.proofs.Common.{◌≡◌, ℕ, ◌^◌, ◌<◌, ◌≤◌, None,
 use Rattle.std.specs.Prelude.{All}
 use Rattle.std.proofs.lemmas.List.Elements.{All-from_recursion}
 use Rattle.record_model.specs.declared.entry.Entry.{Entry}
-use Rattle.record_model.specs.Nodes.{down_flag, children_of, entry_length, node_used, FitsEntry, FitsNode}
+use Rattle.record_model.specs.Nodes.{down_flag, children_of, entry_length, node_used, FitsEntry, FitsNode, last_entry}
 use Rattle.volume_format.specs.declared.layout.Layout.{Layout}
 use Rattle.volume_format.specs.Layouts.{IsLayout}
-use Rattle.volume_format.specs.Files.{sequence, last_entry}
+use Rattle.volume_format.specs.Files.{sequence}
 use Rattle.volume_format.specs.Indexes.{in_order, entry_of, root_entries, root_node}
 use Rattle.volume_format.proofs.FittingRecords.{has_name, name_lawful, length-name_value}
 

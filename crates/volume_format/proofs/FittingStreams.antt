@@ -7,18 +7,19 @@ use Rattle.disk_model.specs.Bytes.{zeros}
 use Rattle.disk_model.proofs.Fields.{length-spell}
 use Rattle.record_model.specs.declared.attribute.Attr.{Attr}
 use Rattle.record_model.specs.declared.entry.Entry.{Entry}
-use Rattle.record_model.specs.Nodes.{down_flag, entry_length, node_used, FitsDown}
+use Rattle.record_model.specs.Nodes.{down_flag, entry_length, node_used, FitsDown, last_entry}
 use Rattle.record_model.specs.StdValues.{volume_info_over}
 use Rattle.record_model.specs.Values.{has_lawful_value}
 use Rattle.record_model.proofs.FixedValues.{length-volume_info_over}
 use Rattle.record_model.proofs.UnitBytes.{length-zeros}
+use Rattle.record_model.specs.Constants.{names_index}
 use Rattle.index_root.specs.Roots.{HaveSpelling, root_spelling}
 use Rattle.index_root.proofs.Spelled.{root_law}
 use Rattle.volume_format.specs.declared.layout.Layout.{Layout}
 use Rattle.volume_format.specs.declared.naming.Data.{Data}
 use Rattle.volume_format.specs.declared.naming.Data.TheVariants.{Absent, Empty, Clusters}
 use Rattle.volume_format.specs.Layouts.{IsLayout, block_first, cluster_bits_first, cluster_bits_bytes}
-use Rattle.volume_format.specs.Files.{system_data, data_attrs, FitsData, other_streams, volume_streams, root_streams, extend_streams, last_entry, resident, mapped, index_name, bad_name}
+use Rattle.volume_format.specs.Files.{system_data, data_attrs, FitsData, other_streams, volume_streams, root_streams, extend_streams, resident, mapped, bad_name}
 use Rattle.volume_format.proofs.FittingAttributes.{FitsIn, no_units, index_units, bad_units, resident_fits, mapped_fits}
 
 -- ---- numbers below a number
@@ -109,12 +110,12 @@ module _ (v : Layout) (fits : IsLayout v) where
   unfolding streams system_data other_streams root_streams has_lawful_value
   stands_5 =
       let size = length-spell 8 1 in (
-        resident_fits 2 0x90 index_name (root_spelling 1 (last_entry (Some 0) ∷ [])) (omega arith) (omega arith) (omega arith) index_units (empty_short (Some 0) (omega arith)) refl,
+        resident_fits 2 0x90 names_index (root_spelling 1 (last_entry (Some 0) ∷ [])) (omega arith) (omega arith) (omega arith) index_units (empty_short (Some 0) (omega arith)) refl,
         omega arith,
         (
-          mapped_fits 3 0xA0 index_name (Some (block_first v)) 1 4096 4096 (omega arith) (omega arith) (omega arith) index_units (omega arith) (omega arith) (omega arith) (omega arith) refl,
+          mapped_fits 3 0xA0 names_index (Some (block_first v)) 1 4096 4096 (omega arith) (omega arith) (omega arith) index_units (omega arith) (omega arith) (omega arith) (omega arith) refl,
           omega arith,
-          (resident_fits 4 0xB0 index_name (spell 8 1) (omega arith) (omega arith) (omega arith) index_units (omega arith) refl, omega arith, tt),
+          (resident_fits 4 0xB0 names_index (spell 8 1) (omega arith) (omega arith) (omega arith) index_units (omega arith) refl, omega arith, tt),
         ),
       )
 
@@ -140,7 +141,7 @@ module _ (v : Layout) (fits : IsLayout v) where
 
   stands_11 : Good 11
   unfolding streams system_data other_streams extend_streams has_lawful_value
-  stands_11 = (resident_fits 2 0x90 index_name (root_spelling 1 (last_entry None ∷ [])) (omega arith) (omega arith) (omega arith) index_units (empty_short None tt) refl, omega arith, tt)
+  stands_11 = (resident_fits 2 0x90 names_index (root_spelling 1 (last_entry None ∷ [])) (omega arith) (omega arith) (omega arith) index_units (empty_short None tt) refl, omega arith, tt)
 
   pub streams_stand : (n : ℕ) → n < 12 → Stand 0x30 (streams v n)
   streams_stand n lt = below Good 12 (stands_11, (stands_10, (stands_9, (stands_8, (stands_7, (stands_6, (stands_5, (stands_4, (stands_3, (stands_2, (stands_1, (stands_0, tt)))))))))))) n lt

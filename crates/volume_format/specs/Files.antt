@@ -6,42 +6,21 @@ use Rattle.disk_model.specs.Bytes.{zeros}
 use Rattle.record_model.specs.declared.attribute.Sizes.{Sizes}
 use Rattle.record_model.specs.declared.attribute.OwnForm.TheVariants.{Resident, Mapped}
 use Rattle.record_model.specs.declared.attribute.Attr.{Attr}
-use Rattle.record_model.specs.declared.entry.Entry.{Entry}
 use Rattle.record_model.specs.declared.record.RecHead.{RecHead}
 use Rattle.record_model.specs.declared.runs.Run.{Run}
 use Rattle.record_model.specs.declared.values.FileNameValue.{FileNameValue}
 use Rattle.record_model.specs.Attributes.{filled}
-use Rattle.record_model.specs.Nodes.{no_file}
+use Rattle.record_model.specs.Nodes.{no_file, last_entry}
 use Rattle.record_model.specs.Pairs.{pairs_of}
 use Rattle.record_model.specs.Records.{Record, record_spelling}
 use Rattle.record_model.specs.StdValues.{std_info_over, file_name_over, volume_info_over}
-use Rattle.record_model.specs.Values.{standard_information, file_name, data_type}
+use Rattle.record_model.specs.Constants.{standard_information, file_name, volume_name, volume_information, data_type, index_root, index_allocation, bitmap_type, names_index}
 use Rattle.fixup_record.specs.Protecting.{protected_bytes}
 use Rattle.index_root.specs.Roots.{root_spelling}
 use Rattle.volume_format.specs.declared.layout.Layout.{Layout}
 use Rattle.volume_format.specs.declared.naming.Data.{Data}
 use Rattle.volume_format.specs.declared.naming.Data.TheVariants.{Absent, Empty, Clusters}
 use Rattle.volume_format.specs.Layouts.{mirror_first, record_bits_first, table_first, upper_case_first, log_first, cluster_bits_first, block_first, cluster_bits_bytes}
-
--- the types of attributes
-abbrev pub volume_name : ℕ
-volume_name = 0x60
-
-abbrev pub volume_information : ℕ
-volume_information = 0x70
-
-abbrev pub index_root : ℕ
-index_root = 0x90
-
-abbrev pub index_allocation : ℕ
-index_allocation = 0xA0
-
-abbrev pub bitmap : ℕ
-bitmap = 0xB0
-
--- the name of the attributes of a directory's index
-abbrev pub index_name : List ℕ
-index_name = codes "$I30"
 
 abbrev pub bad_name : List ℕ
 bad_name = codes "$Bad"
@@ -163,13 +142,9 @@ data_attrs Absent = []
 data_attrs Empty = resident 2 data_type [] [] ∷ []
 data_attrs (Clusters first clusters bytes) = in_clusters 2 data_type [] first clusters bytes ∷ []
 
--- the last entry of an index node, and the node before it
-abbrev pub last_entry : Option ℕ → Entry
-last_entry down = record { child = no_file; key = []; down = down }
-
 -- `$MFT`: the bitmap of its records
 abbrev pub table_streams : List Attr
-table_streams = in_clusters 3 bitmap [] record_bits_first 1 8 ∷ []
+table_streams = in_clusters 3 bitmap_type [] record_bits_first 1 8 ∷ []
 
 -- `$Volume`: no label, and version 3.1
 unfoldable pub volume_streams : List Attr
@@ -178,9 +153,9 @@ volume_streams = resident 2 volume_name [] [] ∷ resident 3 volume_information 
 -- the root: its index is one block, whose bit in the index's bitmap is set
 unfoldable pub root_streams : Layout → List Attr
 root_streams v =
-    resident 2 index_root index_name (root_spelling 1 (last_entry (Some 0) ∷ []))
-    ∷ in_clusters 3 index_allocation index_name (block_first v) 1 4096
-    ∷ resident 4 bitmap index_name (spell 8 1)
+    resident 2 index_root names_index (root_spelling 1 (last_entry (Some 0) ∷ []))
+    ∷ in_clusters 3 index_allocation names_index (block_first v) 1 4096
+    ∷ resident 4 bitmap_type names_index (spell 8 1)
     ∷ []
 
 -- `$BadClus`: one sparse run over all clusters
@@ -189,7 +164,7 @@ bad_streams v = mapped 2 data_type bad_name None v.clusters (4096 * v.clusters) 
 
 -- `$Extend`: an empty index
 unfoldable pub extend_streams : List Attr
-extend_streams = resident 2 index_root index_name (root_spelling 1 (last_entry None ∷ [])) ∷ []
+extend_streams = resident 2 index_root names_index (root_spelling 1 (last_entry None ∷ [])) ∷ []
 
 -- what a system file has behind its data
 unfoldable pub other_streams : Layout → ℕ → List Attr

@@ -1,10 +1,10 @@
 -- The root's index of a new volume: the names of the system files in order, all in one block.
 use Rattle.std.specs.Prelude.{ℕ, List, [], ◌∷◌, ◌++◌, map, None}
 use Rattle.record_model.specs.declared.entry.Entry.{Entry}
-use Rattle.record_model.specs.Nodes.{Node, node_spelling}
+use Rattle.record_model.specs.Nodes.{Node, node_spelling, last_entry}
 use Rattle.fixup_record.specs.Protecting.{protected_bytes}
 use Rattle.volume_format.specs.declared.layout.Layout.{Layout}
-use Rattle.volume_format.specs.Files.{reference, name_value, last_entry, first_check}
+use Rattle.volume_format.specs.Files.{reference, name_value, first_check}
 
 -- The system files in the order of their names: $AttrDef, $BadClus, $Bitmap, $Boot, $Extend, $LogFile, $MFT, $MFTMirr,
 -- $Secure, $UpCase, $Volume and the root itself.

@@ -8,14 +8,12 @@ use crate::layout::Layout;
 use crate::naming::name_value;
 use crate::zeros::{push_zeros, zeroed};
 use host_base::{Bytes, Memory};
-use record_model::{Attr, Head, OwnForm, Run, Runs, Sizes, StdInfo};
+use record_model::{
+    Attr, FILE_NAME, Head, OwnForm, Run, Runs, STANDARD_INFORMATION, Sizes, StdInfo,
+};
 use std::alloc::{AllocError, Global};
 use std_values::FixedValue;
 use utf16_name::Units;
-
-const STANDARD_INFORMATION: u32 = 0x10;
-
-const FILE_NAME: u32 = 0x30;
 
 // The file's flags: hidden and system.
 const SYSTEM: u32 = 6;

@@ -7,10 +7,9 @@ ghost use Rattle.volume_format.specs.Indexes.{entry_of, root_entries, block_byte
 
 use crate::layout::Layout;
 use crate::naming::{name_value, reference};
-use crate::streams::last_entry;
 use fixup_record::protect;
 use index_node::Node;
-use record_model::{Entry, EntryList};
+use record_model::{Entry, EntryList, last_entry};
 use std::alloc::{AllocError, Global};
 
 // The system files in the order of their names.

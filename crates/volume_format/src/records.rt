@@ -11,12 +11,10 @@ use crate::streams::{push_data, push_others};
 use file_record::FileRec;
 use fixup_record::protect;
 use host_base::{Bytes, FileRef, Memory};
-use record_model::RecHead;
+use record_model::{DATA, RecHead};
 use record_writer::WrittenRecord;
 use std::alloc::{AllocError, Global};
 use utf16_name::Units;
-
-const DATA: u32 = 0x80;
 
 // The flags of a record.
 const IN_USE: u16 = 1;

@@ -2,34 +2,26 @@ ghost use Rattle.std.specs.Prelude.{◌≡◌, ◌++◌, [], ◌∷◌, Some, If
 ghost use Rattle.disk_model.specs.Numbers.{spell};
 ghost use Rattle.disk_model.specs.Bytes.{zeros};
 ghost use Rattle.record_model.specs.StdValues.{volume_info_over};
-ghost use Rattle.record_model.specs.Nodes.{FitsDown};
+ghost use Rattle.record_model.specs.Nodes.{FitsDown, last_entry};
+ghost use Rattle.record_model.specs.Constants.{names_index, index_root, bitmap_type};
 ghost use Rattle.index_root.specs.Roots.{root_spelling};
 ghost use Rattle.volume_format.specs.Layouts.{IsLayout};
-ghost use Rattle.volume_format.specs.Files.{index_name, index_root, bitmap, FitsData, data_attrs, last_entry, table_streams, volume_streams, root_streams, bad_streams, extend_streams, other_streams, resident};
+ghost use Rattle.volume_format.specs.Files.{FitsData, data_attrs, table_streams, volume_streams, root_streams, bad_streams, extend_streams, other_streams, resident};
 
 use crate::attributes::{Stream, mapped, resident};
 use crate::layout::Layout;
 use crate::naming::{Data, units};
 use crate::zeros::zeroed;
 use file_record::FileRec;
-use host_base::{Bytes, FileRef, Memory};
+use host_base::{Bytes, Memory};
 use index_root::write_root;
-use record_model::{Attr, Entry, EntryList, VolumeInfo};
+use record_model::{
+    Attr, BITMAP_TYPE, DATA, EntryList, INDEX_ALLOCATION, INDEX_ROOT, NAMES_INDEX,
+    VOLUME_INFORMATION, VOLUME_NAME, VolumeInfo, last_entry,
+};
 use std::alloc::{AllocError, Global};
 use std_values::FixedValue;
 use utf16_name::Units;
-
-const VOLUME_NAME: u32 = 0x60;
-
-const VOLUME_INFORMATION: u32 = 0x70;
-
-const DATA: u32 = 0x80;
-
-const INDEX_ROOT: u32 = 0x90;
-
-const INDEX_ALLOCATION: u32 = 0xa0;
-
-const BITMAP: u32 = 0xb0;
 
 // A stream in clusters, all of whose bytes are initialised.
 fn in_clusters(id: u16, kind: u32, first: u64, clusters: u64, bytes: u64) -> Stream
@@ -47,26 +39,15 @@ fn in_clusters(id: u16, kind: u32, first: u64, clusters: u64, bytes: u64) -> Str
 
 // The name of a directory's index.
 fn index_name(alloc: Global) -> Result<Units, AllocError>
-    ensures { IfOk result (λ name. name ≡ index_name) }
+    ensures { IfOk result (λ name. name ≡ names_index) }
 {
-    Ok(Units::from(units(alloc, b"$I30")?))
-}
-
-/// The last entry of an index node, and the node before it.
-pub fn last_entry(alloc: Global, down: Option<u64>) -> Entry
-    ensures { result ≡ last_entry down }
-{
-    Entry {
-        child: FileRef { number: 0, seq: 0 },
-        key: Bytes::new(alloc),
-        down,
-    }
+    Units::copy_of(alloc, &NAMES_INDEX)
 }
 
 // An index root with a last entry alone.
 fn empty_root(alloc: Global, down: Option<u64>) -> Result<Attr, AllocError>
     requires { FitsDown down }
-    ensures { IfOk result (λ attr. attr ≡ resident 2 index_root index_name (root_spelling 1 (last_entry down ∷ []))) }
+    ensures { IfOk result (λ attr. attr ≡ resident 2 index_root names_index (root_spelling 1 (last_entry down ∷ []))) }
 {
     let mut entries = EntryList::new(alloc);
     entries.push(last_entry(alloc, down))?;
@@ -98,7 +79,7 @@ pub fn push_data(alloc: Global, place: Data, file: &mut FileRec) -> Result<(), M
 fn push_table(alloc: Global, file: &mut FileRec) -> Result<(), Memory>
     ensures { OnOk result (file.new ≡ record { head = file.old.head; attrs = file.old.attrs ++ table_streams }) }
 {
-    let stream = in_clusters(3, BITMAP, 3, 1, 8);
+    let stream = in_clusters(3, BITMAP_TYPE, 3, 1, 8);
     file.push(mapped(alloc, stream, Units::new(alloc))?)?;
     Ok(())
 }
@@ -131,10 +112,10 @@ fn push_volume(alloc: Global, file: &mut FileRec) -> Result<(), AllocError>
 // The bitmap of an index with one block.
 #[tactic(auto, unfolding(disk_model::specs::Numbers::spell))]
 fn one_bit(alloc: Global) -> Result<Attr, AllocError>
-    ensures { IfOk result (λ attr. attr ≡ resident 4 bitmap index_name (spell 8 1)) }
+    ensures { IfOk result (λ attr. attr ≡ resident 4 bitmap_type names_index (spell 8 1)) }
 {
     let value = Bytes::copy_of(alloc, &[1, 0, 0, 0, 0, 0, 0, 0])?;
-    Ok(resident(4, BITMAP, index_name(alloc)?, value))
+    Ok(resident(4, BITMAP_TYPE, index_name(alloc)?, value))
 }
 
 // Puts the root's index, which has one block.

@@ -9,12 +9,6 @@ use record_model::{Attr, Head, OwnForm, RecHead, Run, Sizes};
 use std::alloc::{AllocError, Global};
 use utf16_name::Units;
 
-/// The type of data.
-pub const DATA: u32 = 0x80;
-
-/// `$I30`, the name of a directory's index.
-pub static NAMES_INDEX: [u16; 4] = [0x24, 0x49, 0x33, 0x30];
-
 /// What an attribute keeps.
 #[derive(Clone, Copy)]
 pub enum Kept<'a> {

@@ -5,6 +5,5 @@
 mod builders;
 
 pub use builders::{
-    DATA, Kept, NAMES_INDEX, Part, index_block, index_view, per_cluster, put_file, record, run,
-    sectors_view,
+    Kept, Part, index_block, index_view, per_cluster, put_file, record, run, sectors_view,
 };

@@ -5,7 +5,7 @@ use Rattle.std.specs.List.{range_with_len}
 use Rattle.host_base.specs.Answers.{◌>>=◌, Cause, refused, no_memory, failed, never, Explains, ExplainsOrFails}
 use Rattle.host_base.proofs.Known.{both, one, always}
 use Rattle.disk_model.specs.Content.{Content}
-use Rattle.tree_model.specs.declared.journal.Usn.{Usn}
+use Rattle.file_tree.specs.declared.journal.Usn.{Usn}
 use Rattle.state_model.specs.declared.stream.Extents.{Extents}
 use Rattle.state_model.specs.Streams.{byte_at}
 use Rattle.journal_model.specs.declared.fault.UsnFault.{UsnFault}

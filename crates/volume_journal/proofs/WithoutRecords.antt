@@ -5,8 +5,8 @@ use Rattle.host_base.specs.Answers.{◌>>=◌, Cause, refused, no_memory, failed
 use Rattle.host_base.proofs.Known.{one}
 use Rattle.disk_model.specs.Content.{Content}
 use Rattle.record_model.specs.declared.values.JournalMax.{JournalMax}
-use Rattle.tree_model.specs.declared.journal.Usn.{Usn}
-use Rattle.tree_model.specs.declared.journal.Journal.{Journal}
+use Rattle.file_tree.specs.declared.journal.Usn.{Usn}
+use Rattle.file_tree.specs.declared.journal.Journal.{Journal}
 use Rattle.state_model.specs.declared.stream.Extents.{Extents}
 use Rattle.volume_state.specs.Journals.{journal_entries, journal_owned, journal_with}
 use Rattle.volume_state.specs.Trees.{without_records}

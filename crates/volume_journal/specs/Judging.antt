@@ -4,7 +4,7 @@ use Rattle.std.specs.Option.{option_map}
 use Rattle.host_base.specs.Answers.{◌>>=◌}
 use Rattle.disk_model.specs.Content.{Content}
 use Rattle.record_model.specs.declared.values.JournalMax.{JournalMax}
-use Rattle.tree_model.specs.declared.journal.Journal.{Journal}
+use Rattle.file_tree.specs.declared.journal.Journal.{Journal}
 use Rattle.state_model.specs.declared.stream.Extents.{Extents}
 use Rattle.volume_model.specs.Volumes.{Volume}
 use Rattle.volume_state.specs.Journals.{journal_entries, journal_owned, journal_with, journal_of}

@@ -2,8 +2,8 @@
 -- attribute list, 3 one of its two streams is missing or out of shape.
 use Rattle.std.specs.Prelude.{ℕ, not, List, Option, Some, None, Result, Ok, Err}
 use Rattle.host_base.specs.Answers.{◌>>=◌, needs, Cause, refused, no_memory}
-use Rattle.record_model.specs.Values.{attribute_list, data_type}
 use Rattle.record_model.specs.Records.{Record}
+use Rattle.record_model.specs.Constants.{attribute_list, data_type}
 use Rattle.state_model.specs.declared.stream.Extents.{Extents}
 use Rattle.state_model.specs.declared.stream.Stream.{Stream}
 use Rattle.state_model.specs.Files.{has_type}

@@ -1,15 +1,15 @@
 //! The file that holds the journal.
 ghost use Rattle.std.specs.Prelude.{◌≡◌, IfOk};
 ghost use Rattle.std.specs.Option.{option_copied};
-ghost use Rattle.tree_model.specs.Trees.{same_links};
-ghost use Rattle.tree_model.specs.Walks.{child_in};
+ghost use Rattle.file_tree.specs.Trees.{same_links};
+ghost use Rattle.file_tree.specs.Walks.{child_in};
 ghost use Rattle.volume_map.specs.Maps.{volume_in};
 ghost use Rattle.volume_state.specs.Journals.{extend_file, journal_name, file_or_none};
 
 use file_record::FileRec;
+use file_tree::{Link, chosen};
 use record_rules::file_at;
 use std::alloc::{AllocError, Global};
-use tree_model::{Link, chosen};
 use upcase_order::Upcase;
 use volume_map::VolumeMap;
 
@@ -20,7 +20,7 @@ const EXTEND_FILE: u64 = 11;
 const JOURNAL_NAME: [u16; 8] = [0x24, 0x55, 0x73, 0x6e, 0x4a, 0x72, 0x6e, 0x6c];
 
 // The links of a directory whose name is the same.
-#[tactic(auto, unfolding(tree_model::specs::Trees::same_links))]
+#[tactic(auto, unfolding(file_tree::specs::Trees::same_links))]
 fn same_links(
     alloc: Global,
     up: &Upcase,
@@ -40,7 +40,7 @@ fn same_links(
 }
 
 /// The number of the file that `$UsnJrnl` names in `$Extend`, if there is one. Linear in the links.
-#[tactic(auto, unfolding(tree_model::specs::Walks::child_in, tree_model::specs::Trees::look_up, volume_state::specs::Journals::journal_name))]
+#[tactic(auto, unfolding(file_tree::specs::Walks::child_in, file_tree::specs::Trees::look_up, volume_state::specs::Journals::journal_name))]
 pub fn journal_number(alloc: Global, up: &Upcase, links: &[Link]) -> Result<Option<u64>, AllocError>
     ensures value { IfOk result (λ number. number ≡ child_in up.now links.now extend_file journal_name) }
 {

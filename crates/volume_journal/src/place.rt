@@ -10,20 +10,19 @@ ghost use Rattle.volume_journal.specs.Places.{in_shape, place_of_streams, place_
 
 use crate::finding::{file_or_none, journal_number};
 use crate::shape::{has_shape, limits_of};
-use crate::whole::{DATA, ENTRIES_NAME, LIMITS_NAME};
+use crate::whole::{ENTRIES_NAME, LIMITS_NAME};
 use file_record::FileRec;
+use file_tree::Link;
 use host_base::Memory;
+use record_model::{ATTRIBUTE_LIST, DATA};
 use record_rules::has_type;
 use state_model::{Extents, Stream};
 use std::alloc::{AllocError, Global};
 use stream_map::stream_of;
 use thiserror::Error;
-use tree_model::Link;
 use upcase_order::Upcase;
 use volume_map::VolumeMap;
 use volume_nodes::stream_flags;
-
-const ATTRIBUTE_LIST: u32 = 0x20;
 
 // No file is the journal's.
 const NO_FILE: u32 = 1;

@@ -10,18 +10,13 @@ use record_model::{JournalMax, Run};
 use record_rules::is_sparse;
 use state_model::{Extents, Stream};
 use std_values::FixedValue;
+use volume_nodes::is_hole;
 
 // The bytes of a sector.
 const SECTOR: u128 = 512;
 
 // The most bytes that are allocated to a journal.
 const MOST_ALLOCATED: u64 = 8_796_093_022_208;
-
-fn is_hole(run: &Run) -> bool
-    ensures { result ≡ is_hole run.now }
-{
-    run.lcn.is_none()
-}
 
 // Whether the run isn't sparse, or ends within so many bytes.
 fn ends_within(per: u64, size: u128, run: &Run) -> bool

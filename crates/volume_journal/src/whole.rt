@@ -20,16 +20,14 @@ use crate::shape::{entries_of, first_byte, limits_of};
 use block_view::View;
 use disk_model::Body;
 use file_record::FileRec;
-use record_model::JournalMax;
+use file_tree::{Journal, Link, UsnList};
+use record_model::{DATA, JournalMax};
 use state_model::{Extents, Stream};
 use std::alloc::Global;
 use stream_map::stream_of;
-use tree_model::{Journal, Link, UsnList};
 use upcase_order::Upcase;
 use volume_map::VolumeMap;
 use volume_nodes::stream_flags;
-
-pub const DATA: u32 = 0x80;
 
 // `$Max`
 pub const LIMITS_NAME: [u16; 4] = [0x24, 0x4d, 0x61, 0x78];

@@ -5,8 +5,8 @@ use Rattle.std.proofs.lemmas.List.{take_more, append-nil, get_or_default}
 use Rattle.std.proofs.lemmas.List.Concat.{flat_map-append}
 use Rattle.std.proofs.lemmas.List.Elements.{filter-append, filter_map-append}
 use Rattle.record_model.specs.Records.{Record}
-use Rattle.tree_model.specs.declared.link.Link.{Link}
-use Rattle.tree_model.specs.Trees.{is_long}
+use Rattle.file_tree.specs.declared.link.Link.{Link}
+use Rattle.file_tree.specs.Trees.{is_long}
 use Rattle.state_model.specs.Files.{only_base, links_of, links_at, file_at}
 use Rattle.state_model.specs.Loads.{table_in}
 

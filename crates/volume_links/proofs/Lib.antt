@@ -1,3 +1,4 @@
+pub mod Declining
 pub mod Growing
 pub mod Plainly
 pub mod Scanned

@@ -12,29 +12,30 @@ use Rattle.record_model.specs.declared.attribute.Attr.{Attr}
 use Rattle.record_model.specs.declared.record.RecHead.{RecHead}
 use Rattle.record_model.specs.declared.values.FileNameValue.{FileNameValue}
 use Rattle.record_model.specs.declared.values.ValueFault.{ValueFault}
-use Rattle.record_model.specs.Values.{attribute_list, is_file_name, has_lawful_value}
+use Rattle.record_model.specs.Values.{is_file_name, has_lawful_value}
 use Rattle.record_model.specs.StdValues.{file_name_of}
 use Rattle.record_model.specs.Attributes.{has_length, is_inside, head_of, attr_of}
 use Rattle.record_model.specs.Records.{Record, Pieces, with_piece, cut, types_rise, has_first, has_size, is_base, is_end_mark, most_attributes, attribute_bytes, rec_head_of, shaped_at, has_lawful_values}
 use Rattle.record_model.proofs.Answering.{needs_from_ok}
 use Rattle.record_model.proofs.Attributes.{own_from_length}
 use Rattle.record_model.proofs.FileNames.{file_name_lawful}
+use Rattle.record_model.specs.Constants.{attribute_list, index_allocation}
 use Rattle.attr_codec.specs.Reading.{own_bytes, attr_at}
-use Rattle.tree_model.specs.declared.link.Link.{Link}
-use Rattle.tree_model.specs.Trees.{is_long}
+use Rattle.file_tree.specs.declared.link.Link.{Link}
+use Rattle.file_tree.specs.Trees.{is_long}
 use Rattle.state_model.specs.Files.{is_base_record, has_type, named, attr_link, record_links}
-use Rattle.state_model.specs.Loads.{index_allocation, has_fitting_pairs, has_all_pairs, whole_record}
+use Rattle.state_model.specs.Loads.{has_fitting_pairs, has_all_pairs, whole_record}
 use Rattle.volume_links.specs.Plain.{Grows, TakesPlain, ArePlain, IsPlain}
 
 -- ---- values
 
-named_ok : (child : FileRef) (r : Result FileNameValue ValueFault) → is_some (named child r) ≡ true → is_ok r ≡ true
-named_ok child (Ok f) h = refl
-named_ok child (Err fault) h = absurd cc
+named_ok : (child : FileRef) (r : Result FileNameValue ValueFault) → is_some (named child r) ≡ is_ok r
+named_ok child (Ok f) = refl
+named_ok child (Err fault) = refl
 
--- a value that is a link is a file name
-pub is_name : (child : FileRef) (value : List ℕ) (o : Option Link) → o ≡ named child (file_name_of value) → is_some o ≡ true → is_file_name value ≡ true
-is_name child value o is h = sym (file_name_lawful value) ∙ named_ok child (file_name_of value) (ap (λ (l : Option Link). is_some l) (sym is) ∙ h)
+-- a value is a link just where it is a file name
+pub is_name : (child : FileRef) (value : List ℕ) (o : Option Link) → o ≡ named child (file_name_of value) → is_some o ≡ is_file_name value
+is_name child value o is = ap (λ (l : Option Link). is_some l) is ∙ named_ok child (file_name_of value) ∙ file_name_lawful value
 
 -- ---- lists
 
@@ -91,7 +92,7 @@ behind_end [] = refl
 behind_end (p ∷ ps) = ap (with_piece p) (behind_end ps)
 
 -- one step of the cut
-abbrev cut_by : Bool → Bool → Bool → Result Pieces ℕ → Result Pieces ℕ
+abbrev pub cut_by : Bool → Bool → Bool → Result Pieces ℕ → Result Pieces ℕ
 cut_by short mark lawful later =
     elim short [
       | true ↦ Ok (record { pieces = []; ended = false })
@@ -101,11 +102,11 @@ cut_by short mark lawful later =
       ]
     ]
 
-cut_step : (most : ℕ) (bytes : List ℕ) → cut (suc most) bytes ≡ cut_by (nat_lt (length bytes) 4) (is_end_mark bytes) (has_length bytes) (with_piece (take (field 0x04 4 bytes) bytes) (cut most (drop (field 0x04 4 bytes) bytes)))
+pub cut_step : (most : ℕ) (bytes : List ℕ) → cut (suc most) bytes ≡ cut_by (nat_lt (length bytes) 4) (is_end_mark bytes) (has_length bytes) (with_piece (take (field 0x04 4 bytes) bytes) (cut most (drop (field 0x04 4 bytes) bytes)))
 unfolding cut
 cut_step most bytes = refl
 
-is_long_enough : (rest : List ℕ) → 4 ≤ length rest → nat_lt (length rest) 4 ≡ false
+pub is_long_enough : (rest : List ℕ) → 4 ≤ length rest → nat_lt (length rest) 4 ≡ false
 is_long_enough rest le = grind (arith, nat_tests)
 
 cut_on : (most : ℕ) (bytes : List ℕ) → 4 ≤ length bytes → is_end_mark bytes ≡ false → has_length bytes ≡ true → cut (suc most) bytes ≡ with_piece (own_bytes bytes) (cut most (drop (field 0x04 4 bytes) bytes))
@@ -119,7 +120,7 @@ cut_ends most bytes long mark =
     cut_step most bytes ∙ ap (λ (b : Bool). cut_by b (is_end_mark bytes) (has_length bytes) later) (is_long_enough bytes long) ∙ ap (λ (b : Bool). cut_by false b (has_length bytes) later) mark
 
 -- what a read of the attribute at the front says
-read_parts : (bytes : List ℕ) (a : Attr) → attr_at bytes ≡ Ok a → (has_length bytes ≡ true) × (is_inside (own_bytes bytes) ≡ true) × (attr_of (own_bytes bytes) ≡ a)
+pub read_parts : (bytes : List ℕ) (a : Attr) → attr_at bytes ≡ Ok a → (has_length bytes ≡ true) × (is_inside (own_bytes bytes) ≡ true) × (attr_of (own_bytes bytes) ≡ a)
 unfolding attr_at
 read_parts bytes a e =
     let p = needs_from_ok (has_length bytes) 3 (λ _. needs (is_inside (own_bytes bytes)) 6 >>= λ _. Ok (attr_of (own_bytes bytes))) a e in
@@ -127,9 +128,9 @@ read_parts bytes a e =
     let same : attr_of (own_bytes bytes) ≡ a = cc (q.1) in
     (p.0, q.0, same)
 
-kind_is : (piece : List ℕ) → (attr_of piece).head.kind ≡ field 0 4 piece
+pub kind_is : (slot : List ℕ) → (attr_of slot).head.kind ≡ field 0 4 slot
 unfolding attr_of head_of
-kind_is piece = refl
+kind_is slot = refl
 
 -- ---- the walk
 
@@ -163,7 +164,7 @@ begins child bytes links = record {
 pub inside : (child : FileRef) (rest : List ℕ) (n least next : ℕ) (old new : List Link) → TakesPlain child rest n least next old new → n ≤ length rest
 inside child rest n least next old new front = let own = own_from_length rest (read_parts rest front.attr front.is_read).0 in omega (arith, own.0, front.size)
 
-one_less : (counter : ℕ) → counter < most_attributes → most_attributes - counter ≡ suc (most_attributes - (counter + 1))
+pub one_less : (counter : ℕ) → counter < most_attributes → most_attributes - counter ≡ suc (most_attributes - (counter + 1))
 one_less counter lt = omega arith
 
 goes_on : (bytes rest : List ℕ) (counter n : ℕ) (pieces : List (List ℕ)) (a : Attr) → counter < most_attributes → 4 ≤ length rest → is_end_mark rest ≡ false → attr_at rest ≡ Ok a → n ≡ field 0x04 4 rest
@@ -224,7 +225,7 @@ grows_on a b c p q = record { added = p.added ++ q.added; is = q.is ∙ ap (λ (
 
 -- ---- the record
 
-abbrev okay_record : Record → Result Record ℕ
+abbrev pub okay_record : Record → Result Record ℕ
 okay_record r = Ok r
 
 shaped_by : (first size : Bool) (read : Result Pieces ℕ) (head : RecHead) (pieces : List (List ℕ)) → first ≡ true → size ≡ true → read ≡ Ok (record { pieces = pieces; ended = true }) → types_rise pieces ≡ true → list_all is_inside pieces ≡ true

@@ -1,18 +1,19 @@
 -- Plain records: base records with no attribute list and no index in clusters, that break none of the rules 1 to 8.
-use Rattle.std.specs.Prelude.{◌≡◌, ℕ, ◌==◌, Bool, true, false, nat_le, if◌then◌else◌, List, [], ◌++◌, map, Option, None, Ok}
+use Rattle.std.specs.Prelude.{◌≡◌, ℕ, ◌==◌, ◌&&◌, Bool, true, false, not, nat_le, if◌then◌else◌, List, [], ◌∷◌, ◌++◌, map, Option, None, Result, Ok, Err}
 use Rattle.std.specs.List.{list_all, list_any, filter, filter_map, cons_option}
 use Rattle.host_base.specs.declared.file_ref.FileRef.{FileRef}
 use Rattle.disk_model.specs.Numbers.{field}
 use Rattle.record_model.specs.declared.attribute.Attr.{Attr}
-use Rattle.record_model.specs.Values.{standard_information, attribute_list, file_name, is_standard_information, is_file_name, has_lawful_value}
+use Rattle.record_model.specs.Values.{is_standard_information, is_file_name, has_lawful_value}
 use Rattle.record_model.specs.StdValues.{file_name_of}
 use Rattle.record_model.specs.Attributes.{is_inside, attr_of}
-use Rattle.record_model.specs.Records.{Record, cut, most_attributes, types_rise}
+use Rattle.record_model.specs.Records.{Record, cut, most_attributes, types_rise, Pieces}
+use Rattle.record_model.specs.Constants.{standard_information, attribute_list, file_name, index_allocation}
 use Rattle.attr_codec.specs.Reading.{attr_at}
-use Rattle.tree_model.specs.declared.link.Link.{Link}
-use Rattle.tree_model.specs.Trees.{is_long}
+use Rattle.file_tree.specs.declared.link.Link.{Link}
+use Rattle.file_tree.specs.Trees.{is_long}
 use Rattle.state_model.specs.Files.{is_base_record, has_type, named, attr_link, record_links}
-use Rattle.state_model.specs.Loads.{index_allocation, has_fitting_pairs, whole_record}
+use Rattle.state_model.specs.Loads.{has_fitting_pairs, whole_record}
 
 -- links with others behind them
 pub record Grows (old new : List Link) : Type 0 where
@@ -26,6 +27,25 @@ is_lawful kind value = if kind == standard_information then is_standard_informat
 -- and the link that it is
 abbrev pub value_link : FileRef → ℕ → List ℕ → Option Link
 value_link child kind value = if kind == file_name then named child (file_name_of value) else None
+
+-- what a plain record asks of an attribute: it is no attribute list and no index in clusters, and keeps the rules 7 and 8
+abbrev pub is_plain_attr : Attr → Bool
+is_plain_attr a = not (a.head.kind == attribute_list) && not (a.head.kind == index_allocation) && (has_lawful_value a && has_fitting_pairs a)
+
+-- a plain record may have the attribute that was read behind one of this type
+abbrev pub may_follow : ℕ → Result Attr ℕ → Bool
+may_follow least (Ok a) = nat_le least a.head.kind && is_plain_attr a
+may_follow least (Err rule) = false
+
+-- and all attributes with these bytes, one behind the other
+abbrev pub may_all_follow : ℕ → List (List ℕ) → Bool
+may_all_follow least [] = true
+may_all_follow least (p ∷ pieces) = is_inside p && may_follow least (Ok (attr_of p)) && may_all_follow (field 0 4 p) pieces
+
+-- the attributes that were cut are such, up to an end mark
+abbrev pub are_plain : ℕ → Result Pieces ℕ → Bool
+are_plain least (Ok p) = p.ended && may_all_follow least p.pieces
+are_plain least (Err rule) = false
 
 -- the attribute at the front of these bytes has so many of them, and a plain record may have it behind one of this type;
 -- its long name was added
@@ -52,6 +72,11 @@ pub record ArePlain (child : FileRef) (bytes : List ℕ) (old new : List Link) :
   pub unlisted : list_any (λ (a : Attr). a.head.kind == attribute_list) (map attr_of pieces) ≡ false
   pub unindexed : list_any (λ (a : Attr). a.head.kind == index_allocation) (map attr_of pieces) ≡ false
   pub links : new ≡ old ++ filter is_long (filter_map (attr_link child) (map attr_of pieces))
+
+-- what was read is a plain record: it breaks none of the rules 1 to 8, is a base record, and has neither an attribute list nor an index in clusters
+abbrev pub is_plain : Result Record ℕ → Bool
+is_plain (Ok r) = is_base_record r && not (has_type attribute_list r) && not (has_type index_allocation r)
+is_plain (Err rule) = false
 
 -- the body is that of a plain record with this number, whose long names were added
 pub record IsPlain (number : ℕ) (body : List ℕ) (old new : List Link) : Type 0 where

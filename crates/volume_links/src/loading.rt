@@ -15,10 +15,10 @@ use crate::names::long_links;
 use crate::scanning::{Scan, scan_table};
 use block_view::View;
 use disk_model::{BlockKind, Body};
+use file_tree::Link;
 use state_model::{Extents, Geometry};
 use std::alloc::Global;
 use stream_map::has_cut_block;
-use tree_model::Link;
 use volume_map::{MapFault, files_in, table_of};
 
 // The long names of the files of a table, of which some may have attribute lists.

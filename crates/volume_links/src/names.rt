@@ -2,22 +2,17 @@
 ghost use Rattle.std.specs.Prelude.{◌≡◌, ◌++◌, [], IfOk, OnOk};
 ghost use Rattle.std.specs.List.{cons_option, filter};
 ghost use Rattle.record_model.specs.StdValues.{file_name_of};
-ghost use Rattle.tree_model.specs.Trees.{is_long};
+ghost use Rattle.file_tree.specs.Trees.{is_long};
 ghost use Rattle.state_model.specs.Files.{only_base, named, form_link, attr_link, record_links, links_of};
 ghost use Rattle.volume_links.specs.Names.{long_links};
 
 use file_record::FileRec;
+use file_tree::{Link, SHORT};
 use host_base::{FileRef, Memory};
-use record_model::{Attr, FileNameValue, OwnForm, ValueFault};
+use record_model::{Attr, FILE_NAME, FileNameValue, OwnForm, ValueFault};
 use std::alloc::Global;
 use std_values::NamedValue;
-use tree_model::Link;
 use volume_map::{is_base_record, reference};
-
-/// The type of file names.
-pub const FILE_NAME: u32 = 0x30;
-
-const SHORT_NAMES: u8 = 2;
 
 /// The link of a file-name value of this file; none where the bytes are no such value.
 pub fn value_link(alloc: Global, child: FileRef, value: &[u8]) -> Result<Option<Link>, Memory>
@@ -55,7 +50,7 @@ pub fn push_long(links: &mut Vec<Link>, link: Option<Link>) -> Result<(), Memory
     ensures { OnOk result (links.new.items ≡ links.old.items ++ filter is_long (cons_option link [])) }
 {
     match link {
-        Some(link) if link.space != SHORT_NAMES => links.push(link).map_err(|_| Memory),
+        Some(link) if link.space != SHORT => links.push(link).map_err(|_| Memory),
         _ => Ok(()),
     }
 }

@@ -1,33 +1,30 @@
 //! Plain records, which are judged where they stand: base records with no attribute list and no
 //! index in clusters, that break none of the rules 1 to 8.
-ghost use Rattle.std.specs.Prelude.{◌≡◌, ◌==◌, ◌++◌, ◌≤◌, [], true, false, length, IfOk, IfSome, IsTrue};
+ghost use Rattle.std.specs.Prelude.{◌≡◌, ◌==◌, ◌&&◌, ◌++◌, ◌≤◌, [], true, false, not, length, is_some, IfOk, IfSome, IsTrue};
 ghost use Rattle.std.specs.List.{cons_option, filter};
-ghost use Rattle.record_model.specs.Values.{standard_information, file_name, is_file_name, has_lawful_value};
+ghost use Rattle.record_model.specs.Values.{is_file_name, has_lawful_value};
 ghost use Rattle.record_model.specs.Pairs.{runs_of};
 ghost use Rattle.record_model.specs.StdValues.{file_name_of};
-ghost use Rattle.record_model.specs.Records.{has_first, has_size, is_base, attribute_bytes, is_end_mark};
-ghost use Rattle.attr_codec.specs.Reading.{attr_seen};
-ghost use Rattle.tree_model.specs.Trees.{is_long};
+ghost use Rattle.record_model.specs.Records.{has_first, has_size, is_base, attribute_bytes, is_end_mark, cut, most_attributes};
+ghost use Rattle.record_model.specs.Constants.{standard_information, file_name};
+ghost use Rattle.attr_codec.specs.Reading.{attr_seen, attr_at};
+ghost use Rattle.file_tree.specs.Trees.{is_long};
 ghost use Rattle.state_model.specs.Files.{named, attr_link};
-ghost use Rattle.state_model.specs.Loads.{span, has_fitting_pairs};
-ghost use Rattle.volume_links.specs.Plain.{Grows, is_lawful, value_link, TakesPlain, ArePlain, IsPlain};
+ghost use Rattle.state_model.specs.Loads.{span, has_fitting_pairs, whole_record};
+ghost use Rattle.volume_links.specs.Plain.{Grows, is_lawful, value_link, may_follow, are_plain, is_plain, TakesPlain, ArePlain, IsPlain};
 
-use crate::names::{FILE_NAME, push_long, value_link};
+use crate::names::{push_long, value_link};
 use attr_codec::{AttrRef, Form, read};
 use disk_model::{u16_at, u32_at, u64_at};
+use file_tree::Link;
 use host_base::{FileRef, Memory};
-use record_model::{Sizes, StdInfo};
+use record_model::{
+    ATTRIBUTE_LIST, END_MARK, FILE_NAME, INDEX_ALLOCATION, MOST_ATTRIBUTES, STANDARD_INFORMATION,
+    Sizes, StdInfo,
+};
 use std::alloc::Global;
 use std_values::FixedValue;
-use tree_model::Link;
-use volume_map::{ATTRIBUTE_LIST, INDEX_ALLOCATION, pairs_fit};
-
-const END_MARK: u32 = 0xffff_ffff;
-
-const STANDARD_INFORMATION: u32 = 0x10;
-
-// An attribute has at least 0x18 bytes: 1,024 bytes have at most 42, and the end mark.
-const MOST_ATTRIBUTES: u32 = 43;
+use volume_map::pairs_fit;
 
 // Whether the first attribute begins at a multiple of 8 inside the used bytes.
 #[tactic(auto, unfolding(record_model::specs::Records::has_first))]
@@ -74,7 +71,7 @@ fn take_name(
     value: &[u8],
     links: &mut Vec<Link>,
 ) -> Result<bool, Memory>
-    ensures lawful { IfOk result (λ is_name. IsTrue is_name → is_file_name value.now ≡ true) }
+    ensures lawful { IfOk result (λ is_name. is_name ≡ is_file_name value.now) }
     ensures links { IfOk result (λ _. links.new.items ≡ links.old.items ++ filter is_long (cons_option (named child (file_name_of value.now)) [])) }
 {
     let link = value_link(alloc, child, value)?;
@@ -100,7 +97,7 @@ fn take_value(
     value: &[u8],
     links: &mut Vec<Link>,
 ) -> Result<bool, Memory>
-    ensures lawful { IfOk result (λ lawful. IsTrue lawful → is_lawful kind value.now ≡ true) }
+    ensures lawful { IfOk result (λ lawful. lawful ≡ is_lawful kind value.now) }
     ensures links { IfOk result (λ _. links.new.items ≡ links.old.items ++ filter is_long (cons_option (value_link child kind value.now) [])) }
 {
     if kind == FILE_NAME {
@@ -111,8 +108,7 @@ fn take_value(
 
 // Whether an attribute in clusters is lawful, and its mapping pairs fit.
 fn takes_pairs(alloc: Global, kind: u32, sizes: Sizes, pairs: &[u8]) -> Result<bool, Memory>
-    ensures lawful { IfOk result (λ plain. IsTrue plain → ((kind == standard_information) ≡ false) × ((kind == file_name) ≡ false)) }
-    ensures fits { IfOk result (λ plain. IsTrue plain → span sizes (runs_of sizes.first pairs.now) ≡ true) }
+    ensures { IfOk result (λ plain. plain ≡ (not (kind == standard_information) && not (kind == file_name) && span sizes (runs_of sizes.first pairs.now))) }
 {
     if kind == STANDARD_INFORMATION || kind == FILE_NAME {
         return Ok(false);
@@ -128,8 +124,7 @@ fn take_attr(
     attr: &AttrRef<'_>,
     links: &mut Vec<Link>,
 ) -> Result<bool, Memory>
-    ensures lawful { IfOk result (λ plain. IsTrue plain → has_lawful_value (attr_seen attr.now) ≡ true) }
-    ensures fits { IfOk result (λ plain. IsTrue plain → has_fitting_pairs (attr_seen attr.now) ≡ true) }
+    ensures lawful { IfOk result (λ plain. plain ≡ (has_lawful_value (attr_seen attr.now) && has_fitting_pairs (attr_seen attr.now))) }
     ensures links { IfOk result (λ _. links.new.items ≡ links.old.items ++ filter is_long (cons_option (attr_link child (attr_seen attr.now)) [])) }
 {
     match attr.form {
@@ -147,6 +142,7 @@ fn take_front(
     least: &mut u32,
     links: &mut Vec<Link>,
 ) -> Result<Option<usize>, Memory>
+    ensures exact { IfOk result (λ length. is_some length ≡ may_follow least.old (attr_at bytes.now)) }
     ensures front { IfOk result (λ length. IfSome length (λ n. TakesPlain child bytes.now n least.old least.new links.old.items links.new.items)) }
     ensures grows { IfOk result (λ _. Grows links.old.items links.new.items) }
 {
@@ -172,6 +168,7 @@ fn take_all(
     bytes: &[u8],
     links: &mut Vec<Link>,
 ) -> Result<bool, Memory>
+    ensures exact { IfOk result (λ plain. plain ≡ are_plain 0 (cut most_attributes bytes.now)) }
     ensures plain { IfOk result (λ plain. IsTrue plain → ArePlain child bytes.now links.old.items links.new.items) }
     ensures grows { IfOk result (λ _. Grows links.old.items links.new.items) }
 {
@@ -215,6 +212,7 @@ pub fn take_plain(
     links: &mut Vec<Link>,
 ) -> Result<bool, Memory>
     requires { length body.now ≡ 1024 }
+    ensures exact { IfOk result (λ plain. plain ≡ is_plain (whole_record body.now)) }
     ensures plain { IfOk result (λ plain. IsTrue plain → IsPlain number body.now links.old.items links.new.items) }
     ensures grows { IfOk result (λ _. Grows links.old.items links.new.items) }
 {

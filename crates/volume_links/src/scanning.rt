@@ -1,9 +1,9 @@
 //! One walk over the file table that keeps no record, but the long names of its files.
 ghost use Rattle.std.specs.Prelude.{◌≡◌, ◌+◌, ◌<◌, ◌≤◌, true, false, if◌then◌else◌, length, IfOk, IfSome, IsErrOf, IsTrue};
 ghost use Rattle.host_base.specs.Causes.{Rose, Counts};
-ghost use Rattle.record_model.specs.Values.{attribute_list};
+ghost use Rattle.record_model.specs.Constants.{attribute_list};
 ghost use Rattle.state_model.specs.Files.{is_base_record, has_type};
-ghost use Rattle.state_model.specs.Loads.{Free, Used, most_records, record_count, piece_in, piece_of, whole_record, table_piece, rule_refusal, first_some};
+ghost use Rattle.state_model.specs.Loads.{Free, Used, most_records, record_count, slot_in, slot_of, whole_record, table_slot, rule_refusal, first_some};
 ghost use Rattle.stream_map.specs.Runs.{AreSmall};
 ghost use Rattle.volume_map.specs.Errors.{map_cause, NeverRefused};
 ghost use Rattle.volume_links.specs.Scans.{IsUnread, IsSeen, Judges, ScannedBelow, ScansOrFails, ScansAll};
@@ -14,14 +14,13 @@ use crate::plain::take_plain;
 use block_view::View;
 use disk_model::{BlockKind, Body};
 use file_record::{FileRec, RecFault};
+use file_tree::Link;
 use host_base::Memory;
+use record_model::ATTRIBUTE_LIST;
 use state_model::{Extents, MapRefusal};
 use std::alloc::Global;
 use stream_map::block_at;
-use tree_model::Link;
-use volume_map::{
-    ATTRIBUTE_LIST, MapFault, cuts_index, has_type, is_base_record, is_used, or_rule, whole_record,
-};
+use volume_map::{MapFault, cuts_index, has_type, is_base_record, is_used, or_rule, whole_record};
 
 /// What a scan found of the first records of a table: the long names of the files among them, none
 /// of which has an attribute list, and what refuses the first that breaks a rule.
@@ -106,7 +105,7 @@ fn take_whole(
     requires some { 0 < per }
     requires few { per ≤ 8 }
     requires body { length body.now ≡ 1024 }
-    ensures { IfOk result (IsSeen per number (piece_in (whole_record body.now)) links.old.items links.new.items) }
+    ensures { IfOk result (IsSeen per number (slot_in (whole_record body.now)) links.old.items links.new.items) }
 {
     match whole_record(alloc, body) {
         Ok(file) => take_file(alloc, per, number, &file, links),
@@ -125,7 +124,7 @@ fn take_used(
     requires some { 0 < per }
     requires few { per ≤ 8 }
     requires body { length body.now ≡ 1024 }
-    ensures { IfOk result (IsSeen per number (piece_in (whole_record body.now)) links.old.items links.new.items) }
+    ensures { IfOk result (IsSeen per number (slot_in (whole_record body.now)) links.old.items links.new.items) }
 {
     let before = links.len();
     if take_plain(alloc, number, body, links)? {
@@ -136,7 +135,7 @@ fn take_used(
 }
 
 // Takes the body of a file record.
-#[tactic(auto, unfolding(state_model::specs::Loads::piece_of))]
+#[tactic(auto, unfolding(state_model::specs::Loads::slot_of))]
 fn take_body(
     alloc: Global,
     per: u64,
@@ -147,7 +146,7 @@ fn take_body(
     requires some { 0 < per }
     requires few { per ≤ 8 }
     requires body { length body.now.bytes ≡ 1024 }
-    ensures { IfOk result (IsSeen per number (piece_of body.now) links.old.items links.new.items) }
+    ensures { IfOk result (IsSeen per number (slot_of body.now) links.old.items links.new.items) }
 {
     if body.torn() {
         return Ok(Seen::Torn);
@@ -159,7 +158,7 @@ fn take_body(
 }
 
 // Reads the body of the record of that number; whether there is one.
-#[tactic(auto, unfolding(state_model::specs::Loads::table_piece))]
+#[tactic(auto, unfolding(state_model::specs::Loads::table_slot))]
 fn read_body<V: View>(
     view: &mut V,
     per: u64,
@@ -171,7 +170,7 @@ fn read_body<V: View>(
     requires few { per ≤ 8 }
     requires small { AreSmall extents.now.runs }
     requires number { number < most_records }
-    ensures piece { IfSome (V.content view.old) (λ c. IfOk result (λ there. table_piece c per extents.now number ≡ (if there then piece_of body.new else Free))) }
+    ensures slot { IfSome (V.content view.old) (λ c. IfOk result (λ there. table_slot c per extents.now number ≡ (if there then slot_of body.new else Free))) }
     ensures size { IfOk result (λ there. IsTrue there → length body.new.bytes ≡ 1024) }
     ensures kept { KeepsView V.content V.kept V.faults view.old view.new }
     ensures fault { IsErrOf result MapFault.View → Rose (V.faults view.old) (V.faults view.new) }
@@ -204,7 +203,7 @@ fn take_record<V: View>(
     requires few { per ≤ 8 }
     requires small { AreSmall extents.now.runs }
     requires number { number < most_records }
-    ensures seen { IfSome (V.content view.old) (λ c. IfOk result (IsSeen per number (table_piece c per extents.now number) links.old.items links.new.items)) }
+    ensures seen { IfSome (V.content view.old) (λ c. IfOk result (IsSeen per number (table_slot c per extents.now number) links.old.items links.new.items)) }
     ensures kept { KeepsView V.content V.kept V.faults view.old view.new }
     ensures fault { IsErrOf result MapFault.View → Rose (V.faults view.old) (V.faults view.new) }
     ensures counted { Counts map_cause (V.faults view.old) (V.faults view.new) result }
@@ -270,7 +269,7 @@ fn step<V: View>(
     requires few { per ≤ 8 }
     requires small { AreSmall extents.now.runs }
     requires number { number < most_records }
-    ensures answer { IfSome (V.content view.old) (λ c. ScannedBelow per cut (table_piece c per extents.now) number scan.old → ScansOrFails per cut (table_piece c per extents.now) (number + 1) result scan.new) }
+    ensures answer { IfSome (V.content view.old) (λ c. ScannedBelow per cut (table_slot c per extents.now) number scan.old → ScansOrFails per cut (table_slot c per extents.now) (number + 1) result scan.new) }
     ensures kept { KeepsView V.content V.kept V.faults view.old view.new }
     ensures fault { IsErrOf result MapFault.View → Rose (V.faults view.old) (V.faults view.new) }
     ensures counted { Counts map_cause (V.faults view.old) (V.faults view.new) result }
@@ -295,7 +294,7 @@ pub fn scan_table<V: View>(
     requires few { per ≤ 8 }
     requires small { AreSmall extents.now.runs }
     requires records { record_count extents.now ≤ most_records }
-    ensures answer { IfSome (V.content view.old) (λ c. ScansAll per cut (table_piece c per extents.now) (record_count extents.now) result) }
+    ensures answer { IfSome (V.content view.old) (λ c. ScansAll per cut (table_slot c per extents.now) (record_count extents.now) result) }
     ensures kept { KeepsView V.content V.kept V.faults view.old view.new }
     ensures fault { IsErrOf result MapFault.View → Rose (V.faults view.old) (V.faults view.new) }
     ensures counted { Counts map_cause (V.faults view.old) (V.faults view.new) result }

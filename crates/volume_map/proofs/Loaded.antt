@@ -15,7 +15,7 @@ use Rattle.state_model.specs.declared.geometry.Geometry.{Geometry}
 use Rattle.state_model.specs.declared.stream.Extents.{Extents}
 use Rattle.state_model.specs.Files.{Table, file_at}
 use Rattle.state_model.specs.Streams.{has_cut_block}
-use Rattle.state_model.specs.Loads.{Piece, table_piece, table_in, records_of, used_record, broken_rule, record_count, no_entries, named_attrs, all_attrs, whole_file, joined_file, has_held_list, breaks_9, breaks_10, breaks_list, cuts_index, or_rule, rule_at, torn_refusal, rule_refusal, first_of, first_some, unless, files_of, files_in, table_of, loaded}
+use Rattle.state_model.specs.Loads.{Slot, table_slot, table_in, records_of, used_record, broken_rule, record_count, no_entries, named_attrs, all_attrs, whole_file, joined_file, has_held_list, breaks_9, breaks_10, breaks_list, cuts_index, or_rule, rule_at, torn_refusal, rule_refusal, first_of, first_some, unless, files_of, files_in, table_of, loaded}
 use Rattle.volume_map.specs.declared.fault.MapFault.{MapFault}
 use Rattle.volume_map.specs.declared.fault.MapFault.TheVariants as faults
 use Rattle.volume_map.specs.declared.walk.Walk.{Walk}
@@ -62,22 +62,22 @@ file_is : (c : Content) (per : ℕ) (p : Table) (count n : ℕ) → n < count �
 unfolding joined_files
 file_is c per p count n lt = get_or-map-range_with_len (joined_at p (extras_of (lists_of c per p count) p count count)) 0 count n n None lt (omega arith) ∙ joined_is c per p count n lt
 
-rule_there : (piece : ℕ → Piece) (count n : ℕ) → n < count → slice_index_or (rules_of piece count) n None ≡ broken_rule (piece n)
+rule_there : (slot : ℕ → Slot) (count n : ℕ) → n < count → slice_index_or (rules_of slot count) n None ≡ broken_rule (slot n)
 unfolding rules_of
-rule_there piece count n lt = get_or-map-range_with_len (λ k. broken_rule (piece k)) 0 count n n None lt (omega arith)
+rule_there slot count n lt = get_or-map-range_with_len (λ k. broken_rule (slot k)) 0 count n n None lt (omega arith)
 
 or_same : (a b : Option ℕ) (n d e : Bool) (f g : Bool) → a ≡ b → d ≡ e → f ≡ g → or_rule a d f ≡ or_rule b e g
 or_same a b n d e f g x y z = ap (λ (r : Option ℕ). or_rule r d f) x ∙ ap (λ (t : Bool). or_rule b t f) y ∙ ap (or_rule b e) z
 
 rule_is : (c : Content) (per : ℕ) (e : Extents) (n : ℕ) → n < record_count e
     → let count = record_count e in
-    let p = table_in (records_of (table_piece c per e) count) in
-    rule_by per (has_cut_block per FileRec count e.runs) n (rules_of (table_piece c per e) count) (tens_of p (lists_of c per p count) count) (joined_files p (extras_of (lists_of c per p count) p count count) count) ≡ rule_at c per e n
+    let p = table_in (records_of (table_slot c per e) count) in
+    rule_by per (has_cut_block per FileRec count e.runs) n (rules_of (table_slot c per e) count) (tens_of p (lists_of c per p count) count) (joined_files p (extras_of (lists_of c per p count) p count count) count) ≡ rule_at c per e n
 unfolding rule_at breaks_9
 rule_is c per e n lt =
     let count = record_count e in
-    let p : Table = table_in (records_of (table_piece c per e) count) in
-    or_same _ _ true _ _ _ _ (rule_there (table_piece c per e) count n lt)
+    let p : Table = table_in (records_of (table_slot c per e) count) in
+    or_same _ _ true _ _ _ _ (rule_there (table_slot c per e) count n lt)
     (ap (λ (o : Option Record). ((n == 0) && has_cut_block per FileRec count e.runs) || cuts_index per o) (file_is c per p count n lt)) (ten_is c per p count n lt)
 
 -- ---- over all numbers
@@ -97,51 +97,51 @@ files_are c per p count =
 -- what is judged of the walk and the lists
 abbrev meant : Content → ℕ → Extents → Result Files MapRefusal
 meant c per e =
-    unless (first_of (λ n. rule_refusal n (rule_at c per e n)) (record_count e)) >>= λ _. Ok (files_of c per (table_in (records_of (table_piece c per e) (record_count e))) (record_count e))
+    unless (first_of (λ n. rule_refusal n (rule_at c per e n)) (record_count e)) >>= λ _. Ok (files_of c per (table_in (records_of (table_slot c per e) (record_count e))) (record_count e))
 
-count_is : (c : Content) (per : ℕ) (e : Extents) → length (records_of (table_piece c per e) (record_count e)) ≡ record_count e
+count_is : (c : Content) (per : ℕ) (e : Extents) → length (records_of (table_slot c per e) (record_count e)) ≡ record_count e
 unfolding records_of
-count_is c per e = length-map-range_with_len (λ n. used_record (table_piece c per e n)) 0 (record_count e)
+count_is c per e = length-map-range_with_len (λ n. used_record (table_slot c per e n)) 0 (record_count e)
 
 judged_by : (c : Content) (per : ℕ) (e : Extents) (count : ℕ) → count ≡ record_count e
-    → let records = records_of (table_piece c per e) (record_count e) in
+    → let records = records_of (table_slot c per e) (record_count e) in
     let p = table_in records in
     let lists = lists_of c per p count in
     let files = joined_files p (extras_of lists p count count) count in
-    (unless (first_of (λ n. rule_refusal n (rule_by per (has_cut_block per FileRec count e.runs) n (rules_of (table_piece c per e) (record_count e)) (tens_of p lists count) files)) count) >>= λ _. Ok files) ≡ meant c per e
+    (unless (first_of (λ n. rule_refusal n (rule_by per (has_cut_block per FileRec count e.runs) n (rules_of (table_slot c per e) (record_count e)) (tens_of p lists count) files)) count) >>= λ _. Ok files) ≡ meant c per e
 judged_by c per e count is =
-    let records : Files = records_of (table_piece c per e) (record_count e) in
+    let records : Files = records_of (table_slot c per e) (record_count e) in
     let p : Table = table_in records in
     let files : ℕ → Files = λ k. joined_files p (extras_of (lists_of c per p k) p k k) k in
-    ap (λ (k : ℕ). unless (first_of (λ n. rule_refusal n (rule_by per (has_cut_block per FileRec k e.runs) n (rules_of (table_piece c per e) (record_count e)) (tens_of p (lists_of c per p k) k) (files k))) k) >>= λ _. okay (files k)) is
+    ap (λ (k : ℕ). unless (first_of (λ n. rule_refusal n (rule_by per (has_cut_block per FileRec k e.runs) n (rules_of (table_slot c per e) (record_count e)) (tens_of p (lists_of c per p k) k) (files k))) k) >>= λ _. okay (files k)) is
     ∙ ap (λ (o : Option MapRefusal). unless o >>= λ _. okay (files (record_count e))) (first_same _ (λ n. rule_refusal n (rule_at c per e n)) (record_count e) (λ n lt. ap (rule_refusal n) (rule_is c per e n lt)))
     ∙ ap (λ (fs : Files). unless (first_of (λ n. rule_refusal n (rule_at c per e n)) (record_count e)) >>= λ _. okay fs) (files_are c per p (record_count e))
 
-judged_is : (c : Content) (per : ℕ) (e : Extents) (walk : Walk) (lists : List ReadEntries) → WalkedBelow (table_piece c per e) (record_count e) walk → lists ≡ lists_of c per (table_in walk.records.items) (length walk.records.items)
+judged_is : (c : Content) (per : ℕ) (e : Extents) (walk : Walk) (lists : List ReadEntries) → WalkedBelow (table_slot c per e) (record_count e) walk → lists ≡ lists_of c per (table_in walk.records.items) (length walk.records.items)
     → judged_files per e walk.records.items walk.rules.items lists ≡ meant c per e
 unfolding judged_files
 judged_is c per e walk lists walked read =
-    rw (read, walked.rules, walked.records) (judged_by c per e (length (records_of (table_piece c per e) (record_count e))) (count_is c per e))
+    rw (read, walked.rules, walked.records) (judged_by c per e (length (records_of (table_slot c per e) (record_count e))) (count_is c per e))
 
-files_by : (c : Content) (per : ℕ) (e : Extents) (walk : Walk) → WalkedBelow (table_piece c per e) (record_count e) walk → files_in c per e ≡ meant c per e
+files_by : (c : Content) (per : ℕ) (e : Extents) (walk : Walk) → WalkedBelow (table_slot c per e) (record_count e) walk → files_in c per e ≡ meant c per e
 unfolding files_in
 files_by c per e walk walked = rw walked.whole refl
 
 -- the answer by the walk and the lists
 pub answered : {X : Type 0} (known : Option Content) (view : X → Files) (per : ℕ) (e : Extents) (walk : Walk) (lists : List ReadEntries) (result : Result X MapFault)
-    → IfSome known (λ c. WalkedBelow (table_piece c per e) (record_count e) walk) → IfSome known (λ c. lists ≡ lists_of c per (table_in walk.records.items) (length walk.records.items))
+    → IfSome known (λ c. WalkedBelow (table_slot c per e) (record_count e) walk) → IfSome known (λ c. lists ≡ lists_of c per (table_in walk.records.items) (length walk.records.items))
     → Gives view map_cause result (judged_files per e walk.records.items walk.rules.items lists) → IfSome known (λ c. GivesOrFails view map_cause result (files_in c per e))
 answered known view per e walk lists result walked read h =
     both known _ _ _ (λ c w r. rw (files_by c per e walk w, ← judged_is c per e walk lists w r) (gives_or_fails view result (judged_files per e walk.records.items walk.rules.items lists) h)) walked read
 
 -- a walk that fails
-walk_fails : (c : Content) (per : ℕ) (e : Extents) (fault : MapFault) → ExplainsOrFails (map_cause fault) (unless (first_of (λ n. torn_refusal n (table_piece c per e n)) (record_count e))) → ExplainsOrFails (map_cause fault) (files_in c per e)
+walk_fails : (c : Content) (per : ℕ) (e : Extents) (fault : MapFault) → ExplainsOrFails (map_cause fault) (unless (first_of (λ n. torn_refusal n (table_slot c per e n)) (record_count e))) → ExplainsOrFails (map_cause fault) (files_in c per e)
 unfolding files_in
 walk_fails c per e (faults.Refused r) h = rw h refl
 walk_fails c per e faults.View h = tt
 walk_fails c per e faults.Memory h = tt
 
-pub unwalked : (known : Option Content) (per : ℕ) (e : Extents) (fault : MapFault) → IfSome known (λ c. WalksAll (table_piece c per e) (record_count e) (Err fault)) → IfSome known (λ c. ExplainsOrFails (map_cause fault) (files_in c per e))
+pub unwalked : (known : Option Content) (per : ℕ) (e : Extents) (fault : MapFault) → IfSome known (λ c. WalksAll (table_slot c per e) (record_count e) (Err fault)) → IfSome known (λ c. ExplainsOrFails (map_cause fault) (files_in c per e))
 unwalked known per e fault h = one known _ _ (λ c w. walk_fails c per e fault w) h
 
 pub never : {Y : Type 0} (X : Type 0) (e : MapFault) (meant : Result Y MapRefusal) → NeverRefused {X = X} (Err e) → ExplainsOrFails (map_cause e) meant
@@ -200,7 +200,7 @@ unfolding tens_of
 tens_length p lists count = length-map-range_with_len (ten_at p lists) 0 count
 
 -- the rules are as many as the records
-pub rules_counted : (piece : ℕ → Piece) (count : ℕ) (walk : Walk) → WalkedBelow piece count walk → length walk.rules.items ≡ length walk.records.items
+pub rules_counted : (slot : ℕ → Slot) (count : ℕ) (walk : Walk) → WalkedBelow slot count walk → length walk.rules.items ≡ length walk.records.items
 unfolding rules_of records_of
-rules_counted piece count walk walked =
-    ap (λ (xs : List (Option ℕ)). length xs) walked.rules ∙ length-map-range_with_len (λ n. broken_rule (piece n)) 0 count ∙ sym (ap (λ (xs : Files). length xs) walked.records ∙ length-map-range_with_len (λ n. used_record (piece n)) 0 count)
+rules_counted slot count walk walked =
+    ap (λ (xs : List (Option ℕ)). length xs) walked.rules ∙ length-map-range_with_len (λ n. broken_rule (slot n)) 0 count ∙ sym (ap (λ (xs : Files). length xs) walked.records ∙ length-map-range_with_len (λ n. used_record (slot n)) 0 count)

@@ -14,7 +14,7 @@ use Rattle.state_model.specs.declared.stream.Extents.{Extents}
 use Rattle.state_model.specs.declared.geometry.MapRefusal.{MapRefusal}
 use Rattle.state_model.specs.declared.geometry.MapRefusal.TheVariants.{BadRecord}
 use Rattle.state_model.specs.Streams.{block_at}
-use Rattle.state_model.specs.Loads.{Piece, first_of, torn_refusal, unless, records_of, used_record, broken_rule, rule_refusal, piece_by, boot_block, judged, extents_in, table_of}
+use Rattle.state_model.specs.Loads.{Slot, first_of, torn_refusal, unless, records_of, used_record, broken_rule, rule_refusal, slot_by, boot_block, judged, extents_in, table_of}
 use Rattle.volume_map.specs.declared.fault.MapFault.{MapFault}
 use Rattle.volume_map.specs.declared.fault.MapFault.TheVariants as faults
 use Rattle.volume_map.specs.declared.walk.Walk.{Walk}
@@ -67,22 +67,22 @@ goes_on known view x result f g first second = both known _ _ _ (λ c e h. rw e 
 -- ---- record 0
 
 -- the file table by what record 0 is
-table_by : (c : Content) (g : Geometry) (piece : Piece) → okay (piece_by record_at (c (boot_block g 0))) ≡ okay piece → table_of c g ≡ (judged 0 piece >>= extents_in)
+table_by : (c : Content) (g : Geometry) (slot : Slot) → okay (slot_by record_at (c (boot_block g 0))) ≡ okay slot → table_of c g ≡ (judged 0 slot >>= extents_in)
 unfolding table_of
-table_by c g piece is = ap (λ p. judged 0 p >>= extents_in) (okay_is (piece_by record_at (c (boot_block g 0))) piece is)
+table_by c g slot is = ap (λ p. judged 0 p >>= extents_in) (okay_is (slot_by record_at (c (boot_block g 0))) slot is)
 
-pub table_refused : {X : Type 0} (known : Option Content) (view : X → Extents) (g : Geometry) (piece : Piece) (e : MapFault)
-    → IfSome known (λ c. okay (piece_by record_at (c (boot_block g 0))) ≡ okay piece) → Explains (map_cause e) (judged 0 piece) → IfSome known (λ c. GivesOrFails {X = X} view map_cause (Err e) (table_of c g))
-table_refused known view g piece e is h = one known _ _ (λ c p. rw (table_by c g piece p) (later_error e (judged 0 piece) extents_in h)) is
+pub table_refused : {X : Type 0} (known : Option Content) (view : X → Extents) (g : Geometry) (slot : Slot) (e : MapFault)
+    → IfSome known (λ c. okay (slot_by record_at (c (boot_block g 0))) ≡ okay slot) → Explains (map_cause e) (judged 0 slot) → IfSome known (λ c. GivesOrFails {X = X} view map_cause (Err e) (table_of c g))
+table_refused known view g slot e is h = one known _ _ (λ c p. rw (table_by c g slot p) (later_error e (judged 0 slot) extents_in h)) is
 
-pub table_goes_on : {X : Type 0} (known : Option Content) (view : X → Extents) (g : Geometry) (piece : Piece) (file : Option Record) (result : Result X MapFault)
-    → IfSome known (λ c. okay (piece_by record_at (c (boot_block g 0))) ≡ okay piece) → judged 0 piece ≡ Ok file → Gives view map_cause result (extents_in file) → IfSome known (λ c. GivesOrFails view map_cause result (table_of c g))
-table_goes_on known view g piece file result is first h = one known _ _ (λ c p. rw (table_by c g piece p, first) (gives_or_fails view result (extents_in file) h)) is
+pub table_goes_on : {X : Type 0} (known : Option Content) (view : X → Extents) (g : Geometry) (slot : Slot) (file : Option Record) (result : Result X MapFault)
+    → IfSome known (λ c. okay (slot_by record_at (c (boot_block g 0))) ≡ okay slot) → judged 0 slot ≡ Ok file → Gives view map_cause result (extents_in file) → IfSome known (λ c. GivesOrFails view map_cause result (table_of c g))
+table_goes_on known view g slot file result is first h = one known _ _ (λ c p. rw (table_by c g slot p, first) (gives_or_fails view result (extents_in file) h)) is
 
 -- a record that is read alone, by what it is
-pub alone : {X : Type 0} (known : Option Content) (view : X → Option Record) (at : Content → Piece) (n : ℕ) (piece : Piece) (result : Result X MapFault)
-    → IfSome known (λ c. okay (at c) ≡ okay piece) → Gives view map_cause result (judged n piece) → IfSome known (λ c. GivesOrFails view map_cause result (judged n (at c)))
-alone known view at n piece result is h = one known _ _ (λ c p. rw (okay_is (at c) piece p) (gives_or_fails view result (judged n piece) h)) is
+pub alone : {X : Type 0} (known : Option Content) (view : X → Option Record) (at : Content → Slot) (n : ℕ) (slot : Slot) (result : Result X MapFault)
+    → IfSome known (λ c. okay (at c) ≡ okay slot) → Gives view map_cause result (judged n slot) → IfSome known (λ c. GivesOrFails view map_cause result (judged n (at c)))
+alone known view at n slot result is h = one known _ _ (λ c p. rw (okay_is (at c) slot p) (gives_or_fails view result (judged n slot) h)) is
 
 -- ---- blocks
 
@@ -119,24 +119,24 @@ torn_error : (at : ℕ → Option MapRefusal) (n : ℕ) (e : MapFault) → first
 unfolding first_of
 torn_error at n e none h = rw (suc_is n, none) (or_fails e (unless (at n)) h)
 
-pub first_step : (piece : ℕ → Piece) (n : ℕ) (p : Piece) (result : Result (Unit {0}) MapFault) (old new : Walk) → piece n ≡ p → WalkedBelow piece n old
-    → Gives (λ x. x) map_cause result (unless (torn_refusal n p)) → OnOk result (Notes p old new) → WalksOrFails piece (n + 1) result new
+pub first_step : (slot : ℕ → Slot) (n : ℕ) (p : Slot) (result : Result (Unit {0}) MapFault) (old new : Walk) → slot n ≡ p → WalkedBelow slot n old
+    → Gives (λ x. x) map_cause result (unless (torn_refusal n p)) → OnOk result (Notes p old new) → WalksOrFails slot (n + 1) result new
 unfolding records_of rules_of first_of
-first_step piece n p (Ok x) old new is below given noted = record {
+first_step slot n p (Ok x) old new is below given noted = record {
   whole = rw (suc_is n, below.whole, is) (not_torn (torn_refusal n p) x given);
-  records = noted.records ∙ rw (below.records, ← is) (sym (map-range_with_len_more (λ k. used_record (piece k)) 0 n n (omega arith)));
-  rules = noted.rules ∙ rw (below.rules, ← is) (sym (map-range_with_len_more (λ k. broken_rule (piece k)) 0 n n (omega arith)));
+  records = noted.records ∙ rw (below.records, ← is) (sym (map-range_with_len_more (λ k. used_record (slot k)) 0 n n (omega arith)));
+  rules = noted.rules ∙ rw (below.rules, ← is) (sym (map-range_with_len_more (λ k. broken_rule (slot k)) 0 n n (omega arith)));
 }
-first_step piece n p (Err e) old new is below given noted = torn_error (λ k. torn_refusal k (piece k)) n e below.whole (rw is given)
+first_step slot n p (Err e) old new is below given noted = torn_error (λ k. torn_refusal k (slot k)) n e below.whole (rw is given)
 
-pub walks_on : (known : Option Content) (piece : Content → ℕ → Piece) (n : ℕ) (p : Piece) (result : Result (Unit {0}) MapFault) (old new : Walk) → IfSome known (λ c. okay (piece c n) ≡ okay p)
-    → Gives (λ x. x) map_cause result (unless (torn_refusal n p)) → OnOk result (Notes p old new) → IfSome known (λ c. WalkedBelow (piece c) n old → WalksOrFails (piece c) (n + 1) result new)
-walks_on known piece n p result old new is given noted = one known _ _ (λ c e. λ below. first_step (piece c) n p result old new (okay_is (piece c n) p e) below given noted) is
+pub walks_on : (known : Option Content) (slot : Content → ℕ → Slot) (n : ℕ) (p : Slot) (result : Result (Unit {0}) MapFault) (old new : Walk) → IfSome known (λ c. okay (slot c n) ≡ okay p)
+    → Gives (λ x. x) map_cause result (unless (torn_refusal n p)) → OnOk result (Notes p old new) → IfSome known (λ c. WalkedBelow (slot c) n old → WalksOrFails (slot c) (n + 1) result new)
+walks_on known slot n p result old new is given noted = one known _ _ (λ c e. λ below. first_step (slot c) n p result old new (okay_is (slot c n) p e) below given noted) is
 
 -- nothing was read yet
-pub none_read : (piece : ℕ → Piece) (walk : Walk) → walk.records.items ≡ [] → walk.rules.items ≡ [] → WalkedBelow piece 0 walk
+pub none_read : (slot : ℕ → Slot) (walk : Walk) → walk.records.items ≡ [] → walk.rules.items ≡ [] → WalkedBelow slot 0 walk
 unfolding records_of rules_of first_of
-none_read piece walk records rules = record { whole = refl; records = records; rules = rules }
+none_read slot walk records rules = record { whole = refl; records = records; rules = rules }
 
 refused_is : (o : Option MapRefusal) (r : MapRefusal) → unless o ≡ Err r → o ≡ Some r
 refused_is None r h = absurd cc
@@ -154,19 +154,19 @@ refused_more faults.View at k count le h = tt
 refused_more faults.Memory at k count le h = tt
 
 -- a record that is torn refuses the whole
-pub walk_refused : (piece : ℕ → Piece) (n count : ℕ) (e : MapFault) (walk : Walk) → n < count → WalksOrFails piece (n + 1) (Err e) walk → ExplainsOrFails (map_cause e) (unless (first_of (λ k. torn_refusal k (piece k)) count))
-walk_refused piece n count e walk lt h = refused_more e (λ k. torn_refusal k (piece k)) (n + 1) count (omega arith) h
+pub walk_refused : (slot : ℕ → Slot) (n count : ℕ) (e : MapFault) (walk : Walk) → n < count → WalksOrFails slot (n + 1) (Err e) walk → ExplainsOrFails (map_cause e) (unless (first_of (λ k. torn_refusal k (slot k)) count))
+walk_refused slot n count e walk lt h = refused_more e (λ k. torn_refusal k (slot k)) (n + 1) count (omega arith) h
 
-pub walk_ends : (known : Option Content) (piece : Content → ℕ → Piece) (n count : ℕ) (e : MapFault) (old new : Walk) → n < count → IfSome known (λ c. WalkedBelow (piece c) n old)
-    → IfSome known (λ c. WalkedBelow (piece c) n old → WalksOrFails (piece c) (n + 1) (Err e) new) → IfSome known (λ c. WalksAll (piece c) count (Err e))
-walk_ends known piece n count e old new lt below next = both known _ _ _ (λ c b f. walk_refused (piece c) n count e new lt (f b)) below next
+pub walk_ends : (known : Option Content) (slot : Content → ℕ → Slot) (n count : ℕ) (e : MapFault) (old new : Walk) → n < count → IfSome known (λ c. WalkedBelow (slot c) n old)
+    → IfSome known (λ c. WalkedBelow (slot c) n old → WalksOrFails (slot c) (n + 1) (Err e) new) → IfSome known (λ c. WalksAll (slot c) count (Err e))
+walk_ends known slot n count e old new lt below next = both known _ _ _ (λ c b f. walk_refused (slot c) n count e new lt (f b)) below next
 
-pub walk_more : (known : Option Content) (piece : Content → ℕ → Piece) (n : ℕ) (x : Unit {0}) (old new : Walk) → IfSome known (λ c. WalkedBelow (piece c) n old)
-    → IfSome known (λ c. WalkedBelow (piece c) n old → WalksOrFails (piece c) (n + 1) (Ok x) new) → IfSome known (λ c. WalkedBelow (piece c) (n + 1) new)
-walk_more known piece n x old new below next = both known _ _ _ (λ c b f. f b) below next
+pub walk_more : (known : Option Content) (slot : Content → ℕ → Slot) (n : ℕ) (x : Unit {0}) (old new : Walk) → IfSome known (λ c. WalkedBelow (slot c) n old)
+    → IfSome known (λ c. WalkedBelow (slot c) n old → WalksOrFails (slot c) (n + 1) (Ok x) new) → IfSome known (λ c. WalkedBelow (slot c) (n + 1) new)
+walk_more known slot n x old new below next = both known _ _ _ (λ c b f. f b) below next
 
-pub walk_begins : (known : Option Content) (piece : Content → ℕ → Piece) (walk : Walk) → walk.records.items ≡ [] → walk.rules.items ≡ [] → IfSome known (λ c. WalkedBelow (piece c) 0 walk)
-walk_begins known piece walk records rules = always known _ (λ c. none_read (piece c) walk records rules)
+pub walk_begins : (known : Option Content) (slot : Content → ℕ → Slot) (walk : Walk) → walk.records.items ≡ [] → walk.rules.items ≡ [] → IfSome known (λ c. WalkedBelow (slot c) 0 walk)
+walk_begins known slot walk records rules = always known _ (λ c. none_read (slot c) walk records rules)
 
 -- ---- rules
 

@@ -1,5 +1,5 @@
 pub mod Errors
-pub mod Pieces
+pub mod Slots
 pub mod Stages
 pub mod Lists
 pub mod Maps

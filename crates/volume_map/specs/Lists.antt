@@ -10,10 +10,10 @@ use Rattle.record_model.specs.declared.list_entry.ListEntry.{ListEntry}
 use Rattle.record_model.specs.ListEntries.{ReadEntries, list_entries}
 use Rattle.record_model.specs.Records.{Record}
 use Rattle.state_model.specs.Files.{Table, file_at, reference}
-use Rattle.state_model.specs.Rules.{same_reference}
 use Rattle.state_model.specs.Streams.{has_cut_block}
 use Rattle.state_model.specs.Loads.{no_entries, entries_of, holds_all, named_attrs, is_named_in, cuts_index, or_rule, table_in, unless, first_of, rule_refusal}
 use Rattle.host_base.specs.Answers.{◌>>=◌}
+use Rattle.host_base.specs.FileRefs.{same_reference}
 use Rattle.state_model.specs.declared.geometry.MapRefusal.{MapRefusal}
 use Rattle.state_model.specs.declared.stream.Extents.{Extents}
 use Rattle.volume_map.specs.declared.list_read.ListRead.{ListRead}

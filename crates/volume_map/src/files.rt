@@ -2,7 +2,6 @@
 ghost use Rattle.std.specs.Prelude.{◌≡◌};
 ghost use Rattle.std.specs.Option.{option_copied};
 ghost use Rattle.state_model.specs.Files.{is_base_record, only_base, file_at, reference};
-ghost use Rattle.state_model.specs.Rules.{same_reference};
 ghost use Rattle.state_model.specs.Loads.{table_in};
 
 use file_record::FileRec;
@@ -45,13 +44,6 @@ pub fn file_at(records: &[Option<FileRec>], number: u64) -> Option<&FileRec>
         Some(record) => only_base(record),
         None => None,
     }
-}
-
-/// Whether two references are of one file.
-pub fn is_same_reference(a: FileRef, b: FileRef) -> bool
-    ensures { result ≡ same_reference a b }
-{
-    a.number == b.number && a.seq == b.seq
 }
 
 /// The reference of a record.

@@ -2,24 +2,16 @@
 ghost use Rattle.std.specs.Prelude.{◌≡◌, ◌<◌, map, length, IfOk};
 ghost use Rattle.std.specs.List.{list_all, list_any};
 ghost use Rattle.state_model.specs.Files.{file_at};
-ghost use Rattle.state_model.specs.Streams.{first_vcn};
 ghost use Rattle.state_model.specs.Loads.{names_attr, belongs_to, holds_named, is_held, holds_all, table_in};
 ghost use Rattle.volume_map.specs.Lists.{read_of, breaks_by, ten_at, tens_of};
 
-use crate::files::{file_at, is_same_reference, record_at, reference};
+use crate::files::{file_at, record_at, reference};
 use crate::list_read::ListRead;
 use file_record::FileRec;
-use record_model::{Attr, ListEntry, OwnForm};
+use host_base::is_same_reference;
+use record_model::{Attr, ListEntry};
 use std::alloc::{AllocError, Global};
-
-fn first_vcn(attr: &Attr) -> u64
-    ensures { result ≡ first_vcn attr.now }
-{
-    match &attr.form {
-        OwnForm::Resident { .. } => 0,
-        OwnForm::Mapped { sizes, .. } => sizes.first,
-    }
-}
+use stream_map::first_vcn;
 
 /// Whether the entry names the attribute by type, name, id and first VCN.
 pub fn names_attr(entry: &ListEntry, attr: &Attr) -> bool

@@ -1,7 +1,6 @@
 //! The least rule that each record breaks.
 ghost use Rattle.std.specs.Prelude.{◌≡◌, ◌==◌, ◌<◌, ◌≤◌, ℕ, length, IfOk, slice_index_or, Some, None, false};
 ghost use Rattle.host_base.specs.Answers.{Gives};
-ghost use Rattle.state_model.specs.Indexes.{names_index};
 ghost use Rattle.state_model.specs.Streams.{has_cut_block, stream_of};
 ghost use Rattle.state_model.specs.Files.{is_directory_record};
 ghost use Rattle.state_model.specs.Loads.{cuts_index, has_cut_index_block, or_rule, rule_refusal, first_of, unless};
@@ -12,16 +11,10 @@ use crate::fault::MapFault;
 use disk_model::BlockKind;
 use file_record::FileRec;
 use host_base::Memory;
-use record_model::RecordFlags;
+use record_model::{INDEX_ALLOCATION, NAMES_INDEX, RecordFlags};
 use state_model::{MapRefusal, Stream};
 use std::alloc::Global;
 use stream_map::{has_cut_block, stream_of};
-
-/// The type of indexes in clusters.
-pub const INDEX_ALLOCATION: u32 = 0xA0;
-
-// $I30
-const NAMES_INDEX: [u16; 4] = [0x24, 0x49, 0x33, 0x30];
 
 fn has_cut_index_block(per: u64, stream: Option<Stream>) -> bool
     requires some { 0 < per }
@@ -47,7 +40,6 @@ fn is_directory(file: &FileRec) -> bool
 
 /// Whether a block of the directory's index lies in two runs; linear in the record. `per` is the
 /// sectors of a cluster. The error is want of memory.
-#[tactic(auto, unfolding(state_model::specs::Indexes::names_index))]
 pub fn cuts_index(alloc: Global, per: u64, file: &FileRec) -> Result<bool, Memory>
     requires some { 0 < per }
     requires few { per ≤ 8 }

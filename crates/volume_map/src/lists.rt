@@ -3,10 +3,10 @@ ghost use Rattle.std.specs.Prelude.{◌≡◌, ◌==◌, ◌<◌, ◌≤◌, ◌
 ghost use Rattle.std.specs.Option.{option_copied};
 ghost use Rattle.host_base.specs.Causes.{Rose, Counts};
 ghost use Rattle.record_model.specs.ListEntries.{list_entries};
-ghost use Rattle.record_model.specs.Values.{attribute_list};
 ghost use Rattle.record_model.specs.declared.attribute.Attr.{Attr as attr};
+ghost use Rattle.record_model.specs.Constants.{attribute_list};
 ghost use Rattle.state_model.specs.Streams.{stream_bytes, real_size};
-ghost use Rattle.state_model.specs.Loads.{attr_name, list_stream, entries_in, entries_of, table_in};
+ghost use Rattle.state_model.specs.Loads.{attr_name, list_stream, list_entries_in, entries_of, table_in};
 ghost use Rattle.stream_map.specs.Runs.{HasSmallRuns};
 ghost use Rattle.volume_map.specs.Errors.{map_cause, NeverRefused};
 ghost use Rattle.volume_map.specs.Lists.{read_of, list_at, lists_of, Takes, GoesOn};
@@ -20,13 +20,10 @@ use block_view::View;
 use disk_model::Body;
 use file_record::FileRec;
 use host_base::Memory;
-use record_model::Attr;
+use record_model::{ATTRIBUTE_LIST, Attr};
 use state_model::Stream;
 use std::alloc::{AllocError, Global};
 use stream_map::stream_of;
-
-/// The type of attribute lists.
-pub const ATTRIBUTE_LIST: u32 = 0x20;
 
 // The first attribute that is a list.
 fn list_attr(attrs: &[Attr]) -> Option<&Attr>

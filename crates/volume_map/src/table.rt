@@ -4,62 +4,58 @@ ghost use Rattle.host_base.specs.Answers.{Gives, GivesOrFails};
 ghost use Rattle.host_base.specs.Causes.{Rose, Counts};
 ghost use Rattle.record_model.specs.Records.{record_at};
 ghost use Rattle.state_model.specs.Files.{has_type};
-ghost use Rattle.state_model.specs.Loads.{boot_block, judged, most_records, no_extents, extents_or, record_count, table_extents, extents_in, table_of, piece_by, piece_of};
+ghost use Rattle.state_model.specs.Loads.{boot_block, judged, most_records, no_extents, extents_or, record_count, table_extents, extents_in, table_of, slot_by, slot_of};
 ghost use Rattle.stream_map.specs.Runs.{AreSmall};
 ghost use Rattle.volume_map.specs.Errors.{map_cause};
-ghost use Rattle.volume_map.specs.Pieces.{seen};
+ghost use Rattle.volume_map.specs.Slots.{seen};
 ghost use Rattle.block_view.specs.Views.{KeepsView};
 
 use crate::fault::MapFault;
-use crate::piece::{Piece, own_piece_of, piece_of};
 use crate::record::has_all_pairs;
+use crate::slot::{Slot, own_slot_of, slot_of};
 use block_view::View;
 use disk_model::{Block, BlockKind, Body};
 use file_record::FileRec;
 use host_base::Memory;
-use record_model::Runs;
+use record_model::{ATTRIBUTE_LIST, DATA, Runs};
 use state_model::{Extents, Geometry, MapRefusal, Stream};
 use std::alloc::Global;
 use stream_map::stream_of;
 
-const DATA: u32 = 0x80;
-
-const ATTRIBUTE_LIST: u32 = 0x20;
-
 const MOST_RECORDS: u64 = 1_048_576;
 
 /// What the file record of a block is, by the rules 1 to 8; `body` is room for it.
-pub fn read_piece<V: View>(
+pub fn read_slot<V: View>(
     alloc: Global,
     view: &mut V,
     block: Block,
     body: &mut Body,
-) -> Result<Piece, MapFault>
+) -> Result<Slot, MapFault>
     requires { block.kind ≡ BlockKind.FileRec }
-    ensures answer { IfSome (V.content view.old) (λ c. GivesOrFails seen map_cause result (Ok (piece_of (c block)))) }
+    ensures answer { IfSome (V.content view.old) (λ c. GivesOrFails seen map_cause result (Ok (slot_of (c block)))) }
     ensures kept { KeepsView V.content V.kept V.faults view.old view.new }
     ensures fault { IsErrOf result MapFault.View → Rose (V.faults view.old) (V.faults view.new) }
     ensures counted { Counts map_cause (V.faults view.old) (V.faults view.new) result }
 {
     view.body(block, body)?;
-    Ok(piece_of(alloc, body)?)
+    Ok(slot_of(alloc, body)?)
 }
 
 // The same by the rules 1 to 6 and 8.
-fn read_own_piece<V: View>(
+fn read_own_slot<V: View>(
     alloc: Global,
     view: &mut V,
     block: Block,
     body: &mut Body,
-) -> Result<Piece, MapFault>
+) -> Result<Slot, MapFault>
     requires { block.kind ≡ BlockKind.FileRec }
-    ensures answer { IfSome (V.content view.old) (λ c. GivesOrFails seen map_cause result (Ok (piece_by record_at (c block)))) }
+    ensures answer { IfSome (V.content view.old) (λ c. GivesOrFails seen map_cause result (Ok (slot_by record_at (c block)))) }
     ensures kept { KeepsView V.content V.kept V.faults view.old view.new }
     ensures fault { IsErrOf result MapFault.View → Rose (V.faults view.old) (V.faults view.new) }
     ensures counted { Counts map_cause (V.faults view.old) (V.faults view.new) result }
 {
     view.body(block, body)?;
-    Ok(own_piece_of(alloc, body)?)
+    Ok(own_slot_of(alloc, body)?)
 }
 
 // Where the record of that number lies, by the place that the boot sector gives the table.
@@ -75,15 +71,15 @@ fn boot_block(geometry: Geometry, number: u64) -> Block
     }
 }
 
-/// The record of a piece that is read alone: torn, or breaking a rule, it is refused.
-pub fn judged(number: u64, piece: Piece) -> Result<Option<FileRec>, MapFault>
-    ensures { Gives (λ file. file) map_cause result (judged number (seen piece)) }
+/// The record of a slot that is read alone: torn, or breaking a rule, it is refused.
+pub fn judged(number: u64, slot: Slot) -> Result<Option<FileRec>, MapFault>
+    ensures { Gives (λ file. file) map_cause result (judged number (seen slot)) }
 {
-    match piece {
-        Piece::Torn => Err(MapFault::Refused(MapRefusal::BadFixup { number })),
-        Piece::Free => Ok(None),
-        Piece::Broken { rule } => Err(MapFault::Refused(MapRefusal::BadRecord { number, rule })),
-        Piece::Used(file) => Ok(Some(file)),
+    match slot {
+        Slot::Torn => Err(MapFault::Refused(MapRefusal::BadFixup { number })),
+        Slot::Free => Ok(None),
+        Slot::Broken { rule } => Err(MapFault::Refused(MapRefusal::BadRecord { number, rule })),
+        Slot::Used(file) => Ok(Some(file)),
     }
 }
 
@@ -179,8 +175,8 @@ pub fn table_of<V: View>(
     ensures fault { IsErrOf result MapFault.View → Rose (V.faults view.old) (V.faults view.new) }
     ensures counted { Counts map_cause (V.faults view.old) (V.faults view.new) result }
 {
-    let piece = read_own_piece(alloc, view, boot_block(geometry, 0), body)?;
-    let file = judged(0, piece)?;
+    let slot = read_own_slot(alloc, view, boot_block(geometry, 0), body)?;
+    let file = judged(0, slot)?;
     extents_in(alloc, file)
 }
 
@@ -196,11 +192,11 @@ pub fn boot_record<V: View>(
 ) -> Result<Option<FileRec>, MapFault>
     requires place { geometry.mft * geometry.per_cluster < 2 ^ 62 }
     requires number { number < most_records }
-    ensures answer { IfSome (V.content view.old) (λ c. GivesOrFails (λ file. file) map_cause result (judged number (piece_of (c (boot_block geometry number))))) }
+    ensures answer { IfSome (V.content view.old) (λ c. GivesOrFails (λ file. file) map_cause result (judged number (slot_of (c (boot_block geometry number))))) }
     ensures kept { KeepsView V.content V.kept V.faults view.old view.new }
     ensures fault { IsErrOf result MapFault.View → Rose (V.faults view.old) (V.faults view.new) }
     ensures counted { Counts map_cause (V.faults view.old) (V.faults view.new) result }
 {
-    let piece = read_piece(alloc, view, boot_block(geometry, number), body)?;
-    judged(number, piece)
+    let slot = read_slot(alloc, view, boot_block(geometry, number), body)?;
+    judged(number, slot)
 }

@@ -10,17 +10,17 @@ use Rattle.record_model.specs.declared.attribute.OwnForm.TheVariants.{Resident, 
 use Rattle.record_model.specs.declared.attribute.Attr.{Attr}
 use Rattle.record_model.specs.declared.runs.Run.{Run}
 use Rattle.record_model.specs.Records.{Record}
-use Rattle.tree_model.specs.declared.link.Link.{Link}
+use Rattle.record_model.specs.Constants.{names_index, index_allocation}
+use Rattle.file_tree.specs.declared.link.Link.{Link}
 use Rattle.index_model.specs.Indexes.{Place}
 use Rattle.index_model.specs.Walks.{Broken, walk_of}
 use Rattle.state_model.specs.declared.stream.Extents.{Extents}
 use Rattle.state_model.specs.declared.stream.Stream.{Stream}
 use Rattle.state_model.specs.declared.stream.Stream.TheVariants.{Held, Placed}
 use Rattle.state_model.specs.Files.{Table, reference, is_directory_record}
-use Rattle.state_model.specs.Indexes.{names_index, is_names_root}
+use Rattle.state_model.specs.Indexes.{is_names_root}
 use Rattle.state_model.specs.Rules.{implies, at_file, is_index}
 use Rattle.state_model.specs.Streams.{stream_of, block_at}
-use Rattle.state_model.specs.Loads.{index_allocation}
 use Rattle.volume_model.specs.Volumes.{Volume, files_by_number, count_of, file_in}
 
 -- ---- where the blocks lie

@@ -7,19 +7,19 @@ use Rattle.disk_model.specs.declared.block.BlockKind.TheVariants.{FileRec}
 use Rattle.disk_model.specs.Numbers.{field}
 use Rattle.disk_model.specs.Content.{Content, is_signed}
 use Rattle.record_model.specs.declared.attribute.Attr.{Attr}
-use Rattle.record_model.specs.Values.{attribute_list, data_type}
 use Rattle.record_model.specs.Records.{Record}
-use Rattle.tree_model.specs.declared.node.Kind.{Kind}
-use Rattle.tree_model.specs.declared.node.Kind.TheVariants.{Directory, File, Fixed, Opaque, System}
-use Rattle.tree_model.specs.declared.node.Why.{Why}
-use Rattle.tree_model.specs.declared.node.Why.TheVariants.{Sparse}
-use Rattle.tree_model.specs.declared.node.Node.{Node}
+use Rattle.record_model.specs.Constants.{attribute_list, data_type, object_id, reparse_point}
+use Rattle.file_tree.specs.declared.node.Kind.{Kind}
+use Rattle.file_tree.specs.declared.node.Kind.TheVariants.{Directory, File, Fixed, Opaque, System}
+use Rattle.file_tree.specs.declared.node.Why.{Why}
+use Rattle.file_tree.specs.declared.node.Why.TheVariants.{Sparse}
+use Rattle.file_tree.specs.declared.node.Node.{Node}
 use Rattle.bit_set.specs.Bits.{bit}
 use Rattle.state_model.specs.declared.stream.Stream.{Stream}
 use Rattle.state_model.specs.declared.stream.Stream.TheVariants.{Held, Placed}
-use Rattle.state_model.specs.Files.{record_links, is_directory_record, has_type, object_id, reparse_point, info_of, is_encrypted, is_compressed, is_sparse, why_by}
+use Rattle.state_model.specs.Files.{record_links, is_directory_record, has_type, info_of, is_encrypted, is_compressed, is_sparse, why_by}
 use Rattle.state_model.specs.Trees.{is_system, is_nameless, first_user_record}
-use Rattle.state_model.specs.Streams.{pieces_of}
+use Rattle.state_model.specs.Streams.{attributes_of}
 use Rattle.state_model.specs.Loads.{total_clusters, data_stream}
 use Rattle.volume_model.specs.Volumes.{Volume, record_bytes, files_by_number, count_of, file_in, cluster_bits, record_bits, bytes_or, size_or}
 use Rattle.volume_model.specs.Sizes.{has_hole}
@@ -39,11 +39,11 @@ clusters_or (Some (Placed e)) = total_clusters e.runs
 
 abbrev pub first_flags : List Attr → ℕ
 first_flags [] = 0
-first_flags (a ∷ pieces) = a.head.flags
+first_flags (a ∷ attributes) = a.head.flags
 
--- the flags of the unnamed data, which are those of its first piece
+-- the flags of the unnamed data, which are those of its first attribute
 unfoldable pub data_flags : Record → ℕ
-data_flags r = first_flags (pieces_of data_type [] r.attrs)
+data_flags r = first_flags (attributes_of data_type [] r.attrs)
 
 -- ---- why a file can't be changed, and its kind
 

@@ -6,13 +6,13 @@ use Rattle.record_model.specs.declared.runs.Run.{Run}
 use Rattle.record_model.specs.Records.{Record}
 use Rattle.bit_set.specs.Bits.{bit}
 use Rattle.state_model.specs.Rules.{implies}
-use Rattle.state_model.specs.Streams.{piece_runs}
+use Rattle.state_model.specs.Streams.{attribute_runs}
 use Rattle.volume_model.specs.Volumes.{Volume, record_bits, is_in_use}
 
 -- the runs of a file's attributes
 abbrev pub file_runs : Option Record → List Run
 file_runs None = []
-file_runs (Some r) = flat_map piece_runs r.attrs
+file_runs (Some r) = flat_map attribute_runs r.attrs
 
 -- the runs of all files
 unfoldable pub volume_runs : List (Option Record) → List Run

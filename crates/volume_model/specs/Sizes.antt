@@ -1,47 +1,35 @@
--- What the streams of a file have to keep: their pieces, their places and sizes, and the blocks that must not be torn.
-use Rattle.std.specs.Prelude.{ℕ, ◌+◌, ◌-◌, ◌*◌, ◌/◌, Bool, true, false, not, ◌&&◌, ◌||◌, ◌==◌, nat_le, is_some, List, [], ◌∷◌, Option, Some, None}
+-- What the streams of a file have to keep: their attributes, their places and sizes, and the blocks that must not be torn.
+use Rattle.std.specs.Prelude.{ℕ, ◌+◌, ◌-◌, ◌*◌, ◌/◌, Bool, true, false, not, ◌&&◌, ◌||◌, ◌==◌, nat_le, nat_lt, is_some, List, [], ◌∷◌, Option, Some, None}
 use Rattle.std.specs.List.{list_all, list_any, range_with_len}
 use Rattle.disk_model.specs.declared.block.Block.{Block}
 use Rattle.disk_model.specs.declared.block.BlockKind.{BlockKind}
 use Rattle.disk_model.specs.declared.block.BlockKind.TheVariants.{FileRec, Index}
 use Rattle.disk_model.specs.Content.{Content}
-use Rattle.record_model.specs.declared.attribute.OwnForm.{OwnForm}
-use Rattle.record_model.specs.declared.attribute.OwnForm.TheVariants.{Resident, Mapped}
 use Rattle.record_model.specs.declared.attribute.Attr.{Attr}
 use Rattle.record_model.specs.declared.runs.Run.{Run}
-use Rattle.record_model.specs.Values.{file_name, data_type}
 use Rattle.record_model.specs.Records.{Record}
+use Rattle.record_model.specs.Constants.{file_name, data_type, names_index, index_allocation, bitmap_type}
 use Rattle.state_model.specs.declared.stream.Extents.{Extents}
 use Rattle.state_model.specs.declared.stream.Stream.{Stream}
 use Rattle.state_model.specs.declared.stream.Stream.TheVariants.{Held, Placed}
 use Rattle.state_model.specs.Files.{is_directory_record}
-use Rattle.state_model.specs.Indexes.{names_index}
 use Rattle.state_model.specs.Rules.{implies, at_file}
-use Rattle.state_model.specs.Streams.{pieces_of, piece_runs, stream_of, block_at}
-use Rattle.state_model.specs.Loads.{total_clusters, index_allocation}
-use Rattle.volume_model.specs.Volumes.{Volume, count_of, file_in, table_file, mirror_file, log_file, bitmap_file, bitmap_type, size_or, cluster_bitmap, record_bitmap}
+use Rattle.state_model.specs.Streams.{attributes_of, attribute_runs, stream_of, block_at, first_vcn}
+use Rattle.state_model.specs.Loads.{total_clusters}
+use Rattle.volume_model.specs.Volumes.{Volume, count_of, file_in, table_file, mirror_file, log_file, bitmap_file, size_or, cluster_bitmap, record_bitmap}
 
--- ---- pieces
+-- ---- attributes
 
-abbrev pub begins_at : ℕ → OwnForm → Bool
-begins_at vcn (Resident value indexed) = false
-begins_at vcn (Mapped sizes pairs) = sizes.first == vcn
-
--- pieces in clusters, the first from this VCN on, and each from the end of the one before it
+-- attributes with clusters, at least one each; the first begins at this VCN, and each other one at the end of the one before it
 abbrev pub follow : ℕ → List Attr → Bool
 follow vcn [] = true
-follow vcn (a ∷ pieces) = begins_at vcn a.form && follow (vcn + total_clusters (piece_runs a)) pieces
+follow vcn (a ∷ attributes) = first_vcn a == vcn && nat_lt 0 (total_clusters (attribute_runs a)) && follow (vcn + total_clusters (attribute_runs a)) attributes
 
--- a value in the record, with no other piece beside it
-abbrev pub stands_alone : OwnForm → List Attr → Bool
-stands_alone (Resident value indexed) [] = true
-stands_alone (Resident value indexed) (b ∷ pieces) = false
-stands_alone (Mapped sizes pairs) pieces = false
-
--- a stream is one value in a record, or pieces in clusters that leave no VCN out
+-- a stream is one attribute that begins at VCN 0, as a value in the record does, or attributes with clusters that have each VCN once
 abbrev pub are_joined : List Attr → Bool
 are_joined [] = true
-are_joined (a ∷ pieces) = stands_alone a.form pieces || follow 0 (a ∷ pieces)
+are_joined (a ∷ []) = first_vcn a == 0
+are_joined (a ∷ b ∷ attributes) = follow 0 (a ∷ b ∷ attributes)
 
 -- ---- places and sizes
 
@@ -62,11 +50,11 @@ fits_volume per clusters None = true
 fits_volume per clusters (Some (Held value)) = true
 fits_volume per clusters (Some (Placed e)) = list_all (lies_inside clusters) e.runs && has_sizes per e
 
--- the stream that an attribute is a piece of; a file may have more names than one
+-- the stream that an attribute belongs to; a file may have more names than one
 unfoldable pub keeps_stream : ℕ → ℕ → List Attr → Attr → Bool
 keeps_stream per clusters attrs a =
     (a.head.kind == file_name)
-    || (are_joined (pieces_of a.head.kind a.name attrs) && fits_volume per clusters (stream_of a.head.kind a.name attrs))
+    || (are_joined (attributes_of a.head.kind a.name attrs) && fits_volume per clusters (stream_of a.head.kind a.name attrs))
 
 -- ---- sparse runs
 

@@ -4,8 +4,8 @@ use Rattle.host_base.specs.Answers.{◌>>=◌}
 use Rattle.disk_model.specs.declared.block.Block.{Block}
 use Rattle.disk_model.specs.declared.block.BlockKind.TheVariants.{FileRec}
 use Rattle.disk_model.specs.Content.{Content}
-use Rattle.record_model.specs.Values.{data_type}
 use Rattle.record_model.specs.Records.{Record}
+use Rattle.record_model.specs.Constants.{data_type, bitmap_type}
 use Rattle.state_model.specs.declared.geometry.Geometry.{Geometry}
 use Rattle.state_model.specs.declared.geometry.MapRefusal.{MapRefusal}
 use Rattle.state_model.specs.declared.stream.Extents.{Extents}
@@ -77,9 +77,6 @@ abbrev pub upcase_file : ℕ
 upcase_file = 10
 
 -- ---- streams
-
-abbrev pub bitmap_type : ℕ
-bitmap_type = 0xB0
 
 -- the stream of a file with this type and name
 abbrev pub file_stream : ℕ → List ℕ → Option Record → Option Stream

@@ -7,4 +7,4 @@
 
 mod laws;
 
-pub use laws::loaded_files;
+pub use laws::{joined_in_any_order, loaded_files};

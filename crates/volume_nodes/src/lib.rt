@@ -10,4 +10,4 @@ mod node;
 mod stream;
 
 pub use node::bare_nodes;
-pub use stream::stream_flags;
+pub use stream::{is_hole, stream_flags};

@@ -11,14 +11,13 @@ ghost use Rattle.volume_model.specs.Nodes.{no_bytes, node_with, node_by, node_at
 use crate::kind::{Data, kind_in, shows_data, why_not};
 use crate::stream::{clusters_or, data_flags, data_stream, has_hole, size_or, valid_or};
 use file_record::FileRec;
+use file_tree::{Kind, Link, LinkList, Node, NodeList, Why};
 use host_base::{Bytes, Memory};
+use record_model::OBJECT_ID;
 use record_rules::{Climber, FIRST_USER_RECORD, file_at, has_type, info_of, links_of};
 use state_model::Stream;
 use std::alloc::{AllocError, Global};
-use tree_model::{Kind, Link, LinkList, Node, NodeList, Why};
 use volume_map::VolumeMap;
-
-const OBJECT_ID: u32 = 0x40;
 
 // The node of this kind that shows this data, without bytes.
 #[tactic(auto, unfolding(volume_model::specs::Nodes::node_with))]

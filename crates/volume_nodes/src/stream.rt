@@ -2,7 +2,7 @@
 ghost use Rattle.std.specs.Prelude.{◌≡◌, ◌+◌, if◌then◌else◌, [], IfOk, IfSome, length};
 ghost use Rattle.std.specs.List.{list_any};
 ghost use Rattle.std.specs.Option.{option_copied};
-ghost use Rattle.state_model.specs.Streams.{form_first, first_vcn, is_piece_of, pieces_of};
+ghost use Rattle.state_model.specs.Streams.{is_attribute_of, attributes_of};
 ghost use Rattle.state_model.specs.Loads.{total_clusters, data_stream};
 ghost use Rattle.volume_model.specs.Volumes.{size_or};
 ghost use Rattle.volume_model.specs.Sizes.{is_hole, has_hole};
@@ -11,65 +11,41 @@ ghost use Rattle.volume_nodes.specs.First.{first_of, earlier, flags_or};
 
 use file_record::FileRec;
 use host_base::Memory;
-use record_model::{Attr, OwnForm, Run};
+use record_model::{Attr, DATA, Run};
 use state_model::Stream;
 use std::alloc::Global;
-use stream_map::{real_size, stream_of};
+use stream_map::{first_vcn, is_attribute_of, real_size, stream_of};
 
-const DATA: u32 = 0x80;
-
-fn form_first(form: &OwnForm) -> u64
-    ensures { result ≡ form_first form.now }
-{
-    match form {
-        OwnForm::Resident { .. } => 0,
-        OwnForm::Mapped { sizes, .. } => sizes.first,
-    }
-}
-
-fn first_vcn(attr: &Attr) -> u64
-    ensures { result ≡ first_vcn attr.now }
-{
-    form_first(&attr.form)
-}
-
-#[tactic(auto, unfolding(state_model::specs::Streams::is_piece_of))]
-fn is_piece_of(kind: u32, name: &[u16], attr: &Attr) -> bool
-    ensures { result ≡ is_piece_of kind name.now attr.now }
-{
-    attr.head.kind == kind && attr.name.as_slice() == name
-}
-
-// Of a piece found so far and a later one, the one that begins first.
+// Of an attribute found so far and a later one, the one that begins first.
 fn earlier<'a>(found: Option<&'a Attr>, attr: &'a Attr) -> Option<&'a Attr>
     ensures { option_copied result ≡ earlier (option_copied found.entry) attr.now }
 {
     match found {
-        Some(piece) if first_vcn(attr) >= first_vcn(piece) => Some(piece),
+        Some(attribute) if first_vcn(attr) >= first_vcn(attribute) => Some(attribute),
         _ => Some(attr),
     }
 }
 
-// The first piece so far, with one attribute more.
+// The first attribute so far, with one attribute more.
 fn with_attr<'a>(
     kind: u32,
     name: &[u16],
     found: Option<&'a Attr>,
     attr: &'a Attr,
 ) -> Option<&'a Attr>
-    ensures { option_copied result ≡ (if is_piece_of kind name.now attr.now then earlier (option_copied found.entry) attr.now else option_copied found.entry) }
+    ensures { option_copied result ≡ (if is_attribute_of kind name.now attr.now then earlier (option_copied found.entry) attr.now else option_copied found.entry) }
 {
-    if is_piece_of(kind, name, attr) {
+    if is_attribute_of(kind, name, attr) {
         earlier(found, attr)
     } else {
         found
     }
 }
 
-// The first piece of the stream with this type and name.
+// The first attribute of the stream with this type and name.
 #[tactic(auto, using(crate::proofs::Firsts::none_first, crate::proofs::Firsts::all_first))]
-fn first_piece<'a>(kind: u32, name: &[u16], attrs: &'a [Attr]) -> Option<&'a Attr>
-    ensures { option_copied result ≡ first_of (pieces_of kind name.now attrs.now) }
+fn first_attribute<'a>(kind: u32, name: &[u16], attrs: &'a [Attr]) -> Option<&'a Attr>
+    ensures { option_copied result ≡ first_of (attributes_of kind name.now attrs.now) }
 {
     let mut found = None;
     for attr in attrs {
@@ -78,23 +54,23 @@ fn first_piece<'a>(kind: u32, name: &[u16], attrs: &'a [Attr]) -> Option<&'a Att
     found
 }
 
-fn flags_or(piece: Option<&Attr>) -> u16
-    ensures { result ≡ flags_or (option_copied piece.entry) }
+fn flags_or(attribute: Option<&Attr>) -> u16
+    ensures { result ≡ flags_or (option_copied attribute.entry) }
 {
-    match piece {
+    match attribute {
         Some(attr) => attr.head.flags,
         None => 0,
     }
 }
 
 /// The flags of the stream with this type and name (in UTF-16 units) of a file, which are those of
-/// its first piece (Linux-NTFS documentation, "Attribute Header"); 0 where there is none. Linear in
+/// its first attribute (Linux-NTFS documentation, "Attribute Header"); 0 where there is none. Linear in
 /// the attributes.
 #[tactic(auto, using(crate::proofs::Firsts::flags_first))]
 pub fn stream_flags(kind: u32, name: &[u16], file: &FileRec) -> u16
-    ensures value { result ≡ first_flags (pieces_of kind name.now file.now.attrs) }
+    ensures value { result ≡ first_flags (attributes_of kind name.now file.now.attrs) }
 {
-    flags_or(first_piece(kind, name, file.attrs().as_slice()))
+    flags_or(first_attribute(kind, name, file.attrs().as_slice()))
 }
 
 /// The flags of the unnamed data.
@@ -113,7 +89,8 @@ pub fn data_stream(alloc: Global, file: &FileRec) -> Result<Option<Stream>, Memo
     stream_of(alloc, DATA, &[], file.attrs().as_slice())
 }
 
-fn is_hole(run: &Run) -> bool
+/// Whether a run is sparse.
+pub fn is_hole(run: &Run) -> bool
     ensures { result ≡ is_hole run.now }
 {
     run.lcn.is_none()

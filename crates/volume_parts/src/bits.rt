@@ -9,10 +9,11 @@ ghost use Rattle.volume_map.specs.Maps.{volume_in, IsMap};
 ghost use Rattle.block_view.specs.Views.{KeepsView};
 ghost use Rattle.volume_model.specs.Volumes.{cluster_bits, record_bits};
 
-use crate::streams::{BITMAP, DATA, file_stream, stream_or_empty};
+use crate::streams::{file_stream, stream_or_empty};
 use bit_set::BitSet;
 use block_view::View;
 use disk_model::Body;
+use record_model::{BITMAP_TYPE, DATA};
 use state_model::Stream;
 use std::alloc::{AllocError, Global};
 use stream_map::front;
@@ -121,7 +122,7 @@ pub fn record_bits<V: View>(
     ensures counted { Counts map_cause (V.faults view.old) (V.faults view.new) result }
     ensures certain { NeverRefused result }
 {
-    let found = file_stream(alloc, map, TABLE_FILE, BITMAP)?;
+    let found = file_stream(alloc, map, TABLE_FILE, BITMAP_TYPE)?;
     let stream = stream_or_empty(alloc, found);
     let count = map.files.len() as u64;
     stream_bits(alloc, view, map.per_cluster, &stream, count, body)

@@ -10,9 +10,9 @@ ghost use Rattle.volume_parts.specs.Heads.{heads_of, keeps_head, spare_of, spare
 
 use crate::head::Head;
 use bit_set::BitSet;
+use file_tree::FileRefList;
 use host_base::FileRef;
 use std::alloc::{AllocError, Global};
-use tree_model::FileRefList;
 
 // The first number of a user's file.
 const FIRST_USER_RECORD: usize = 24;

@@ -13,11 +13,6 @@ use std::alloc::Global;
 use stream_map::stream_of;
 use volume_map::VolumeMap;
 
-/// The types of data and of bitmaps.
-pub const DATA: u32 = 0x80;
-
-pub const BITMAP: u32 = 0xB0;
-
 /// The unnamed stream of this type of the file with this number.
 pub fn file_stream(
     alloc: Global,

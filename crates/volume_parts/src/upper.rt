@@ -9,10 +9,11 @@ ghost use Rattle.volume_map.specs.Maps.{volume_in, IsMap};
 ghost use Rattle.block_view.specs.Views.{KeepsView};
 ghost use Rattle.volume_model.specs.Volumes.{table_or_standard, upper_of};
 
-use crate::streams::{DATA, file_stream, stream_or_empty};
+use crate::streams::{file_stream, stream_or_empty};
 use block_view::View;
 use disk_model::Body;
 use host_base::Memory;
+use record_model::DATA;
 use state_model::Stream;
 use std::alloc::{AllocError, Global};
 use stream_map::{front, real_size};

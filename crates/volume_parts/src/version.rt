@@ -2,19 +2,18 @@
 ghost use Rattle.std.specs.Prelude.{◌≡◌, ◌==◌, find};
 ghost use Rattle.std.specs.Option.{option_copied};
 ghost use Rattle.record_model.specs.declared.attribute.Attr.{Attr as the_attr};
+ghost use Rattle.record_model.specs.Constants.{volume_information};
 ghost use Rattle.record_model.specs.StdValues.{volume_info_of};
 ghost use Rattle.volume_map.specs.Maps.{volume_in};
 ghost use Rattle.volume_state.specs.Versions.{no_version, info_or_none, form_info, attr_info, volume_info};
 
 use file_record::FileRec;
-use record_model::{Attr, OwnForm, VolumeInfo};
+use record_model::{Attr, OwnForm, VOLUME_INFORMATION, VolumeInfo};
 use record_rules::file_at;
 use std_values::FixedValue;
 use volume_map::VolumeMap;
 
 const VOLUME_FILE: u64 = 3;
-
-const VOLUME_INFORMATION: u32 = 0x70;
 
 fn no_version() -> VolumeInfo
     ensures { result ≡ no_version }
@@ -46,7 +45,7 @@ fn form_info(form: &OwnForm) -> VolumeInfo
 
 // The first attribute of that type.
 fn info_attr(attrs: &[Attr]) -> Option<&Attr>
-    ensures { option_copied result ≡ find (λ (a : the_attr). a.head.kind == VOLUME_INFORMATION) attrs.now }
+    ensures { option_copied result ≡ find (λ (a : the_attr). a.head.kind == volume_information) attrs.now }
 {
     attrs
         .iter()
@@ -55,7 +54,7 @@ fn info_attr(attrs: &[Attr]) -> Option<&Attr>
 
 // The volume information of a record.
 fn file_info(file: &FileRec) -> VolumeInfo
-    ensures { result ≡ attr_info (find (λ (a : the_attr). a.head.kind == VOLUME_INFORMATION) file.now.attrs) }
+    ensures { result ≡ attr_info (find (λ (a : the_attr). a.head.kind == volume_information) file.now.attrs) }
 {
     match info_attr(file.attrs().as_slice()) {
         Some(attr) => form_info(&attr.form),

@@ -5,13 +5,12 @@ use block_view::MemoryView;
 use directory_index::{first_broken, index_links, index_place};
 use disk_model::put_bytes;
 use file_record::FileRec;
+use record_model::{FILE_NAME, INDEX_ALLOCATION, INDEX_ROOT, NAMES_INDEX};
 use record_rules::{counts_in, links_in};
 use std::alloc::{AllocError, Global};
 use std::test::Fail;
 use upcase_order::Upcase;
-use volume_images::{
-    Kept, NAMES_INDEX, Part, index_block, index_view, per_cluster, put_file, record,
-};
+use volume_images::{Kept, Part, index_block, index_view, per_cluster, put_file, record};
 
 // A directory with one name, whose key stands in the index block at sector 16: the sectors of a
 // cluster, the mapping pairs of its allocation, the initialised size, and whether the index is
@@ -61,8 +60,8 @@ fn directory(alloc: Global, row: &Row) -> Result<FileRec, AllocError> {
     };
     let pairs = Kept::Pairs(0, (4096, 4096, row.2), row.1);
     let parts = [
-        Part(0x90, 0, &NAMES_INDEX, Kept::Value(root)),
-        Part(0xa0, 0, &NAMES_INDEX, pairs),
+        Part(INDEX_ROOT, 0, &NAMES_INDEX, Kept::Value(root)),
+        Part(INDEX_ALLOCATION, 0, &NAMES_INDEX, pairs),
     ];
     record(alloc, (5, 5, 3), &parts)
 }
@@ -71,7 +70,7 @@ fn directory(alloc: Global, row: &Row) -> Result<FileRec, AllocError> {
 fn files_of(alloc: Global, row: &Row) -> Result<Vec<Option<FileRec>>, AllocError> {
     let mut files = Vec::new(alloc);
     put_file(&mut files, 5, directory(alloc, row)?)?;
-    let name = Part(0x30, 0, &[], Kept::Value(&NAMED_ROOT[0x30..0x74]));
+    let name = Part(FILE_NAME, 0, &[], Kept::Value(&NAMED_ROOT[0x30..0x74]));
     put_file(&mut files, 24, record(alloc, (24, 1, 1), &[name])?)?;
     Ok(files)
 }

@@ -5,19 +5,16 @@ ghost use Rattle.volume_map.specs.Maps.{IsMap};
 use block_view::MemoryView;
 use disk_model::Body;
 use file_record::FileRec;
-use record_model::Runs;
+use file_tree::Journal;
+use record_model::{DATA, FILE_NAME, Runs};
 use record_rules::all_links;
 use state_model::Extents;
 use std::alloc::{AllocError, Global};
 use std::test::Fail;
-use tree_model::Journal;
 use upcase_order::Upcase;
-use volume_images::{DATA, Kept, Part, put_file, record, sectors_view};
+use volume_images::{Kept, Part, put_file, record, sectors_view};
 use volume_journal::{JournalFault, volume_journal};
 use volume_map::VolumeMap;
-
-// The type of file names.
-const FILE_NAME: u32 = 0x30;
 
 // The flag of sparse data.
 const SPARSE: u16 = 0x8000;

@@ -5,15 +5,17 @@ use Rattle.std.specs.List.{range_with_len, filter_map, cons_option}
 use Rattle.std.specs.Option.{option_map}
 use Rattle.disk_model.specs.Content.{Content}
 use Rattle.record_model.specs.Records.{Record}
-use Rattle.tree_model.specs.declared.node.Node.{Node}
-use Rattle.tree_model.specs.declared.tree.Tree.{Tree}
+use Rattle.file_tree.specs.declared.node.Node.{Node}
+use Rattle.file_tree.specs.declared.tree.Tree.{Tree}
 use Rattle.state_model.specs.declared.broken.Broken.{Broken}
+use Rattle.state_model.specs.declared.geometry.Geometry.{Geometry}
+use Rattle.state_model.specs.declared.geometry.MapRefusal.{MapRefusal}
 use Rattle.state_model.specs.declared.stream.Stream.{Stream}
 use Rattle.state_model.specs.Trees.{is_nameless}
-use Rattle.volume_model.specs.Volumes.{Volume, file_in, count_of, bytes_or}
+use Rattle.volume_model.specs.Volumes.{Volume, volume_of, file_in, count_of, bytes_or}
 use Rattle.volume_model.specs.Nodes.{node_with, node_by, some_node, node_at, nodes_by, all_nodes, bare_nodes, no_bytes}
 use Rattle.volume_state.specs.Rules.{first_broken}
-use Rattle.volume_state.specs.Trees.{Holds, volume_journal, tree_with, tree_of, report_of, reported, checked, without_records}
+use Rattle.volume_state.specs.Trees.{Holds, IsState, volume_journal, tree_with, tree_of, report_of, reported, checked, without_records}
 use Rattle.volume_state.specs.Laws.{without_bytes, bare}
 
 -- a node without its bytes
@@ -71,3 +73,17 @@ breaks_by c v b (Some found) is = let e : found ≡ b = cc in ap (λ (x : Broken
 pub breaks : (c : Content) (v : Volume) (b : Broken) → checked c v ≡ Err b → first_broken c v ≡ Some b
 unfolding checked
 breaks c v b is = breaks_by c v b (first_broken c v) is
+
+-- ---- of a content
+
+same_volume : (read : Result Volume MapRefusal) (v w : Volume) → read ≡ Ok v → read ≡ Ok w → v ≡ w
+same_volume read v w p q = cc
+
+pub one_tree : (c : Content) (g : Geometry) (clusters : ℕ) (t u : Tree) → IsState c g clusters t → IsState c g clusters u → t ≡ u
+one_tree c g clusters t u s r = s.holds.tree ∙ ap (tree_of c) (same_volume (volume_of c g clusters) s.volume r.volume s.loaded r.loaded) ∙ sym r.holds.tree
+
+pub state_reported : (c : Content) (g : Geometry) (clusters : ℕ) (t : Tree) (s : IsState c g clusters t) → checked c s.volume ≡ Ok (bare t)
+state_reported c g clusters t s = holds c s.volume t s.holds
+
+pub state_stands : (c : Content) (g : Geometry) (clusters : ℕ) (v : Volume) (t : Tree) → volume_of c g clusters ≡ Ok v → checked c v ≡ Ok t → (u : Tree) × IsState c g clusters u × (t ≡ bare u)
+state_stands c g clusters v t loaded is = let r = reports c v t is in (r.0, record { volume = v; loaded = loaded; holds = r.1 }, r.2)

@@ -7,17 +7,17 @@ use Rattle.record_model.specs.declared.runs.Run.{Run}
 use Rattle.record_model.specs.declared.values.JournalMax.{JournalMax}
 use Rattle.record_model.specs.declared.values.ValueFault.{ValueFault}
 use Rattle.record_model.specs.StdValues.{journal_max_of}
-use Rattle.record_model.specs.Values.{data_type}
 use Rattle.record_model.specs.Records.{Record}
-use Rattle.tree_model.specs.declared.journal.Journal.{Journal}
-use Rattle.tree_model.specs.declared.journal.Usn.{Usn}
-use Rattle.tree_model.specs.Walks.{child_in}
+use Rattle.record_model.specs.Constants.{data_type}
+use Rattle.file_tree.specs.declared.journal.Journal.{Journal}
+use Rattle.file_tree.specs.declared.journal.Usn.{Usn}
+use Rattle.file_tree.specs.Walks.{child_in}
 use Rattle.state_model.specs.declared.stream.Extents.{Extents}
 use Rattle.state_model.specs.declared.stream.Stream.{Stream}
 use Rattle.state_model.specs.declared.stream.Stream.TheVariants.{Held, Placed}
 use Rattle.state_model.specs.Files.{is_sparse}
 use Rattle.state_model.specs.Trees.{all_links}
-use Rattle.state_model.specs.Streams.{pieces_of, stream_of, byte_at}
+use Rattle.state_model.specs.Streams.{attributes_of, stream_of, byte_at}
 use Rattle.journal_model.specs.Journals.{journal_in, is_owned}
 use Rattle.volume_model.specs.Volumes.{Volume, files_by_number, count_of, file_in}
 use Rattle.volume_model.specs.Sizes.{is_hole}
@@ -120,7 +120,7 @@ journal_of_streams c per flags (Some max) (Some j) =
 
 -- the flags of $J, which are those of its first piece
 unfoldable pub entries_flags : Record → ℕ
-entries_flags r = first_flags (pieces_of data_type entries_name r.attrs)
+entries_flags r = first_flags (attributes_of data_type entries_name r.attrs)
 
 abbrev pub journal_of_file : Content → ℕ → Option Record → Result (Option Journal) ℕ
 journal_of_file c per None = Ok None

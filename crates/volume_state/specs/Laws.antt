@@ -1,13 +1,14 @@
 -- The laws of a volume's tree.
-use Rattle.std.specs.Prelude.{◌≡◌, [], map, Some, Ok, Err}
+use Rattle.std.specs.Prelude.{◌≡◌, ℕ, [], map, Some, Ok, Err}
 use Rattle.std.specs.Option.{option_map}
 use Rattle.disk_model.specs.Content.{Content}
-use Rattle.tree_model.specs.declared.node.Node.{Node}
-use Rattle.tree_model.specs.declared.tree.Tree.{Tree}
+use Rattle.file_tree.specs.declared.node.Node.{Node}
+use Rattle.file_tree.specs.declared.tree.Tree.{Tree}
 use Rattle.state_model.specs.declared.broken.Broken.{Broken}
-use Rattle.volume_model.specs.Volumes.{Volume}
+use Rattle.state_model.specs.declared.geometry.Geometry.{Geometry}
+use Rattle.volume_model.specs.Volumes.{Volume, volume_of}
 use Rattle.volume_state.specs.Rules.{first_broken}
-use Rattle.volume_state.specs.Trees.{Holds, checked, without_records}
+use Rattle.volume_state.specs.Trees.{Holds, IsState, checked, without_records}
 
 abbrev pub without_bytes : Node → Node
 without_bytes n = record {
@@ -43,3 +44,10 @@ pub record ReportOfTree : Type 0 where
   pub holds : (c : Content) (v : Volume) (t : Tree) → Holds c v t → checked c v ≡ Ok (bare t)
   pub reports : (c : Content) (v : Volume) (t : Tree) → checked c v ≡ Ok t → (u : Tree) × Holds c v u × (t ≡ bare u)
   pub breaks : (c : Content) (v : Volume) (b : Broken) → checked c v ≡ Err b → first_broken c v ≡ Some b
+
+-- a content stands for one tree at most, as that of a volume; and for one just where a check of the volume that is loaded from it
+-- reports one, which is this tree without bytes and records
+pub record CheckOfState : Type 0 where
+  pub one : (c : Content) (g : Geometry) (clusters : ℕ) (t u : Tree) → IsState c g clusters t → IsState c g clusters u → t ≡ u
+  pub reported : (c : Content) (g : Geometry) (clusters : ℕ) (t : Tree) (s : IsState c g clusters t) → checked c s.volume ≡ Ok (bare t)
+  pub stands : (c : Content) (g : Geometry) (clusters : ℕ) (v : Volume) (t : Tree) → volume_of c g clusters ≡ Ok v → checked c v ≡ Ok t → (u : Tree) × IsState c g clusters u × (t ≡ bare u)

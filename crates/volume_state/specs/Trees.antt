@@ -1,13 +1,14 @@
 -- The tree that a volume stands for, and what a check reports of it.
-use Rattle.std.specs.Prelude.{◌≡◌, List, [], Option, Some, None, Result, Ok, Err}
+use Rattle.std.specs.Prelude.{◌≡◌, ℕ, List, [], Option, Some, None, Result, Ok, Err}
 use Rattle.std.specs.Option.{option_map}
 use Rattle.disk_model.specs.Content.{Content}
-use Rattle.tree_model.specs.declared.node.Node.{Node}
-use Rattle.tree_model.specs.declared.journal.Journal.{Journal}
-use Rattle.tree_model.specs.declared.tree.Tree.{Tree}
+use Rattle.file_tree.specs.declared.node.Node.{Node}
+use Rattle.file_tree.specs.declared.journal.Journal.{Journal}
+use Rattle.file_tree.specs.declared.tree.Tree.{Tree}
 use Rattle.state_model.specs.declared.broken.Broken.{Broken}
+use Rattle.state_model.specs.declared.geometry.Geometry.{Geometry}
 use Rattle.state_model.specs.Trees.{all_links}
-use Rattle.volume_model.specs.Volumes.{Volume, files_by_number, count_of, upper_of}
+use Rattle.volume_model.specs.Volumes.{Volume, volume_of, files_by_number, count_of, upper_of}
 use Rattle.volume_model.specs.Nodes.{all_nodes, bare_nodes, spare_numbers, free_clusters}
 use Rattle.volume_state.specs.Journals.{journal_of, some_journal}
 use Rattle.volume_state.specs.Rules.{first_broken}
@@ -35,6 +36,13 @@ tree_of c v = tree_with c v (all_nodes c v) (volume_journal c v)
 pub record Holds (c : Content) (v : Volume) (t : Tree) : Type 0 where
   pub kept : first_broken c v ≡ None
   pub tree : t ≡ tree_of c v
+
+-- A content stands for the tree, as that of a volume of this geometry and so many clusters: the volume is loaded from it, breaks none of
+-- the nine rules, and the tree is the volume's.
+pub record IsState (c : Content) (g : Geometry) (clusters : ℕ) (t : Tree) : Type 0 where
+  pub volume : Volume
+  pub loaded : volume_of c g clusters ≡ Ok volume
+  pub holds : Holds c volume t
 
 -- ---- what a check reports
 

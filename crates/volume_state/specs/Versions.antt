@@ -7,13 +7,11 @@ use Rattle.record_model.specs.declared.values.VolumeInfo.{VolumeInfo}
 use Rattle.record_model.specs.declared.values.ValueFault.{ValueFault}
 use Rattle.record_model.specs.StdValues.{volume_info_of}
 use Rattle.record_model.specs.Records.{Record}
+use Rattle.record_model.specs.Constants.{volume_information}
 use Rattle.volume_model.specs.Volumes.{Volume, file_in}
 
 abbrev pub volume_file : ℕ
 volume_file = 3
-
-abbrev pub volume_information : ℕ
-volume_information = 0x70
 
 -- a volume without volume information has version 0.0
 abbrev pub no_version : VolumeInfo

@@ -8,4 +8,4 @@
 
 mod laws;
 
-pub use laws::report_of_tree;
+pub use laws::{check_of_state, report_of_tree};

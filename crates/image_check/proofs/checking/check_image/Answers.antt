@@ -1,5 +1,5 @@
 use Rattle.std.proofs.Common.{◌∙◌, sym, arith}
-use Rattle.tree_model.specs.declared.tree.Tree.{Tree}
+use Rattle.file_tree.specs.declared.tree.Tree.{Tree}
 use Rattle.image_check.proofs.Disks.{no_sectors, some_sectors}
 use Rattle.image_check.proofs.checking.check_image.Goals as goal
 

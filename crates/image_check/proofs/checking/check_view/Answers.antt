@@ -1,5 +1,5 @@
 use Rattle.std.proofs.lemmas.Result.{err_from_is_err_and}
-use Rattle.tree_model.specs.declared.tree.Tree.{Tree}
+use Rattle.file_tree.specs.declared.tree.Tree.{Tree}
 use Rattle.image_scan.specs.Scans.{Opened, opened_in}
 use Rattle.image_scan.specs.Openings.{opened_as}
 use Rattle.image_scan.proofs.Steps.{fails_first, goes_on_by}

@@ -1,4 +1,4 @@
-use Rattle.tree_model.specs.declared.tree.Tree.{Tree}
+use Rattle.file_tree.specs.declared.tree.Tree.{Tree}
 use Rattle.volume_map.specs.Maps.{volume_in}
 use Rattle.volume_state.specs.Trees.{checked}
 use Rattle.image_check.specs.Checks.{tree_on}

@@ -1,7 +1,7 @@
 use Rattle.std.proofs.Common.{◌≡◌, ◌++◌, take, map, string_bytes}
 use Rattle.std.specs.List.{flat_map}
 use Rattle.std.specs.Borrow.{Bor}
-use Rattle.tree_model.specs.declared.link.Link.{Link}
+use Rattle.file_tree.specs.declared.link.Link.{Link}
 use Rattle.image_dump.specs.Texts.{long_line}
 use Rattle.image_dump.proofs.dump.push_long_links.Given as goal
 

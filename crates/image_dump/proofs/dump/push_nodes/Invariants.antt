@@ -1,7 +1,7 @@
 use Rattle.std.proofs.Common.{◌≡◌, ◌++◌, take, map, string_bytes}
 use Rattle.std.specs.List.{flat_map}
 use Rattle.std.specs.Borrow.{Bor}
-use Rattle.tree_model.specs.declared.node.Node.{Node}
+use Rattle.file_tree.specs.declared.node.Node.{Node}
 use Rattle.image_dump.specs.Texts.{node_line}
 use Rattle.image_dump.proofs.dump.push_nodes.Given as goal
 

@@ -1,5 +1,5 @@
 use Rattle.std.proofs.Common.{List, sym, subst}
-use Rattle.tree_model.specs.declared.link.Link.{Link}
+use Rattle.file_tree.specs.declared.link.Link.{Link}
 use Rattle.image_dump.specs.Order.{stands_before, IsInOrder}
 use Rattle.image_dump.proofs.InOrder.{only_order, order_of}
 use Rattle.image_dump.proofs.Ranks.{links_rank}

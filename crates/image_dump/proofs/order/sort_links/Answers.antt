@@ -3,7 +3,7 @@ use Rattle.std.specs.Borrow.{Bor}
 use Rattle.std.specs.Ordering.{is_lt}
 use Rattle.std.proofs.lemmas.List.Sorted.{answers_always}
 use Rattle.std.proofs.lemmas.Result.{on_ok_weaker}
-use Rattle.tree_model.specs.declared.link.Link.{Link}
+use Rattle.file_tree.specs.declared.link.Link.{Link}
 use Rattle.image_dump.specs.Order.{stands_before}
 use Rattle.image_dump.proofs.InOrder.{shown_order}
 use Rattle.image_dump.proofs.Ranks.{is_link_shown_before, shown_links_rank}

@@ -3,7 +3,7 @@ use Rattle.std.specs.Borrow.{Bor}
 use Rattle.std.specs.Ordering.{is_lt}
 use Rattle.std.proofs.lemmas.List.Sorted.{answers_always}
 use Rattle.std.proofs.lemmas.Result.{on_ok_weaker}
-use Rattle.tree_model.specs.declared.node.Node.{Node}
+use Rattle.file_tree.specs.declared.node.Node.{Node}
 use Rattle.image_dump.specs.Order.{is_node_before}
 use Rattle.image_dump.proofs.InOrder.{shown_order}
 use Rattle.image_dump.proofs.Ranks.{is_node_shown_before, shown_nodes_rank}

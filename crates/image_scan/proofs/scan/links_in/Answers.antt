@@ -1,6 +1,6 @@
 use Rattle.std.proofs.Common.{Vec, Global, Ok}
 use Rattle.std.proofs.lemmas.Result.{err_from_is_err_and}
-use Rattle.tree_model.specs.declared.link.Link.{Link}
+use Rattle.file_tree.specs.declared.link.Link.{Link}
 use Rattle.volume_links.specs.Names.{loaded_links}
 use Rattle.image_scan.proofs.Steps.{map_error, map_value, as_links}
 use Rattle.image_scan.proofs.scan.links_in.Goals as goal

@@ -1,5 +1,5 @@
 use Rattle.std.proofs.Common.{Vec, Global, ◌∙◌, sym, arith}
-use Rattle.tree_model.specs.declared.link.Link.{Link}
+use Rattle.file_tree.specs.declared.link.Link.{Link}
 use Rattle.image_scan.proofs.Disks.{no_sectors, some_sectors}
 use Rattle.image_scan.proofs.scan.scan_image.Goals as goal
 

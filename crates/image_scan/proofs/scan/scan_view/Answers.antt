@@ -1,6 +1,6 @@
 use Rattle.std.proofs.Common.{Vec, Global}
 use Rattle.std.proofs.lemmas.Result.{err_from_is_err_and}
-use Rattle.tree_model.specs.declared.link.Link.{Link}
+use Rattle.file_tree.specs.declared.link.Link.{Link}
 use Rattle.image_scan.specs.Scans.{Opened, opened_in, links_in, scan_in}
 use Rattle.image_scan.specs.Openings.{opened_as}
 use Rattle.image_scan.proofs.Steps.{fails_first, goes_on_by}

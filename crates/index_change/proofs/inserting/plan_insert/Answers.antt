@@ -1,7 +1,7 @@
 use Rattle.std.proofs.Common.{ℕ, List, Err, true, false, sym, ap, ◌∙◌}
 use Rattle.std.specs.List.{list_any}
 use Rattle.std.proofs.lemmas.Result.{err_from_is_err_and}
-use Rattle.tree_model.specs.declared.link.Link.{Link}
+use Rattle.file_tree.specs.declared.link.Link.{Link}
 use Rattle.index_plan.specs.Lists.{own_key}
 use Rattle.disk_model.specs.Content.{Content}
 use Rattle.index_model.specs.Walks.{find_of}

@@ -4,7 +4,7 @@ use Rattle.index_plan.specs.Lists.{own_key}
 use Rattle.index_tree.specs.Places.{place_of}
 use Rattle.index_change.specs.Orders.{link_of, has_link}
 use Rattle.disk_model.specs.Content.{Content}
-use Rattle.tree_model.specs.declared.link.Link.{Link}
+use Rattle.file_tree.specs.declared.link.Link.{Link}
 use Rattle.index_model.specs.Walks.{find_of}
 use Rattle.index_change.proofs.Insertions.{link_known}
 use Rattle.index_tree.specs.declared.fault.TreeFault.TheVariants.{Absent}

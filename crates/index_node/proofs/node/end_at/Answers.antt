@@ -1,8 +1,7 @@
 use Rattle.std.proofs.Common.{ℕ, List, set, get_or, None, ◌∙◌, ap, arith}
 use Rattle.std.proofs.lemmas.List.{get_or_default}
 use Rattle.record_model.specs.declared.entry.Entry.{Entry}
-use Rattle.record_model.specs.Nodes.{no_file}
-use Rattle.index_node.specs.Edits.{last_entry}
+use Rattle.record_model.specs.Nodes.{no_file, last_entry}
 use Rattle.index_node.proofs.Sizes.{ended_at}
 use Rattle.index_node.proofs.node.end_at.Goals as goal
 

@@ -1,9 +1,10 @@
 use Rattle.std.proofs.Common.{◌≡◌, ◌-◌, ◌+◌, ℕ, arith, refl, ap, ◌∙◌, List, ◌++◌, ◌∷◌, []}
 use Rattle.host_base.proofs.Known.{always}
 use Rattle.std.proofs.lemmas.Result.{err_from_is_err_and}
+use Rattle.index_model.specs.Walks.{root_vcn}
 use Rattle.index_plan.specs.Plans.{Spot}
 use Rattle.index_plan.specs.Lists.{entry_at}
-use Rattle.index_plan.specs.Reading.{way_down, way_of, root_vcn, with_front}
+use Rattle.index_plan.specs.Reading.{way_down, way_of, with_front}
 use Rattle.index_plan.proofs.Ways.{front_all, more_known, err_known, low_known}
 use Rattle.index_plan.proofs.Fitting.{spots_nil, spots_more, more_length, nil_length}
 use Rattle.index_plan.proofs.descent.way.Goals as goal

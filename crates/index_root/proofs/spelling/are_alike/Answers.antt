@@ -1,8 +1,7 @@
 use Rattle.std.proofs.Common.{◌≡◌, None, refl, ap, sym, ◌∙◌, arith, below_more}
 use Rattle.std.proofs.lemmas.List.Elements.{All-get_or}
-use Rattle.index_node.specs.Edits.{last_entry}
 use Rattle.record_model.specs.declared.entry.Entry.{Entry}
-use Rattle.record_model.specs.Nodes.{down_flag, children_of}
+use Rattle.record_model.specs.Nodes.{down_flag, children_of, last_entry}
 use Rattle.index_root.proofs.Places.{all_at, item_at}
 use Rattle.index_root.proofs.spelling.are_alike.Goals as goal
 

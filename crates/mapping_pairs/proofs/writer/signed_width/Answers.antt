@@ -4,12 +4,12 @@ use Rattle.record_model.specs.Pairs.{signed_width}
 use Rattle.mapping_pairs.proofs.Widths.{found, passed, last}
 use Rattle.mapping_pairs.proofs.writer.signed_width.Goals as goal
 
-pub returns-then-is_held : goal.returns-then-is_held
-returns-then-is_held c =
+pub returns-then-fits_bytes : goal.returns-then-fits_bytes
+returns-then-fits_bytes c =
     let z = to_z w64 (of_z w64 c.args.value) in
     let back : z ≡ c.args.value = to_z-of_z w64 c.args.value c.ranges.value in
     record {
-      value = sym (found c.loop-bytes.bytes z c.loop-bytes-test.true (sym c.is_held.ensures ∙ c.if-is_held.true)) ∙ c.loop-bytes.invariant ∙ ap signed_width back;
+      value = sym (found c.loop-bytes.bytes z c.loop-bytes-test.true (sym c.fits_bytes.ensures ∙ c.if-fits_bytes.true)) ∙ c.loop-bytes.invariant ∙ ap signed_width back;
       some = omega arith;
       most = omega arith;
     }
@@ -17,7 +17,7 @@ returns-then-is_held c =
 pub loop-bytes-preserved : goal.loop-bytes-preserved
 loop-bytes-preserved c =
     let z = to_z w64 (of_z w64 c.args.value) in
-    sym (passed c.loop-bytes.bytes z c.loop-bytes-test.true (sym c.is_held.ensures ∙ c.if-is_held.false)) ∙ c.loop-bytes.invariant
+    sym (passed c.loop-bytes.bytes z c.loop-bytes-test.true (sym c.fits_bytes.ensures ∙ c.if-fits_bytes.false)) ∙ c.loop-bytes.invariant
 
 pub returns : goal.returns
 returns c =

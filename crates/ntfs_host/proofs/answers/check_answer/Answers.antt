@@ -1,7 +1,7 @@
 use Rattle.std.proofs.Common.{Global, Ok}
 use Rattle.std.specs.Prelude.{String, string_bytes}
 use Rattle.std.proofs.lemmas.Result.{err_from_is_err_and}
-use Rattle.tree_model.specs.declared.tree.Tree.{Tree}
+use Rattle.file_tree.specs.declared.tree.Tree.{Tree}
 use Rattle.image_check.specs.Checks.{check_of}
 use Rattle.image_dump.specs.Texts.{check_text}
 use Rattle.ntfs_host.proofs.Answering.{text_is}

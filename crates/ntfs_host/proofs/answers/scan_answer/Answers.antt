@@ -1,7 +1,7 @@
 use Rattle.std.proofs.Common.{Vec, Global, Ok, ◌∙◌, ap}
 use Rattle.std.specs.Prelude.{String, string_bytes}
 use Rattle.std.proofs.lemmas.Result.{err_from_is_err_and}
-use Rattle.tree_model.specs.declared.link.Link.{Link}
+use Rattle.file_tree.specs.declared.link.Link.{Link}
 use Rattle.image_scan.specs.Scans.{scan_of}
 use Rattle.image_dump.specs.Texts.{scan_text}
 use Rattle.ntfs_host.proofs.Answering.{text_is}

@@ -1,7 +1,7 @@
 use Rattle.std.proofs.Common.{List, Option, [], ◌++◌, take, sym, ap, ◌∙◌, arith}
 use Rattle.std.specs.List.{cons_option, filter_map, slice_get}
 use Rattle.std.specs.Option.{option_copied}
-use Rattle.tree_model.specs.declared.link.Link.{Link}
+use Rattle.file_tree.specs.declared.link.Link.{Link}
 use Rattle.record_rules.proofs.Lists.{filter_map_more}
 use Rattle.record_tree.proofs.index.links_at_places.Goals as goal
 

@@ -1,5 +1,5 @@
 use Rattle.std.proofs.Common.{ap, ◌∙◌, arith}
-use Rattle.tree_model.specs.Names.{upper_units}
+use Rattle.file_tree.specs.Names.{upper_units}
 use Rattle.record_tree.proofs.Placed.{names_more}
 use Rattle.record_tree.proofs.index.places_by_name.Goals as goal
 

@@ -2,9 +2,9 @@ use Rattle.std.proofs.Common.{◌≡◌, ◌∙◌, ap, List, ℕ, Vec, Global}
 use Rattle.std.specs.Prelude.{◌&&◌}
 use Rattle.std.specs.List.{filter, filter_map, slice_get}
 use Rattle.std.proofs.lemmas.Result.{IfOk-weaker}
-use Rattle.tree_model.specs.declared.link.Link.{Link}
-use Rattle.tree_model.specs.Names.{same_name, same_units, upper_units}
-use Rattle.tree_model.specs.Trees.{same_links, is_in}
+use Rattle.file_tree.specs.declared.link.Link.{Link}
+use Rattle.file_tree.specs.Names.{same_name, same_units, upper_units}
+use Rattle.file_tree.specs.Trees.{same_links, is_in}
 use Rattle.record_tree.proofs.Placed.{links_placed}
 use Rattle.record_tree.proofs.index.same_links.Goals as goal
 

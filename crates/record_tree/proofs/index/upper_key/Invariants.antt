@@ -1,5 +1,5 @@
 use Rattle.std.proofs.Common.{◌≡◌, take}
-use Rattle.tree_model.specs.Names.{upper_units}
+use Rattle.file_tree.specs.Names.{upper_units}
 use Rattle.record_tree.proofs.index.upper_key.Given as goal
 
 -- those of the units so far

@@ -1,5 +1,5 @@
 use Rattle.std.proofs.Common.{Vec, Global}
-use Rattle.tree_model.specs.declared.link.Link.{Link}
+use Rattle.file_tree.specs.declared.link.Link.{Link}
 use Rattle.std.proofs.lemmas.Result.{err_from_is_err_and}
 use Rattle.small_image.proofs.Chunks.{table}
 use Rattle.small_image.proofs.Steps.{walk_error, walked}

@@ -1,7 +1,7 @@
 use Rattle.std.proofs.Common.{List, Option, Vec, Global}
 use Rattle.std.proofs.lemmas.Result.{err_from_is_err_and}
 use Rattle.record_model.specs.Records.{Record}
-use Rattle.tree_model.specs.declared.link.Link.{Link}
+use Rattle.file_tree.specs.declared.link.Link.{Link}
 use Rattle.small_image.specs.Mounts.{records_of, judged_records}
 use Rattle.small_image.specs.Tables.{table_links}
 use Rattle.small_image.proofs.Chunks.{table}

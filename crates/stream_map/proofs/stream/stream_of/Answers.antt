@@ -1,4 +1,4 @@
-use Rattle.stream_map.specs.Pieces.{behind}
+use Rattle.stream_map.specs.Attributes.{behind}
 use Rattle.stream_map.proofs.SmallRuns.{small_answer}
 use Rattle.stream_map.proofs.stream.stream_of.Goals as goal
 

@@ -1,9 +1,15 @@
-use Rattle.std.proofs.Common.{sym, ◌∙◌}
+use Rattle.std.proofs.Common.{arith}
 use Rattle.stream_sizes.proofs.Following.{breaks_off, goes_on}
 use Rattle.stream_sizes.proofs.joins.follow.Goals as goal
 
-pub returns-then-not-begins_at : goal.returns-then-not-begins_at
-returns-then-not-begins_at c = breaks_off c.loop-piece.vcn c.args.pieces.now c.loop-piece.piece-index c.piece-item.result _ c.loop-piece-test.true c.piece-item.is (sym c.begins_at.ensures.value ∙ c.if-not-begins_at.true) c.loop-piece.invariant
+pub returns-then-from-vcn : goal.returns-then-from-vcn
+returns-then-from-vcn c =
+    breaks_off c.loop-attribute.vcn c.args.attributes.now c.loop-attribute.attribute-index c.attribute-item.result c.in_ok-clusters.clusters _ c.loop-attribute-test.true c.attribute-item.is c.in_ok-clusters.ensures.value
+    (λ same some. omega (arith, c.then-from-vcn.either, c.from.ensures, c.first_vcn.ensures, same, some))
+    c.loop-attribute.invariant
 
-pub loop-piece-preserved : goal.loop-piece-preserved
-loop-piece-preserved c = goes_on c.loop-piece.vcn c.args.pieces.now c.loop-piece.piece-index c.piece-item.result c.in_ok-vcn.field-0 _ c.loop-piece-test.true c.piece-item.is (sym c.begins_at.ensures.value ∙ c.if-not-begins_at.false) c.in_ok-vcn.ensures.value c.loop-piece.invariant
+pub loop-attribute-preserved : goal.loop-attribute-preserved
+loop-attribute-preserved c =
+    goes_on c.loop-attribute.vcn c.args.attributes.now c.loop-attribute.attribute-index c.attribute-item.result c.in_ok-clusters.clusters _ c.loop-attribute-test.true c.attribute-item.is c.in_ok-clusters.ensures.value
+    (omega (arith, c.if-from-vcn.false, c.from.ensures, c.first_vcn.ensures)) (omega (arith, c.if-clusters-eq0.false))
+    c.loop-attribute.invariant

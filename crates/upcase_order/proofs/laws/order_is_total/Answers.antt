@@ -1,4 +1,4 @@
-use Rattle.tree_model.proofs.NameOrders.{name_order_total}
+use Rattle.file_tree.proofs.NameOrders.{name_order_total}
 use Rattle.upcase_order.proofs.laws.order_is_total.Goals as goal
 
 pub returns : goal.returns

@@ -1,6 +1,6 @@
 use Rattle.std.proofs.Common.{◌+◌, ◌*◌, ◌++◌, List, refl, ap, ◌∙◌, arith}
 use Rattle.std.proofs.lemmas.Result.{err_from_is_err_and}
-use Rattle.tree_model.specs.declared.journal.Usn.{Usn}
+use Rattle.file_tree.specs.declared.journal.Usn.{Usn}
 use Rattle.usn_journal.specs.Pulls.{from_on}
 use Rattle.usn_journal.proofs.Ends.{ends_grown, none_ends}
 use Rattle.usn_journal.proofs.Left.{known_start, known_on, known_enough, known_end, known_broken}

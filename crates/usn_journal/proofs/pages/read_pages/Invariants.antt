@@ -1,5 +1,5 @@
 use Rattle.std.proofs.Common.{◌≡◌, ◌/◌, ◌<◌, ◌≤◌, ◌^◌, All}
-use Rattle.tree_model.specs.declared.journal.Usn.{Usn}
+use Rattle.file_tree.specs.declared.journal.Usn.{Usn}
 use Rattle.block_view.specs.Views.{KeepsView}
 use Rattle.usn_journal.specs.Pulls.{usn_end}
 use Rattle.usn_journal.proofs.Left.{KnownLeft}

@@ -1,5 +1,5 @@
 use Rattle.std.proofs.Common.{◌≡◌, take}
-use Rattle.tree_model.specs.Trees.{same_links}
+use Rattle.file_tree.specs.Trees.{same_links}
 use Rattle.volume_journal.proofs.finding.same_links.Given as goal
 
 -- those of the links so far

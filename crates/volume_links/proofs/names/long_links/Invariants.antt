@@ -1,6 +1,6 @@
 use Rattle.std.proofs.Common.{◌≡◌}
 use Rattle.std.specs.List.{range_with_len, filter, flat_map}
-use Rattle.tree_model.specs.Trees.{is_long}
+use Rattle.file_tree.specs.Trees.{is_long}
 use Rattle.state_model.specs.Files.{links_at}
 use Rattle.state_model.specs.Loads.{table_in}
 use Rattle.volume_links.proofs.names.long_links.Given as goal

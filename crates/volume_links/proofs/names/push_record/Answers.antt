@@ -1,5 +1,5 @@
 use Rattle.std.proofs.Common.{arith}
-use Rattle.tree_model.specs.Trees.{is_long}
+use Rattle.file_tree.specs.Trees.{is_long}
 use Rattle.state_model.specs.Files.{attr_link}
 use Rattle.volume_links.proofs.Growing.{long_step}
 use Rattle.volume_links.proofs.names.push_record.Goals as goal

@@ -1,6 +1,6 @@
 use Rattle.std.proofs.Common.{◌≡◌, ◌++◌, take}
 use Rattle.std.specs.List.{filter, filter_map}
-use Rattle.tree_model.specs.Trees.{is_long}
+use Rattle.file_tree.specs.Trees.{is_long}
 use Rattle.state_model.specs.Files.{attr_link}
 use Rattle.volume_links.proofs.names.push_record.Given as goal
 

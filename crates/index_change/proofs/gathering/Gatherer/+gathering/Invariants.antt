@@ -1,7 +1,7 @@
 use Rattle.std.proofs.Common.{◌≡◌, ◌+◌, ◌*◌, drop}
 use Rattle.std.specs.Prelude.{IfSome}
 use Rattle.index_model.specs.Indexes.{node_of_block}
-use Rattle.index_change.specs.Holding.{Holds, StayHeld}
+use Rattle.index_change.specs.Holding.{HoldsNodesOf, StayHeld}
 use Rattle.index_tree.specs.Places.{place_of}
 use Rattle.index_change.proofs.Gathered.{HeldOrLeft}
 use Rattle.index_change.proofs.gathering.Gatherer.+gathering.Given as goal
@@ -23,7 +23,7 @@ decreases-entries g l = 5 * l.levels + 4
 
 abbrev pub invariant-entries-loop-entry : goal.invariant-entries-loop-entry
 invariant-entries-loop-entry g l = record {
-  right : IfSome (g.V.View.content l.initial.v) (λ c. Holds (node_of_block c (place_of l.self.dir.now)) l.initial.held → Holds (node_of_block c (place_of l.self.dir.now)) l.held);
+  right : IfSome (g.V.View.content l.initial.v) (λ c. HoldsNodesOf (node_of_block c (place_of l.self.dir.now)) l.initial.held → HoldsNodesOf (node_of_block c (place_of l.self.dir.now)) l.held);
   stay : StayHeld l.initial.held l.held;
   met : IfSome (g.V.View.content l.initial.v) (HeldOrLeft l.self.up.now l.self.name.now (λ c. node_of_block c (place_of l.self.dir.now)) l.levels l.entries (drop l.entry-index l.entries) l.held);
   same : g.V.View.content l.v ≡ g.V.View.content l.initial.v;

@@ -1,5 +1,5 @@
 use Rattle.std.proofs.Common.{List, ℕ, length, refl, subst}
-use Rattle.tree_model.specs.declared.link.Link.{Link}
+use Rattle.file_tree.specs.declared.link.Link.{Link}
 use Rattle.state_model.specs.Loads.{table_in}
 use Rattle.record_tree.specs.Lookups.{HasCounts, HasListings, HasNames}
 use Rattle.record_tree.proofs.Slots.{nodes_present, numbered}
