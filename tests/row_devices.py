@@ -1,4 +1,7 @@
-# Volumes on block devices, which are as long as one can go in them.
+# Volumes on block devices, which are as long as one can go in them; and other things that are no regular file.
+import os
+import tempfile
+
 from images import TINY, WHOLE
 from row import IMAGE, TINY_TEXT, Row
 from row_streams import FORMAT, SECTORS
@@ -26,4 +29,25 @@ def a_device_is_formatted():
     yield Row(bytes(512 * SECTORS), FORMAT, (0,), "formatted 567 0\n", left=lambda image: image == made[0], device=True)
 
 
-TABLES = [a_volume_on_a_device_is_read, a_device_too_short_is_refused, a_device_is_formatted]
+def a_device_of_characters_has_no_sectors():
+    """It counts as a file without bytes."""
+    for command in ["scan", "check", "dump", "journal"]:
+        yield Row(TINY, ("/dev/zero", command), (3,), "refused 4 Short 1 0\n")
+
+
+def a_pipe_counts_as_shut():
+    """Its length can't be had, so each call of it fails."""
+    with tempfile.TemporaryDirectory() as folder:
+        pipe = f"{folder}/pipe"
+        os.mkfifo(pipe)
+        for command in ["scan", "check", "dump", "journal"]:
+            yield Row(TINY, (pipe, command), (8,), "")
+
+
+TABLES = [
+    a_volume_on_a_device_is_read,
+    a_device_too_short_is_refused,
+    a_device_is_formatted,
+    a_device_of_characters_has_no_sectors,
+    a_pipe_counts_as_shut,
+]

@@ -166,13 +166,13 @@ fn what_an_owner_writes_is_read(rt: HostRuntime) -> Result<(), Fail> {
     let mut ahead = ReadAhead::empty();
     let last = block(131, BlockKind::Plain);
     ahead.body(&mut room, &mut device, last, &mut body)?;
-    assert_eq!(rt; body.bytes().first().copied(), Some(9));
+    let before = body.bytes().first().copied();
     if device.sectors() != 132 {
         return Err("another size".into());
     }
     ahead.write(&mut device, 131, &[7; 512])?;
     ahead.body(&mut room, &mut device, last, &mut body)?;
-    assert_eq!(rt; body.bytes().first().copied(), Some(7));
+    assert_eq!(rt; (before, body.bytes().first().copied()), (Some(9), Some(7)));
     assert_eq!(rt; (device.moment(), device.faults()), (6, 0));
     Ok(())
 }
