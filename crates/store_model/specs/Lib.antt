@@ -1,0 +1,11 @@
+pub mod Logs
+pub mod Geometry
+pub mod Stores
+pub mod Events
+pub mod Runs
+pub mod Recovery
+pub mod Volumes
+pub mod Rings
+pub mod Rests
+pub mod Laws
+pub mod StoreVector
