@@ -4,3 +4,5 @@ pub mod Whole
 pub mod Sizes
 pub mod Placing
 pub mod EditsFit
+pub mod RootSpelled
+pub mod RootPlaces

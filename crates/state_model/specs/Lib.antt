@@ -1,3 +1,4 @@
+pub mod Clusters
 pub mod Files
 pub mod Indexes
 pub mod Trees

@@ -1,8 +1,10 @@
+use crate::cluster_size::ClusterSize;
+
 /// Where a volume's file table is found, by its boot sector.
 #[derive(Clone, Copy, Debug, PartialEq, Eq)]
 pub struct Geometry {
     /// The sectors of a cluster.
-    pub per_cluster: u64,
+    pub per_cluster: ClusterSize,
     /// The cluster at which the boot sector says that the file table begins.
     pub mft: u64,
 }

@@ -6,11 +6,13 @@
 #![tactic(auto)]
 
 mod broken;
+mod cluster_size;
 mod geometry;
 mod laws;
 mod stream;
 
 pub use broken::Broken;
+pub use cluster_size::ClusterSize;
 pub use geometry::{Geometry, MapRefusal};
 pub use laws::nodes_of_records;
 pub use stream::{Extents, Stream};

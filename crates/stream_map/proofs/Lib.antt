@@ -4,3 +4,6 @@ pub mod Padding
 pub mod Ranges
 pub mod Reading
 pub mod SmallRuns
+pub mod ListEntries
+pub mod ListFronts
+pub mod ListReading

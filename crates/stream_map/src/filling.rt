@@ -1,4 +1,4 @@
-ghost use Rattle.std.specs.Prelude.{◌≡◌, ◌+◌, ◌-◌, ◌/◌, ◌%◌, ◌^◌, ◌<◌, ◌≤◌, ◌++◌, length, take, drop, map, min, OnOk, IsOk, IfErr, IfSome};
+ghost use Rattle.std.specs.Prelude.{◌≡◌, ◌+◌, ◌-◌, ◌/◌, ◌%◌, ◌^◌, ◌≤◌, ◌++◌, length, take, drop, map, min, OnOk, IsOk, IfErr, IfSome};
 ghost use Rattle.std.specs.List.{range_with_len};
 ghost use Rattle.host_base.specs.Causes.{HasCause};
 ghost use Rattle.disk_model.specs.Bytes.{zeros};
@@ -11,7 +11,7 @@ ghost use Rattle.stream_map.specs.Runs.{AreSmall, HasSmallRuns, IsResident};
 use super::places::block_at;
 use block_view::{Block, BlockKind, Body, View, ViewFault};
 use record_model::Run;
-use state_model::{Extents, Stream};
+use state_model::{ClusterSize, Extents, Stream};
 
 #[tactic(auto, unfolding(disk_model::specs::Bytes::zeros))]
 fn clear(bytes: &mut [u8])
@@ -76,14 +76,12 @@ fn read_part<V: View>(
 /// Fills `out` with bytes of one sector of a stream, from the place `at` on.
 fn fill_part<V: View>(
     v: &mut V,
-    per: u64,
+    per: ClusterSize,
     runs: &[Run],
     at: u64,
     body: &mut Body,
     out: &mut [u8],
 ) -> Result<(), ViewFault>
-    requires some { 0 < per }
-    requires few { per ≤ 8 }
     requires small { AreSmall runs.now }
     requires sector { at % 512 + length out.old ≤ 512 }
     ensures bytes { IfSome (V.content v.old)
@@ -105,14 +103,12 @@ fn fill_part<V: View>(
 /// Fills `out` with the bytes of a stream's sectors from the place `at` on.
 fn fill_placed<V: View>(
     v: &mut V,
-    per: u64,
+    per: ClusterSize,
     runs: &[Run],
     at: u64,
     body: &mut Body,
     out: &mut [u8],
 ) -> Result<(), ViewFault>
-    requires some { 0 < per }
-    requires few { per ≤ 8 }
     requires small { AreSmall runs.now }
     requires place { at + length out.old ≤ 2 ^ 64 }
     ensures bytes { IfSome (V.content v.old)
@@ -144,14 +140,12 @@ fn fill_placed<V: View>(
 #[tactic(auto, unfolding(state_model::specs::Streams::byte_at))]
 pub fn fill<V: View>(
     v: &mut V,
-    per: u64,
+    per: ClusterSize,
     extents: &Extents,
     at: u64,
     body: &mut Body,
     out: &mut [u8],
 ) -> Result<(), ViewFault>
-    requires some { 0 < per }
-    requires few { per ≤ 8 }
     requires small { AreSmall extents.now.runs }
     requires place { at + length out.old ≤ 2 ^ 64 }
     ensures bytes { IfSome (V.content v.old)
@@ -181,14 +175,12 @@ fn copy_front(value: &[u8], at: u64, out: &mut [u8])
 /// The same of a stream in clusters.
 fn fill_front<V: View>(
     v: &mut V,
-    per: u64,
+    per: ClusterSize,
     extents: &Extents,
     at: u64,
     body: &mut Body,
     out: &mut [u8],
 ) -> Result<(), ViewFault>
-    requires some { 0 < per }
-    requires few { per ≤ 8 }
     requires small { AreSmall extents.now.runs }
     ensures bytes { IfSome (V.content v.old)
         (λ c. OnOk result (out.new
@@ -214,14 +206,12 @@ fn fill_front<V: View>(
 ///   is no other error.
 pub fn front<V: View>(
     v: &mut V,
-    per: u64,
+    per: ClusterSize,
     stream: &Stream,
     at: u64,
     body: &mut Body,
     out: &mut [u8],
 ) -> Result<(), ViewFault>
-    requires some { 0 < per }
-    requires few { per ≤ 8 }
     requires small { HasSmallRuns stream.now }
     ensures bytes { IfSome (V.content v.old)
         (λ c. OnOk result (out.new

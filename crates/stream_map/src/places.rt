@@ -1,4 +1,4 @@
-ghost use Rattle.std.specs.Prelude.{◌≡◌, ◌+◌, ◌-◌, ◌*◌, ◌^◌, ◌<◌, ◌≤◌, Some, IfSome, find};
+ghost use Rattle.std.specs.Prelude.{not, is_some, ◌≡◌, ◌+◌, ◌-◌, ◌*◌, ◌^◌, ◌<◌, ◌≤◌, Some, IfSome, find};
 ghost use Rattle.std.specs.List.{list_any};
 ghost use Rattle.disk_model.specs.Sectors.{sectors};
 ghost use Rattle.state_model.specs.Streams.{holds, lcn_in, block_at, is_inside_block, cuts_block, has_cut_block};
@@ -6,6 +6,14 @@ ghost use Rattle.stream_map.specs.Runs.{IsSmall, AreSmall};
 
 use disk_model::{Block, BlockKind};
 use record_model::Run;
+use state_model::ClusterSize;
+
+/// Whether a run is sparse (Linux-NTFS documentation, "Data runs").
+pub fn is_hole(run: &Run) -> bool
+    ensures value { result ≡ not (is_some run.now.lcn) }
+{
+    run.lcn.is_none()
+}
 
 fn sectors(kind: BlockKind) -> u64
     ensures value { result ≡ sectors kind }
@@ -57,13 +65,12 @@ fn lcn_in(first: u64, last: u64, runs: &[Run]) -> Option<u64>
 /// sectors a cluster (Linux-NTFS documentation, "Data runs"). It lies in the first run that holds
 /// all its clusters; there is none where no run does, and in a sparse run. Linear in the runs.
 #[tactic(auto, unfolding(state_model::specs::Streams::block_at))]
-pub fn block_at(per: u64, runs: &[Run], kind: BlockKind, n: u64) -> Option<Block>
-    requires some { 0 < per }
-    requires few { per ≤ 8 }
+pub fn block_at(per: ClusterSize, runs: &[Run], kind: BlockKind, n: u64) -> Option<Block>
     requires small { AreSmall runs.now }
     requires place { n < 2 ^ 56 }
     ensures { result ≡ block_at per runs.now kind n }
 {
+    let per = per.sectors();
     let size = sectors(kind);
     let first = size * n;
     let vcn = first / per;
@@ -84,20 +91,21 @@ fn is_inside_block(kind: BlockKind, count: u64, place: u128) -> bool
 }
 
 /// Whether a run begins or ends inside one of a stream's first `count` blocks of this kind.
-fn cuts_block(per: u64, kind: BlockKind, count: u64, run: &Run) -> bool
-    requires { per ≤ 8 }
+fn cuts_block(per: ClusterSize, kind: BlockKind, count: u64, run: &Run) -> bool
     ensures { result ≡ cuts_block per kind count run.now }
 {
-    let (vcn, len, per) = (u128::from(run.vcn), u128::from(run.len), u128::from(per));
+    let (vcn, len, per) = (
+        u128::from(run.vcn),
+        u128::from(run.len),
+        u128::from(per.sectors()),
+    );
     is_inside_block(kind, count, vcn * per) || is_inside_block(kind, count, (vcn + len) * per)
 }
 
 /// Whether one of a stream's first `count` blocks of this kind lies in two runs: a run begins or
 /// ends inside it, in a volume of `per` sectors a cluster. Linear in the runs.
 #[tactic(auto, unfolding(state_model::specs::Streams::has_cut_block))]
-pub fn has_cut_block(per: u64, kind: BlockKind, count: u64, runs: &[Run]) -> bool
-    requires some { 0 < per }
-    requires few { per ≤ 8 }
+pub fn has_cut_block(per: ClusterSize, kind: BlockKind, count: u64, runs: &[Run]) -> bool
     ensures { result ≡ has_cut_block per kind count runs.now }
 {
     for run in runs {

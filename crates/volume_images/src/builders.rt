@@ -1,11 +1,12 @@
 //! Records, their attributes, and views of blocks.
-ghost use Rattle.std.specs.Prelude.{◌≡◌, ◌<◌, ◌≤◌, length};
+ghost use Rattle.std.specs.Prelude.{◌≡◌, ◌==◌, if◌then◌else◌, length};
 
 use block_view::{Block, BlockKind, Held, MemoryView};
 use disk_model::put_bytes;
 use file_record::FileRec;
 use host_base::{Bytes, FileRef};
 use record_model::{Attr, Head, OwnForm, RecHead, Run, Sizes};
+use state_model::ClusterSize;
 use std::alloc::{AllocError, Global};
 use utf16_name::Units;
 
@@ -148,11 +149,14 @@ pub fn index_view(
 }
 
 /// The sectors of a cluster: 1, or 8 for any other number.
-pub fn per_cluster(sectors: u8) -> u64
-    ensures some { 0 < result }
-    ensures few { result ≤ 8 }
+pub fn per_cluster(sectors: u8) -> ClusterSize
+    ensures { result ≡ (if sectors == 1 then 1 else 8) }
 {
-    if sectors == 1 { 1 } else { 8 }
+    if sectors == 1 {
+        ClusterSize::new(1).unwrap()
+    } else {
+        ClusterSize::new(8).unwrap()
+    }
 }
 
 /// A run of clusters.
