@@ -1,9 +1,8 @@
 //! The greatest LSN of a log.
-ghost use Rattle.std.specs.Prelude.{◌≡◌, ◌∷◌, [], ◌^◌, ◌<◌, ◌≤◌, Some, MatchOption, IfOk, IfErr, IfSome, IsErrOf, length};
+ghost use Rattle.std.specs.Prelude.{◌≡◌, ◌∷◌, [], ◌^◌, ◌<◌, ◌≤◌, Some, MatchOption, IfOk, IfErr, IfSome, length};
 ghost use Rattle.std.specs.Option.{option_map};
-ghost use Rattle.host_base.specs.Causes.{Rose, Counts};
 ghost use Rattle.log_page.specs.LiveLogs.{said_lsn, greater, greatest_lsn};
-ghost use Rattle.block_view.specs.Views.{KeepsView};
+ghost use Rattle.block_view.specs.Views.{AsksView};
 ghost use Rattle.log_reading.specs.Views.{NeverForeign, recovery_cause};
 ghost use Rattle.log_reading.specs.LogPages.{sector_in, sector_below, sector_bytes, page_in, IsSmall, IsLogPlace};
 ghost use Rattle.log_reading.specs.Laps.{is_read, NoneBetween, IsNext, IsBehind};
@@ -109,9 +108,7 @@ fn said_at<V: View>(
 ) -> Result<Option<u64>, RecoveryFault>
     ensures value { IfSome (V.content view.old) (λ c. IfOk result (λ lsn. lsn ≡ said_lsn (sector_bytes c valid (Some first)))) }
     ensures never { IfErr result NeverForeign }
-    ensures kept { KeepsView V.content V.kept V.faults view.old view.new }
-    ensures fault { IsErrOf result RecoveryFault.Fault → Rose (V.faults view.old) (V.faults view.new) }
-    ensures counted { Counts recovery_cause (V.faults view.old) (V.faults view.new) result }
+    ensures kept { AsksView V.content V.kept V.faults recovery_cause view.old view.new result }
 {
     read_sector(view, first, valid, body)?;
     Ok(said_by(body.bytes()))
@@ -151,9 +148,7 @@ pub fn greatest_lsn<V: View>(
     requires place { IsLogPlace place.now }
     ensures value { IfSome (V.content view.old) (λ c. IfOk result (λ lsn. lsn ≡ greatest_lsn place.now.pages (page_in c place.now) chosen)) }
     ensures never { IfErr result NeverForeign }
-    ensures kept { KeepsView V.content V.kept V.faults view.old view.new }
-    ensures fault { IsErrOf result RecoveryFault.Fault → Rose (V.faults view.old) (V.faults view.new) }
-    ensures counted { Counts recovery_cause (V.faults view.old) (V.faults view.new) result }
+    ensures kept { AsksView V.content V.kept V.faults recovery_cause view.old view.new result }
 {
     let mut greatest = current_of(chosen);
     let mut page = 4;

@@ -1,11 +1,10 @@
 //! The live log, read page by page.
-ghost use Rattle.std.specs.Prelude.{◌≡◌, ◌+◌, ◌*◌, ◌<◌, ◌≤◌, ◌^◌, true, [], All, None, IfOk, IfErr, IfSome, IsErrOf};
-ghost use Rattle.host_base.specs.Causes.{Rose, Counts};
+ghost use Rattle.std.specs.Prelude.{◌≡◌, ◌+◌, ◌*◌, ◌<◌, ◌≤◌, ◌^◌, true, [], All, None, IfOk, IfErr, IfSome};
 ghost use Rattle.log_model.specs.Entries.{FitsEntry};
 ghost use Rattle.log_page.specs.Places.{lap_of, page_of, page_lsn, is_in_ring, page_after, lap_after};
 ghost use Rattle.log_page.specs.RecordPages.{is_whole_page, page_reading, AppendsPage};
 ghost use Rattle.log_page.specs.LiveLogs.{live_log, start_in_page};
-ghost use Rattle.block_view.specs.Views.{KeepsView};
+ghost use Rattle.block_view.specs.Views.{AsksView};
 ghost use Rattle.log_reading.specs.Views.{NeverForeign, recovery_cause};
 ghost use Rattle.log_reading.specs.LogPages.{page_in, IsLogPlace};
 ghost use Rattle.log_reading.specs.Live.{reading_of};
@@ -115,9 +114,7 @@ fn append_page<V: View>(
     ensures value { IfSome (V.content view.old) (λ c. IfOk result (AppendsPage (is_whole_page place.now.pages (page_in c place.now at.page) (page_lsn place.now.pages at.lap at.page)) (page_reading (page_in c place.now at.page) (page_lsn place.now.pages at.lap at.page) at.from) entries.old.items entries.new.items)) }
     ensures fits { All FitsEntry entries.old.items → All FitsEntry entries.new.items }
     ensures never { IfErr result NeverForeign }
-    ensures kept { KeepsView V.content V.kept V.faults view.old view.new }
-    ensures fault { IsErrOf result RecoveryFault.Fault → Rose (V.faults view.old) (V.faults view.new) }
-    ensures counted { Counts recovery_cause (V.faults view.old) (V.faults view.new) result }
+    ensures kept { AsksView V.content V.kept V.faults recovery_cause view.old view.new result }
 {
     read_page(view, place, at.page, &mut room.body, &mut room.page)?;
     let pages = place.pages;
@@ -139,9 +136,7 @@ fn append_live<V: View>(
     ensures value { IfSome (V.content view.old) (λ c. IfOk result (λ foreign. record { entries = entries.new.items; foreign = foreign } ≡ live_log place.now.pages (page_in c place.now) oldest)) }
     ensures fits { All FitsEntry entries.new.items }
     ensures never { IfErr result NeverForeign }
-    ensures kept { KeepsView V.content V.kept V.faults view.old view.new }
-    ensures fault { IsErrOf result RecoveryFault.Fault → Rose (V.faults view.old) (V.faults view.new) }
-    ensures counted { Counts recovery_cause (V.faults view.old) (V.faults view.new) result }
+    ensures kept { AsksView V.content V.kept V.faults recovery_cause view.old view.new result }
 {
     let mut room = Room::new(alloc)?;
     let mut at = Position::first(place.pages, oldest);
@@ -174,9 +169,7 @@ pub fn live_log<V: View>(
     ensures value { IfSome (V.content view.old) (λ c. IfOk result (λ live. reading_of live ≡ live_log place.now.pages (page_in c place.now) oldest)) }
     ensures fits { IfOk result (λ live. All FitsEntry live.entries.items) }
     ensures never { IfErr result NeverForeign }
-    ensures kept { KeepsView V.content V.kept V.faults view.old view.new }
-    ensures fault { IsErrOf result RecoveryFault.Fault → Rose (V.faults view.old) (V.faults view.new) }
-    ensures counted { Counts recovery_cause (V.faults view.old) (V.faults view.new) result }
+    ensures kept { AsksView V.content V.kept V.faults recovery_cause view.old view.new result }
 {
     let mut entries = Vec::new(alloc);
     if !is_in_ring(place.pages, oldest) {

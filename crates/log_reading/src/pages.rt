@@ -1,8 +1,7 @@
 //! The pages of a log, read through a view.
-ghost use Rattle.std.specs.Prelude.{◌≡◌, ◌+◌, ◌*◌, ◌^◌, ◌<◌, ◌++◌, All, OnOk, IfErr, IfSome, IsErrOf, length};
-ghost use Rattle.host_base.specs.Causes.{Rose, Counts};
+ghost use Rattle.std.specs.Prelude.{◌≡◌, ◌+◌, ◌*◌, ◌^◌, ◌<◌, ◌++◌, All, OnOk, IfErr, IfSome, length};
 ghost use Rattle.disk_model.specs.Sectors.{zero_sector};
-ghost use Rattle.block_view.specs.Views.{KeepsView};
+ghost use Rattle.block_view.specs.Views.{AsksView};
 ghost use Rattle.log_reading.specs.Views.{NeverForeign, recovery_cause};
 ghost use Rattle.log_reading.specs.LogPages.{sector_in, log_sector, initialised_bytes, sector_bytes, log_bytes, page_in, IsSmall, IsLogPlace};
 
@@ -81,9 +80,7 @@ pub(crate) fn read_sector<V: View>(
     ensures value { IfSome (V.content view.old) (λ c. OnOk result (body.new.bytes ≡ sector_bytes c valid (Some first))) }
     ensures size { OnOk result (length body.new.bytes ≡ 512) }
     ensures never { IfErr result NeverForeign }
-    ensures kept { KeepsView V.content V.kept V.faults view.old view.new }
-    ensures fault { IsErrOf result RecoveryFault.Fault → Rose (V.faults view.old) (V.faults view.new) }
-    ensures counted { Counts recovery_cause (V.faults view.old) (V.faults view.new) result }
+    ensures kept { AsksView V.content V.kept V.faults recovery_cause view.old view.new result }
 {
     let kind = BlockKind::Plain;
     view.body(Block { first, kind }, body)?;
@@ -104,9 +101,7 @@ fn append_sector<V: View>(
     ensures value { IfSome (V.content view.old) (λ c. OnOk result (page.new.items ≡ page.old.items ++ log_bytes c place.now n)) }
     ensures size { OnOk result (length page.new.items ≡ length page.old.items + 512) }
     ensures never { IfErr result NeverForeign }
-    ensures kept { KeepsView V.content V.kept V.faults view.old view.new }
-    ensures fault { IsErrOf result RecoveryFault.Fault → Rose (V.faults view.old) (V.faults view.new) }
-    ensures counted { Counts recovery_cause (V.faults view.old) (V.faults view.new) result }
+    ensures kept { AsksView V.content V.kept V.faults recovery_cause view.old view.new result }
 {
     match log_sector(place, n) {
         Some(first) => {
@@ -134,9 +129,7 @@ pub fn read_page<V: View>(
     ensures value { IfSome (V.content view.old) (λ c. OnOk result (page.new.items ≡ page_in c place.now n)) }
     ensures size { OnOk result (length page.new.items ≡ 4096) }
     ensures never { IfErr result NeverForeign }
-    ensures kept { KeepsView V.content V.kept V.faults view.old view.new }
-    ensures fault { IsErrOf result RecoveryFault.Fault → Rose (V.faults view.old) (V.faults view.new) }
-    ensures counted { Counts recovery_cause (V.faults view.old) (V.faults view.new) result }
+    ensures kept { AsksView V.content V.kept V.faults recovery_cause view.old view.new result }
 {
     page.clear();
     for i in 0..8 {

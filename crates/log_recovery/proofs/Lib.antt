@@ -7,3 +7,5 @@ pub mod Clusters
 pub mod Ending
 pub mod Placing
 pub mod Wholes
+pub mod Stretching
+pub mod Refusing

@@ -1,13 +1,14 @@
 -- Recovery by a log as steps, one after the other, over a content that may be known.
-use Rattle.std.proofs.Common.{◌≡◌, ℕ, ◌+◌, ◌^◌, ◌≤◌, Bool, true, false, List, Option, Some, None, Result, Ok, Err, refl, sym, ap, ◌∙◌, subst, arith}
+use Rattle.std.proofs.Common.{◌≡◌, ℕ, ◌+◌, ◌^◌, ◌≤◌, Bool, true, false, List, Option, Some, None, Result, Ok, Err, Vec, refl, sym, ap, ◌∙◌, subst, arith}
 use Rattle.std.specs.Prelude.{IfSome, IsErrOf, ◌==◌}
+use Rattle.std.specs.Global.{Global}
 use Rattle.std.specs.Option.{option_or}
 use Rattle.std.proofs.lemmas.Bool.{le-ltb}
 use Rattle.std.proofs.Math.Nat.{le_trans}
 use Rattle.std.proofs.Math.Pow.{pow_mono}
 use Rattle.host_base.specs.Answers.{◌>>=◌, needs, ExplainsOrFails}
 use Rattle.host_base.specs.Causes.{Counts}
-use Rattle.host_base.proofs.Known.{both, one}
+use Rattle.host_base.proofs.Known.{both, one, always}
 use Rattle.disk_model.specs.Content.{Content}
 use Rattle.log_model.specs.declared.entry.Entry.{Entry}
 use Rattle.log_model.specs.Logs.{first_misplaced, first_partial}
@@ -23,8 +24,10 @@ use Rattle.log_reading.specs.LogPages.{page_in}
 use Rattle.log_reading.specs.Fronts.{chosen_in, is_readable, front_in}
 use Rattle.log_recovery.specs.declared.found.RecoveredBlocks.{RecoveredBlocks}
 use Rattle.log_recovery.specs.declared.whole.Recovered.{Recovered}
+use Rattle.log_recovery.specs.declared.whole.RecoveredLog.{RecoveredLog}
 use Rattle.log_recovery.specs.Recovering.{foreign_entry, Recovers}
-use Rattle.log_recovery.specs.LogStates.{all_or_refused, live_entries_in, whole_entries, has_lap, lap_in, FoundLog, log_in, LogState, recovery_in, RecoversLog}
+use Rattle.log_recovery.specs.LogStates.{all_or_refused, live_entries_in, whole_entries, has_lap, lap_in, FoundLog, log_in, LogState, recovery_in, IsRecoveredBy, RecoversLog}
+use Rattle.log_recovery.specs.Writing.{RecoversWith}
 
 -- ---- causes
 
@@ -201,16 +204,31 @@ pub lap_failed : (known : Option Content) (place : LogPlace) (front : RestartFro
 lap_failed known place front entries blocks e read found h =
     after_blocks known place front entries blocks (Err e) read found (first_failed known e (λ c. lap_in c place front.chosen) (λ _ lap. Ok (state_of front entries lap)) h)
 
-pub recovered_whole : (known : Option Content) (place : LogPlace) (front : RestartFront) (entries : List Entry) (blocks : RecoveredBlocks) (lap : ℕ) → WasRead known place front entries
-    → IfSome known (λ c. Recovers c entries place.clusters (Ok blocks)) → IfSome known (λ c. lap_in c place front.chosen ≡ Ok lap)
-    → IfSome known (λ c. RecoversLog c (recovery_in c place) (Ok (record { blocks = blocks; next_lap = lap; restart = front.restart; opens = front.opens })))
-recovered_whole known place front entries blocks lap read found lap_is =
-    after_blocks known place front entries blocks result read found
-    (then_on known lap (λ c. lap_in c place front.chosen) (λ _ n. Ok (state_of front entries n)) (λ c meant. RecoversLog c meant result) lap_is
-    (one known _ _ (λ c p. record { blocks = p.1; next_lap = refl; restart = refl; opens = refl }) found))
+-- all steps went well
+recovered_state : (known : Option Content) (place : LogPlace) (front : RestartFront) (entries : List Entry) (blocks : RecoveredBlocks) (lap : ℕ) → WasRead known place front entries
+    → IfSome known (λ c. Recovers c entries place.clusters (Ok blocks)) → IfSome known (λ c. lap_in c place front.chosen ≡ Ok lap) → IfSome known (λ c. recovery_in c place ≡ Ok (state_of front entries lap))
+recovered_state known place front entries blocks lap read found lap_is =
+    one known _ _ (λ c p. in_steps c place ∙ p)
+    (then_on known front (fronts place) (with_entries place) IsState read.front_is
+    (then_on known entries (λ c. live_entries_in c place front.chosen) (with_blocks place front) IsState read.entries_are
+    (then_on known entries (λ c. whole_entries c entries) (with_lap place front) IsState (all_whole known entries place.clusters blocks read.placed found)
+    (then_on known lap (λ c. lap_in c place front.chosen) (λ _ n. Ok (state_of front entries n)) IsState lap_is (always known _ (λ c. refl))))))
   where
-    result : Result Recovered RecoveryFault
-    result = Ok (record { blocks = blocks; next_lap = lap; restart = front.restart; opens = front.opens })
+    IsState : Content → Result LogState RecoveryFault → Type 0
+    IsState c r = r ≡ Ok (state_of front entries lap)
+
+pub recovered_whole : (known : Option Content) (place : LogPlace) (front : RestartFront) (entries : Vec Entry Global) (blocks : RecoveredBlocks) (lap : ℕ) → WasRead known place front entries.items
+    → IfSome known (λ c. Recovers c entries.items place.clusters (Ok blocks)) → IfSome known (λ c. lap_in c place front.chosen ≡ Ok lap)
+    → IfSome known (λ c. RecoversWith c (recovery_in c place) (Ok (record { entries = entries; recovered = record { blocks = blocks; next_lap = lap; restart = front.restart; opens = front.opens } })))
+recovered_whole known place front entries blocks lap read found lap_is =
+    both known _ _ _ (λ c p q. (p, q.1)) (recovered_state known place front entries.items blocks lap read found lap_is) found
+
+-- without its entries
+forgets_entries : (c : Content) (meant : Result LogState RecoveryFault) (found : RecoveredLog) → RecoversWith c meant (Ok found) → RecoversLog c meant (Ok found.recovered)
+forgets_entries c meant found h = subst (λ (m : Result LogState RecoveryFault). IsRecoveredBy c m found.recovered) (sym h.0) (record { blocks = h.1; next_lap = refl; restart = refl; opens = refl })
+
+pub forgets_known : (known : Option Content) (place : LogPlace) (found : RecoveredLog) → IfSome known (λ c. RecoversWith c (recovery_in c place) (Ok found)) → IfSome known (λ c. RecoversLog c (recovery_in c place) (Ok found.recovered))
+forgets_known known place found h = one known _ _ (λ c p. forgets_entries c (recovery_in c place) found p) h
 
 -- ---- laps
 

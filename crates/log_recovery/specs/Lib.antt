@@ -7,3 +7,5 @@ pub mod Groups
 pub mod Shadows
 pub mod LogStates
 pub mod Borrowing
+pub mod Own
+pub mod Writing

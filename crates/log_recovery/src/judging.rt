@@ -1,10 +1,9 @@
 //! What recovery makes of one block.
-ghost use Rattle.std.specs.Prelude.{◌≡◌, ◌*◌, ◌≤◌, false, true, length, All, IfOk, IfSome, IfErr, IsErrOf};
+ghost use Rattle.std.specs.Prelude.{◌≡◌, ◌*◌, ◌≤◌, false, true, length, All, IfOk, IfSome, IfErr};
 ghost use Rattle.std.specs.Ordering.{nat_cmp};
 ghost use Rattle.std.specs.BTreeSet.{contains};
-ghost use Rattle.host_base.specs.Causes.{Rose, Counts};
 ghost use Rattle.disk_model.specs.Sectors.{sectors};
-ghost use Rattle.block_view.specs.Views.{KeepsView};
+ghost use Rattle.block_view.specs.Views.{AsksView};
 ghost use Rattle.log_reading.specs.Views.{NeverForeign, recovery_cause};
 ghost use Rattle.log_recovery.specs.Blocks.{Judges, shadowed_by};
 ghost use Rattle.log_recovery.specs.Groups.{lent, LentLies};
@@ -76,9 +75,7 @@ pub fn judge<V: View>(
     ensures judged { IfSome (V.content view.old) (λ c. IfOk result (Judges (contains nat_cmp ended.now) (lent entries.now) block (c block))) }
     ensures sized { IfOk result (IsSizedFor block) }
     ensures never { IfErr result NeverForeign }
-    ensures kept { KeepsView V.content V.kept V.faults view.old view.new }
-    ensures fault { IsErrOf result RecoveryFault.Fault → Rose (V.faults view.old) (V.faults view.new) }
-    ensures counted { Counts recovery_cause (V.faults view.old) (V.faults view.new) result }
+    ensures kept { AsksView V.content V.kept V.faults recovery_cause view.old view.new result }
     ensures unasked { shadowed_by (contains nat_cmp ended.now) (lent entries.now) block ≡ true → view.new ≡ view.old }
 {
     if is_shadowed(ended, entries, block) {

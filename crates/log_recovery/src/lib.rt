@@ -8,12 +8,14 @@
 //! sector, and index blocks that begin in the first of eight.
 #![tactic(auto)]
 
+mod barring;
 mod covering;
 mod ended;
 mod found;
 mod groups;
 mod judging;
 mod making;
+mod own;
 mod places;
 mod recovering;
 mod shadowing;
@@ -21,6 +23,7 @@ mod updates;
 mod view;
 mod walks;
 mod whole;
+mod writing;
 
 pub use found::{RecoveredBlock, RecoveredBlocks, Shadow};
 pub use log_reading::RecoveryFault;
@@ -28,3 +31,4 @@ pub use places::{Places, places_of};
 pub use recovering::recover_entries;
 pub use view::RecoveredView;
 pub use whole::{Recovered, recover, recover_view};
+pub use writing::{ToWrite, recover_to_write};

@@ -44,6 +44,13 @@ pub fn meet(met: &mut Met, block: Block) -> Result<bool, AllocError>
     Ok(met.insert(key_of(block))?)
 }
 
+/// Whether a block was met, in time logarithmic in their number.
+pub fn was_met(met: &Met, block: Block) -> bool
+    ensures { result ≡ contains key_order met.now (key_of block) }
+{
+    met.contains(&key_of(block))
+}
+
 // One block more, in place of an equal one.
 fn put(places: &mut Places, block: Block, place: usize) -> Result<(), AllocError>
     ensures { OnOk result ((b : BlockOf) → get key_order places.new (key_of b) ≡ (if same_block b block then Some place else get key_order places.old (key_of b))) }

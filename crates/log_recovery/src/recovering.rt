@@ -1,11 +1,10 @@
 //! Recovery: the bodies block by block, in the order of their first updates, and the shadowed
 //! blocks.
-ghost use Rattle.std.specs.Prelude.{◌≡◌, ◌+◌, ◌<◌, ◌++◌, ◌∷◌, [], All, OnOk, IfOk, IfSome, IfErr, IsErrOf, length, take};
+ghost use Rattle.std.specs.Prelude.{◌≡◌, ◌+◌, ◌<◌, ◌++◌, ◌∷◌, [], All, OnOk, IfOk, IfSome, IfErr, length, take};
 ghost use Rattle.std.specs.Ordering.{nat_cmp};
 ghost use Rattle.std.specs.BTreeSet.{contains};
-ghost use Rattle.host_base.specs.Causes.{Rose, Counts};
 ghost use Rattle.log_model.specs.Logs.{IsLevel, is_ended};
-ghost use Rattle.block_view.specs.Views.{KeepsView};
+ghost use Rattle.block_view.specs.Views.{AsksView};
 ghost use Rattle.log_reading.specs.Views.{recovery_cause};
 ghost use Rattle.log_recovery.specs.Blocks.{Lies};
 ghost use Rattle.log_recovery.specs.Groups.{HasGroups};
@@ -85,9 +84,7 @@ fn note<V: View>(
     ensures foreign { IfSome (V.content view.old) (λ c. Found c log.now.entries.now index bodies.old.items → IfErr result (IsFirstPartial c log.now.entries.now)) }
     ensures met { OnOk result (HasMet met.new (take (index + 1) log.now.entries.now)) }
     ensures bodies { OnOk result (All IsSized bodies.new.items) }
-    ensures kept { KeepsView V.content V.kept V.faults view.old view.new }
-    ensures fault { IsErrOf result RecoveryFault.Fault → Rose (V.faults view.old) (V.faults view.new) }
-    ensures counted { Counts recovery_cause (V.faults view.old) (V.faults view.new) result }
+    ensures kept { AsksView V.content V.kept V.faults recovery_cause view.old view.new result }
 {
     let entry = &log.entries[index];
     let Some(block) = update_block(&entry.act) else {
@@ -111,9 +108,7 @@ fn recover_placed<V: View>(
     requires lies { All Lies entries.now }
     ensures answer { IfSome (V.content view.old) (λ c. RecoversPlaced c entries.now result) }
     ensures sized { IfOk result (λ found. All IsSized found.bodies.items) }
-    ensures kept { KeepsView V.content V.kept V.faults view.old view.new }
-    ensures fault { IsErrOf result RecoveryFault.Fault → Rose (V.faults view.old) (V.faults view.new) }
-    ensures counted { Counts recovery_cause (V.faults view.old) (V.faults view.new) result }
+    ensures kept { AsksView V.content V.kept V.faults recovery_cause view.old view.new result }
 {
     let log = IndexedLog {
         entries,
@@ -145,7 +140,9 @@ fn recover_placed<V: View>(
 /// It takes time near-linear in the number of entries and in their bytes, and linear in the sizes
 /// of the blocks with an update, whatever the log says: an entry is looked at a few times for each
 /// of at most 72 blocks. Memory is linear in the number of entries and in the bodies that it
-/// answers. The view is asked once for each block with an update that isn't shadowed.
+/// answers. Each of these has room for 4,096 bytes, so a log that was made for it, with an update
+/// of one byte for each block, takes about 40 times its own bytes. The view is asked once for each
+/// block with an update that isn't shadowed.
 pub fn recover_entries<V: View>(
     alloc: Global,
     view: &mut V,
@@ -155,9 +152,7 @@ pub fn recover_entries<V: View>(
     requires { All IsLevel entries.now }
     ensures answer { IfSome (V.content view.old) (λ c. Recovers c entries.now clusters result) }
     ensures sized { IfOk result (λ found. All IsSized found.bodies.items) }
-    ensures kept { KeepsView V.content V.kept V.faults view.old view.new }
-    ensures fault { IsErrOf result RecoveryFault.Fault → Rose (V.faults view.old) (V.faults view.new) }
-    ensures counted { Counts recovery_cause (V.faults view.old) (V.faults view.new) result }
+    ensures kept { AsksView V.content V.kept V.faults recovery_cause view.old view.new result }
 {
     match misplaced(entries, clusters) {
         Some(lsn) => Err(RecoveryFault::ForeignLog { lsn }),

@@ -1,7 +1,7 @@
 //! Recovery by the log as it stands on a disk.
 ghost use Rattle.std.specs.Prelude.{◌≡◌, ◌+◌, ◌^◌, ◌<◌, true, nat_lt, None, All, IfOk, IfSome, IsErrOf};
 ghost use Rattle.host_base.specs.Answers.{Gives, GivesOrFails};
-ghost use Rattle.host_base.specs.Causes.{HasFailed, Rose, Counts, last_moment};
+ghost use Rattle.host_base.specs.Causes.{HasFailed, last_moment};
 ghost use Rattle.disk_model.specs.Sectors.{sector_of};
 ghost use Rattle.disk_model.specs.Content.{content_of};
 ghost use Rattle.device_view.specs.Devices.{KeepsDevice, CountsOnDevice};
@@ -9,13 +9,14 @@ ghost use Rattle.log_model.specs.Entries.{FitsEntry};
 ghost use Rattle.log_model.specs.Logs.{IsLevel, first_misplaced};
 ghost use Rattle.log_page.specs.LiveLogs.{lap_above};
 ghost use Rattle.log_page.specs.Places.{sequence_bits};
-ghost use Rattle.block_view.specs.Views.{KeepsView};
+ghost use Rattle.block_view.specs.Views.{AsksView};
 ghost use Rattle.log_reading.specs.Views.{recovery_cause};
 ghost use Rattle.log_reading.specs.LogPages.{page_in, IsLogPlace};
 ghost use Rattle.log_reading.specs.Fronts.{front_in};
 ghost use Rattle.log_reading.specs.Live.{reading_of};
 ghost use Rattle.log_recovery.specs.Recovering.{IsSized};
 ghost use Rattle.log_recovery.specs.LogStates.{own_entries, entries_by, live_entries_in, has_lap, lap_by, lap_in, recovery_in, RecoversLog};
+ghost use Rattle.log_recovery.specs.Writing.{RecoversWith};
 
 use crate::found::RecoveredBlocks;
 use crate::recovering::recover_entries;
@@ -47,6 +48,13 @@ pub struct Recovered {
     pub opens: u32,
 }
 
+/// The entries of a log, and what recovery finds by them.
+#[derive(Drop)]
+pub struct RecoveredLog {
+    pub entries: Vec<Entry>,
+    pub recovered: Recovered,
+}
+
 // What the log's restart pages say.
 fn read_front<V: View>(
     alloc: Global,
@@ -55,9 +63,7 @@ fn read_front<V: View>(
 ) -> Result<RestartFront, RecoveryFault>
     requires place { IsLogPlace place.now }
     ensures answer { IfSome (V.content view.old) (λ c. GivesOrFails (λ front. front) recovery_cause result (front_in (page_in c place.now 0) (page_in c place.now 1))) }
-    ensures kept { KeepsView V.content V.kept V.faults view.old view.new }
-    ensures fault { IsErrOf result RecoveryFault.Fault → Rose (V.faults view.old) (V.faults view.new) }
-    ensures counted { Counts recovery_cause (V.faults view.old) (V.faults view.new) result }
+    ensures kept { AsksView V.content V.kept V.faults recovery_cause view.old view.new result }
 {
     let mut body = Body::empty(alloc)?;
     let mut first = Vec::new(alloc);
@@ -92,9 +98,7 @@ fn entries_by<V: View>(
     ensures answer { IfSome (V.content view.old) (λ c. GivesOrFails (λ entries. entries.items) recovery_cause result (entries_by c place.now restart)) }
     ensures level { IfOk result (λ entries. All IsLevel entries.items) }
     ensures placed { IfOk result (λ entries. first_misplaced entries.items place.now.clusters ≡ None) }
-    ensures kept { KeepsView V.content V.kept V.faults view.old view.new }
-    ensures fault { IsErrOf result RecoveryFault.Fault → Rose (V.faults view.old) (V.faults view.new) }
-    ensures counted { Counts recovery_cause (V.faults view.old) (V.faults view.new) result }
+    ensures kept { AsksView V.content V.kept V.faults recovery_cause view.old view.new result }
 {
     if restart.is_clean() {
         return Ok(Vec::new(alloc));
@@ -118,9 +122,7 @@ fn live_entries_in<V: View>(
     ensures answer { IfSome (V.content view.old) (λ c. GivesOrFails (λ entries. entries.items) recovery_cause result (live_entries_in c place.now chosen)) }
     ensures level { IfOk result (λ entries. All IsLevel entries.items) }
     ensures placed { IfOk result (λ entries. first_misplaced entries.items place.now.clusters ≡ None) }
-    ensures kept { KeepsView V.content V.kept V.faults view.old view.new }
-    ensures fault { IsErrOf result RecoveryFault.Fault → Rose (V.faults view.old) (V.faults view.new) }
-    ensures counted { Counts recovery_cause (V.faults view.old) (V.faults view.new) result }
+    ensures kept { AsksView V.content V.kept V.faults recovery_cause view.old view.new result }
 {
     match chosen {
         Some(restart) => entries_by(alloc, view, place, restart),
@@ -186,13 +188,35 @@ fn lap_in<V: View>(
 ) -> Result<u64, RecoveryFault>
     requires place { IsLogPlace place.now }
     ensures answer { IfSome (V.content view.old) (λ c. GivesOrFails (λ lap. lap) recovery_cause result (lap_in c place.now chosen)) }
-    ensures kept { KeepsView V.content V.kept V.faults view.old view.new }
-    ensures fault { IsErrOf result RecoveryFault.Fault → Rose (V.faults view.old) (V.faults view.new) }
-    ensures counted { Counts recovery_cause (V.faults view.old) (V.faults view.new) result }
+    ensures kept { AsksView V.content V.kept V.faults recovery_cause view.old view.new result }
 {
     let mut body = Body::empty(alloc)?;
     let greatest = greatest_lsn(view, place, chosen, &mut body)?;
     lap_by(place.pages, greatest)
+}
+
+/// What recovery finds by a log, as [`recover_view`] does, with the entries.
+pub fn recover_log<V: View>(
+    alloc: Global,
+    view: &mut V,
+    place: &LogPlace,
+) -> Result<RecoveredLog, RecoveryFault>
+    requires place { IsLogPlace place.now }
+    ensures answer { IfSome (V.content view.old) (λ c. RecoversWith c (recovery_in c place.now) result) }
+    ensures sized { IfOk result (λ found. All IsSized found.recovered.blocks.bodies.items) }
+    ensures kept { AsksView V.content V.kept V.faults recovery_cause view.old view.new result }
+{
+    let front = read_front(alloc, view, place)?;
+    let entries = live_entries_in(alloc, view, place, front.chosen)?;
+    let blocks = recover_entries(alloc, view, &entries, place.clusters)?;
+    let next_lap = lap_in(alloc, view, place, front.chosen)?;
+    let recovered = Recovered {
+        blocks,
+        next_lap,
+        restart: front.restart,
+        opens: front.opens,
+    };
+    Ok(RecoveredLog { entries, recovered })
 }
 
 /// What recovery finds by the log that lies at this place of the volume that a view shows. A clean
@@ -209,7 +233,8 @@ fn lap_in<V: View>(
 /// - [`RecoveryFault::Fault`]: the view failed. The other error is want of memory.
 ///
 /// Time is linear in the log's pages on the device and in its runs for each, and near-linear in the
-/// bytes of its entries.
+/// bytes of its entries, whoever wrote them. Memory is linear in the entries and in the bodies, each
+/// of which has room for 4,096 bytes.
 pub fn recover_view<V: View>(
     alloc: Global,
     view: &mut V,
@@ -218,20 +243,10 @@ pub fn recover_view<V: View>(
     requires place { IsLogPlace place.now }
     ensures answer { IfSome (V.content view.old) (λ c. RecoversLog c (recovery_in c place.now) result) }
     ensures sized { IfOk result (λ found. All IsSized found.blocks.bodies.items) }
-    ensures kept { KeepsView V.content V.kept V.faults view.old view.new }
-    ensures fault { IsErrOf result RecoveryFault.Fault → Rose (V.faults view.old) (V.faults view.new) }
-    ensures counted { Counts recovery_cause (V.faults view.old) (V.faults view.new) result }
+    ensures kept { AsksView V.content V.kept V.faults recovery_cause view.old view.new result }
 {
-    let front = read_front(alloc, view, place)?;
-    let entries = live_entries_in(alloc, view, place, front.chosen)?;
-    let blocks = recover_entries(alloc, view, &entries, place.clusters)?;
-    let next_lap = lap_in(alloc, view, place, front.chosen)?;
-    Ok(Recovered {
-        blocks,
-        next_lap,
-        restart: front.restart,
-        opens: front.opens,
-    })
+    let found = recover_log(alloc, view, place)?;
+    Ok(found.recovered)
 }
 
 /// The same on a device, which is only read: what a crash may leave of it stays too.

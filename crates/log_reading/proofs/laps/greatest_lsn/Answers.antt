@@ -20,7 +20,7 @@ loop-next-preserved g c = record {
     stays = c.in_ok-said.ensures.kept.stays ∙ c.loop-next.invariant.kept.stays;
     later = omega (arith, c.loop-next.invariant.kept.later, c.in_ok-said.ensures.kept.later);
   };
-  counted = c.in_ok-said.ensures.counted ∙ c.loop-next.invariant.counted;
+  counted = c.in_ok-said.ensures.kept.counted ∙ c.loop-next.invariant.counted;
 }
 
 pub returns-clause-value : goal.returns-clause-value

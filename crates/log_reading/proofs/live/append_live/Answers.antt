@@ -42,7 +42,7 @@ loop-passed-preserved g c =
           c.after-at.result.lap c.after-at.result.page c.after-at.result.from (ap (λ q. q.lap) next.value) (ap (λ q. q.page) next.value) (ap (λ q. q.from) next.value) c.in-Ok.is;
       fits = c.append_page.ensures.fits p.invariant.fits;
       kept = record { same = step.same ∙ kept.same; stays = step.stays ∙ kept.stays; later = omega (arith, kept.later, step.later) };
-      counted = c.in_ok-append_page.ensures.counted ∙ p.invariant.counted;
+      counted = c.in_ok-append_page.ensures.kept.counted ∙ p.invariant.counted;
       begun = next.begun;
       inside = next.inside;
       place = rw (ap (λ q. q.from) next.value) (omega arith);

@@ -15,7 +15,7 @@ loop-i-preserved g c =
           c.loop-i.invariant.read;
       size = omega (arith, c.loop-i.invariant.size, c.in_ok-append_sector.ensures.size);
       kept = record { same = step.same ∙ kept.same; stays = step.stays ∙ kept.stays; later = omega (arith, kept.later, step.later) };
-      counted = c.in_ok-append_sector.ensures.counted ∙ c.loop-i.invariant.counted;
+      counted = c.in_ok-append_sector.ensures.kept.counted ∙ c.loop-i.invariant.counted;
     }
 
 pub returns-clause-value : goal.returns-clause-value

@@ -5,8 +5,8 @@ use Rattle.log_recovery.proofs.whole.recover.Goals as goal
 
 pub returns-clause-fault : goal.returns-clause-fault
 returns-clause-fault g c = λ fault.
-    device_failed g.D.Device.gives g.D.Device.sector_count g.D.Device.changes_of g.D.Device.fault_count g.D.Device.moment_of c.args.device.now _ _ _ _ _ _ (c.recover_view.ensures.kept.stays ∙ c.new-view.ensures.kept) (omega (arith, c.new-view.ensures.faults)) (c.recover_view.ensures.fault fault) (search rules)
+    device_failed g.D.Device.gives g.D.Device.sector_count g.D.Device.changes_of g.D.Device.fault_count g.D.Device.moment_of c.args.device.now _ _ _ _ _ _ (c.recover_view.ensures.kept.stays ∙ c.new-view.ensures.kept) (omega (arith, c.new-view.ensures.faults)) (rw fault at c.recover_view.ensures.kept.counted) (search rules)
 
 pub returns-clause-counted : goal.returns-clause-counted
 returns-clause-counted g c = λ early.
-    device_counts recovery_cause c.recover_view.result g.D.Device.gives g.D.Device.sector_count g.D.Device.changes_of g.D.Device.fault_count g.D.Device.moment_of c.args.device.now _ _ _ _ _ _ (c.recover_view.ensures.kept.stays ∙ c.new-view.ensures.kept) c.new-view.ensures.faults c.recover_view.new.view.later c.recover_view.ensures.counted (search rules) early
+    device_counts recovery_cause c.recover_view.result g.D.Device.gives g.D.Device.sector_count g.D.Device.changes_of g.D.Device.fault_count g.D.Device.moment_of c.args.device.now _ _ _ _ _ _ (c.recover_view.ensures.kept.stays ∙ c.new-view.ensures.kept) c.new-view.ensures.faults c.recover_view.new.view.later c.recover_view.ensures.kept.counted (search rules) early
