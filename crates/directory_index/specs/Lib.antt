@@ -1,5 +1,4 @@
 pub mod Errors
-pub mod Fills
 pub mod Placed
 pub mod Answered
 pub mod Loaded

@@ -1,13 +1,13 @@
 //! The first directory whose index isn't the list of its names.
-ghost use Rattle.std.specs.Prelude.{◌≡◌, ◌<◌, ◌≤◌, ℕ, Ok, Some, IfSome, IsErrOf, length, slice_index};
+ghost use Rattle.std.specs.Prelude.{◌≡◌, ◌<◌, ℕ, Ok, Some, IfSome, length, slice_index};
 ghost use Rattle.std.specs.Option.{option_copied};
 ghost use Rattle.host_base.specs.Answers.{GivesOrFails};
-ghost use Rattle.host_base.specs.Causes.{Rose, Counts};
+ghost use Rattle.host_base.specs.Causes.{Counts};
 ghost use Rattle.state_model.specs.Loads.{table_in};
 ghost use Rattle.state_model.specs.Rules.{names_in, first_failing};
 ghost use Rattle.record_rules.specs.Counts.{names_at};
 ghost use Rattle.record_rules.specs.Links.{links_in};
-ghost use Rattle.block_view.specs.Views.{KeepsView};
+ghost use Rattle.block_view.specs.Views.{AsksView};
 ghost use Rattle.volume_model.specs.Volumes.{Volume};
 ghost use Rattle.volume_model.specs.Indexes.{index_links, lists_names, keeps_index};
 ghost use Rattle.directory_index.specs.Errors.{index_cause};
@@ -20,6 +20,7 @@ use file_record::FileRec;
 use file_tree::LinkList;
 use host_base::FileRef;
 use record_rules::{file_at, is_directory_record, is_index};
+use state_model::ClusterSize;
 use std::alloc::Global;
 use upcase_order::Upcase;
 
@@ -53,7 +54,7 @@ fn lists_names(
 fn has_index<V: View>(
     alloc: Global,
     view: &mut V,
-    per: u64,
+    per: ClusterSize,
     up: &Upcase,
     files: &[Option<FileRec>],
     links: &[LinkList],
@@ -61,14 +62,10 @@ fn has_index<V: View>(
     directory: FileRef,
     file: &FileRec,
 ) -> Result<bool, IndexFault>
-    requires some { 0 < per }
-    requires few { per ≤ 8 }
     requires table { links.now ≡ links_in files.now }
     requires counted { count ≡ names_in (table_in files.now) directory (length files.now) }
     ensures value { IfSome (V.content view.old) (λ c. GivesOrFails (λ kept. kept) index_cause result (Ok (lists_names up.now (table_in files.now) (length files.now) directory (index_links c per up.now file.now)))) }
-    ensures kept { KeepsView V.content V.kept V.faults view.old view.new }
-    ensures fault { IsErrOf result IndexFault.View → Rose (V.faults view.old) (V.faults view.new) }
-    ensures counted { Counts index_cause (V.faults view.old) (V.faults view.new) result }
+    ensures kept { AsksView V.content V.kept V.faults index_cause view.old view.new result }
 {
     let held = index_links(alloc, view, per, up, file)?;
     Ok(lists_names(up, files, links, count, directory, &held))
@@ -99,23 +96,19 @@ fn directory_at(files: &[Option<FileRec>], number: u64) -> Option<&FileRec>
 fn keeps_index<V: View>(
     alloc: Global,
     view: &mut V,
-    per: u64,
+    per: ClusterSize,
     up: &Upcase,
     files: &[Option<FileRec>],
     links: &[LinkList],
     counts: &[usize],
     number: u64,
 ) -> Result<bool, IndexFault>
-    requires some { 0 < per }
-    requires few { per ≤ 8 }
     requires table { links.now ≡ links_in files.now }
     requires size { length counts.now ≡ length files.now }
     requires counted { (n : ℕ) → n < length files.now → slice_index counts.now n ≡ names_at (table_in files.now) n (length files.now) }
     requires inside { number < length files.now }
     ensures value { IfSome (V.content view.old) (λ c. GivesOrFails (λ kept. kept) index_cause result (Ok (keeps_index c (volume_with per files.now) up.now number))) }
-    ensures kept { KeepsView V.content V.kept V.faults view.old view.new }
-    ensures fault { IsErrOf result IndexFault.View → Rose (V.faults view.old) (V.faults view.new) }
-    ensures counted { Counts index_cause (V.faults view.old) (V.faults view.new) result }
+    ensures kept { AsksView V.content V.kept V.faults index_cause view.old view.new result }
 {
     let Some(file) = directory_at(files, number) else {
         return Ok(true);
@@ -132,21 +125,17 @@ fn keeps_index<V: View>(
 fn first_failing<V: View>(
     alloc: Global,
     view: &mut V,
-    per: u64,
+    per: ClusterSize,
     up: &Upcase,
     files: &[Option<FileRec>],
     links: &[LinkList],
     counts: &[usize],
 ) -> Result<Option<u64>, IndexFault>
-    requires some { 0 < per }
-    requires few { per ≤ 8 }
     requires table { links.now ≡ links_in files.now }
     requires size { length counts.now ≡ length files.now }
     requires counted { (n : ℕ) → n < length files.now → slice_index counts.now n ≡ names_at (table_in files.now) n (length files.now) }
     ensures value { IfSome (V.content view.old) (λ c. GivesOrFails (λ found. found) index_cause result (Ok (first_failing (keeps_index c (volume_with per files.now) up.now) (length files.now)))) }
-    ensures kept { KeepsView V.content V.kept V.faults view.old view.new }
-    ensures fault { IsErrOf result IndexFault.View → Rose (V.faults view.old) (V.faults view.new) }
-    ensures counted { Counts index_cause (V.faults view.old) (V.faults view.new) result }
+    ensures kept { AsksView V.content V.kept V.faults index_cause view.old view.new result }
 {
     for number in 0..files.len() {
         let kept = keeps_index(alloc, view, per, up, files, links, counts, number as u64)?;
@@ -168,26 +157,23 @@ fn first_failing<V: View>(
 /// - [`IndexFault::Memory`]: there is no memory left.
 ///
 /// It reads each block of the indexes once, one directory after the other, and holds the names of
-/// one directory at a time. It takes time linear in the files, in the blocks that index allocations
-/// have and the names that they hold, and for each name in those of its file.
+/// one directory at a time. It takes time near-linear in the files, in the blocks that hold nodes
+/// and the names that these have, and for each name in those of its file; blocks of an allocation
+/// that no node lies in cost nothing.
 pub fn first_broken<V: View>(
     alloc: Global,
     view: &mut V,
-    per: u64,
+    per: ClusterSize,
     up: &Upcase,
     files: &[Option<FileRec>],
     links: &[LinkList],
     counts: &[usize],
 ) -> Result<Option<u64>, IndexFault>
-    requires some { 0 < per }
-    requires few { per ≤ 8 }
     requires table { links.now ≡ links_in files.now }
     requires size { length counts.now ≡ length files.now }
     requires counted { (n : ℕ) → n < length files.now → slice_index counts.now n ≡ names_at (table_in files.now) n (length files.now) }
     ensures value { IfSome (V.content view.old) (λ c. (v : Volume) → v.per ≡ per → v.files ≡ files.now → GivesOrFails (λ found. found) index_cause result (Ok (first_failing (keeps_index c v up.now) (length files.now)))) }
-    ensures kept { KeepsView V.content V.kept V.faults view.old view.new }
-    ensures fault { IsErrOf result IndexFault.View → Rose (V.faults view.old) (V.faults view.new) }
-    ensures counted { Counts index_cause (V.faults view.old) (V.faults view.new) result }
+    ensures kept { AsksView V.content V.kept V.faults index_cause view.old view.new result }
 {
     first_failing(alloc, view, per, up, files, links, counts)
 }

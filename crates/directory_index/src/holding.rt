@@ -1,10 +1,9 @@
 //! The names that a directory's index holds.
-ghost use Rattle.std.specs.Prelude.{◌≡◌, ◌<◌, ◌≤◌, Ok, IfSome, IsErrOf};
+ghost use Rattle.std.specs.Prelude.{◌≡◌, Ok, IfSome};
 ghost use Rattle.host_base.specs.Answers.{GivesOrFails};
-ghost use Rattle.host_base.specs.Causes.{Rose, Counts};
 ghost use Rattle.index_model.specs.Walks.{walk_of};
 ghost use Rattle.index_tree.specs.Places.{place_of};
-ghost use Rattle.block_view.specs.Views.{KeepsView};
+ghost use Rattle.block_view.specs.Views.{AsksView};
 ghost use Rattle.volume_model.specs.Indexes.{links_read, index_links};
 ghost use Rattle.directory_index.specs.Errors.{index_cause};
 ghost use Rattle.directory_index.specs.Answered.{answer_of};
@@ -15,6 +14,7 @@ use block_view::{View, ViewFault};
 use file_record::FileRec;
 use file_tree::LinkList;
 use index_tree::{DirPlace, TreeFault, walk};
+use state_model::ClusterSize;
 use std::alloc::Global;
 use upcase_order::Upcase;
 
@@ -41,9 +41,7 @@ fn links_at<V: View>(
     dir: &DirPlace,
 ) -> Result<Option<LinkList>, IndexFault>
     ensures value { IfSome (V.content view.old) (λ c. GivesOrFails (λ links. links) index_cause result (Ok (links_read (walk_of c (place_of dir.now) up.now dir.now.root)))) }
-    ensures kept { KeepsView V.content V.kept V.faults view.old view.new }
-    ensures fault { IsErrOf result IndexFault.View → Rose (V.faults view.old) (V.faults view.new) }
-    ensures counted { Counts index_cause (V.faults view.old) (V.faults view.new) result }
+    ensures kept { AsksView V.content V.kept V.faults index_cause view.old view.new result }
 {
     answer_of(walk(alloc, view, dir, up))
 }
@@ -57,21 +55,18 @@ fn links_at<V: View>(
 /// - [`IndexFault::View`]: the view failed, and counts it.
 /// - [`IndexFault::Memory`]: there is no memory left.
 ///
-/// It reads each block of the index once. It takes time and memory linear in the blocks that the
-/// allocation has, also where its clusters are sparse, and in the bytes of the nodes.
+/// It reads each block of the index once. It takes memory linear in the runs of the allocation and
+/// in the bytes of the nodes; time is near-linear in these, where the runs stand in order. Blocks
+/// that no node lies in cost nothing.
 pub fn index_links<V: View>(
     alloc: Global,
     view: &mut V,
-    per: u64,
+    per: ClusterSize,
     up: &Upcase,
     file: &FileRec,
 ) -> Result<Option<LinkList>, IndexFault>
-    requires some { 0 < per }
-    requires few { per ≤ 8 }
     ensures value { IfSome (V.content view.old) (λ c. GivesOrFails (λ links. links) index_cause result (Ok (index_links c per up.now file.now))) }
-    ensures kept { KeepsView V.content V.kept V.faults view.old view.new }
-    ensures fault { IsErrOf result IndexFault.View → Rose (V.faults view.old) (V.faults view.new) }
-    ensures counted { Counts index_cause (V.faults view.old) (V.faults view.new) result }
+    ensures kept { AsksView V.content V.kept V.faults index_cause view.old view.new result }
 {
     match index_place(alloc, per, file)? {
         Some(dir) => links_at(alloc, view, up, &dir),

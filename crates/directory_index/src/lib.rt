@@ -8,7 +8,6 @@
 
 mod breaking;
 mod fault;
-mod filling;
 mod holding;
 mod placing;
 mod roots;
@@ -16,5 +15,5 @@ mod roots;
 pub use breaking::first_broken;
 pub use fault::IndexFault;
 pub use holding::index_links;
-pub use index_tree::DirPlace;
+pub use index_tree::{BlockList, DirPlace};
 pub use placing::index_place;

@@ -1,48 +1,45 @@
 //! Where a directory's index lies.
-ghost use Rattle.std.specs.Prelude.{◌≡◌, ◌<◌, ◌≤◌, IfOk, IfSome};
+ghost use Rattle.std.specs.Prelude.{◌≡◌, IfOk, IfSome};
 ghost use Rattle.stream_map.specs.Runs.{HasSmallRuns};
 ghost use Rattle.index_tree.specs.Places.{place_of};
 ghost use Rattle.volume_model.specs.Indexes.{stream_blocks, index_stream, index_place, root_value};
 ghost use Rattle.directory_index.specs.Placed.{root_in};
 
-use crate::filling::blocks_of;
 use crate::roots::{index_stream, root_value};
-use block_view::Block;
 use file_record::FileRec;
 use host_base::{Bytes, Memory};
-use index_tree::DirPlace;
-use state_model::Stream;
+use index_tree::{BlockList, DirPlace};
+use state_model::{ClusterSize, Stream};
 use std::alloc::Global;
 
 // The blocks of a stream; a value in the record has none.
-fn stream_blocks(alloc: Global, per: u64, stream: &Option<Stream>) -> Result<Vec<Block>, Memory>
-    requires some { 0 < per }
-    requires few { per ≤ 8 }
-    requires small { IfSome stream.now HasSmallRuns }
-    ensures { IfOk result (λ blocks. blocks.items ≡ stream_blocks per stream.now) }
+fn stream_blocks(alloc: Global, per: ClusterSize, stream: Option<Stream>) -> BlockList
+    requires small { IfSome stream HasSmallRuns }
+    ensures { result ≡ stream_blocks per stream }
 {
     match stream {
-        None => Ok(Vec::new(alloc)),
-        Some(Stream::Held(_)) => Ok(Vec::new(alloc)),
-        Some(Stream::Placed(extents)) => blocks_of(alloc, per, extents),
+        None => BlockList::new(alloc),
+        Some(Stream::Held(_)) => BlockList::new(alloc),
+        Some(Stream::Placed(extents)) => BlockList::of_extents(alloc, per, extents),
     }
 }
 
 // The blocks of a directory's index.
-fn index_blocks(alloc: Global, per: u64, file: &FileRec) -> Result<Vec<Block>, Memory>
-    requires some { 0 < per }
-    requires few { per ≤ 8 }
-    ensures { IfOk result (λ blocks. blocks.items ≡ stream_blocks per (index_stream file.now)) }
+fn index_blocks(alloc: Global, per: ClusterSize, file: &FileRec) -> Result<BlockList, Memory>
+    ensures { IfOk result (λ blocks. blocks ≡ stream_blocks per (index_stream file.now)) }
 {
     let stream = index_stream(alloc, file)?;
-    stream_blocks(alloc, per, &stream)
+    Ok(stream_blocks(alloc, per, stream))
 }
 
 // Where an index with this root lies.
 #[tactic(auto, unfolding(volume_model::specs::Indexes::index_place))]
-fn place_below(alloc: Global, per: u64, file: &FileRec, root: &Bytes) -> Result<DirPlace, Memory>
-    requires some { 0 < per }
-    requires few { per ≤ 8 }
+fn place_below(
+    alloc: Global,
+    per: ClusterSize,
+    file: &FileRec,
+    root: &Bytes,
+) -> Result<DirPlace, Memory>
     ensures place { IfOk result (λ found. place_of found ≡ index_place per file.now) }
     ensures root { IfOk result (λ found. found.root ≡ root.now) }
     ensures used { IfOk result (λ found. found.used ≡ 0) }
@@ -51,7 +48,7 @@ fn place_below(alloc: Global, per: u64, file: &FileRec, root: &Bytes) -> Result<
     Ok(DirPlace {
         root: root.clone()?,
         blocks,
-        step: 8 / per,
+        step: 8 / per.sectors(),
         used: 0,
     })
 }
@@ -61,12 +58,13 @@ fn place_below(alloc: Global, per: u64, file: &FileRec, root: &Bytes) -> Result<
 /// isn't resident. `used` is 0, since the attributes of a file don't say how many bytes its base
 /// record uses; a caller that plans a change of the index sets it. The error is want of memory.
 ///
-/// It takes time and memory linear in the attributes and runs of the file, and in the blocks that
-/// the allocation has by its real size and that begin in its runs: also where its clusters are
-/// sparse. Where clusters lie in several runs, its time is linear in these.
-pub fn index_place(alloc: Global, per: u64, file: &FileRec) -> Result<Option<DirPlace>, Memory>
-    requires some { 0 < per }
-    requires few { per ≤ 8 }
+/// It takes time and memory linear in the attributes and runs of the file where the pieces of the
+/// allocation stand in order, however many blocks the allocation has.
+pub fn index_place(
+    alloc: Global,
+    per: ClusterSize,
+    file: &FileRec,
+) -> Result<Option<DirPlace>, Memory>
     ensures place { IfOk result (λ found. IfSome found (λ dir. place_of dir ≡ index_place per file.now)) }
     ensures root { IfOk result (λ found. root_in found ≡ root_value file.now) }
     ensures used { IfOk result (λ found. IfSome found (λ dir. dir.used ≡ 0)) }

@@ -6,7 +6,7 @@ use Rattle.std.specs.List.{AllByRecursion}
 use Rattle.std.proofs.lemmas.List.Elements.{All-from_recursion}
 use Rattle.block_view.specs.Changes.{Fits}
 use Rattle.record_model.proofs.NodeSpelling.{length-node_spelling}
-use Rattle.index_root.specs.Roots.{new_node}
+use Rattle.index_node.specs.Roots.{new_node}
 use Rattle.disk_model.specs.declared.block.Change.{Change}
 use Rattle.disk_model.specs.Content.{Content}
 use Rattle.record_model.specs.declared.entry.Entry.{Entry}

@@ -22,7 +22,7 @@ use Rattle.record_model.specs.Nodes.{Node, node_at, node_spelling, FitsNode}
 use Rattle.record_model.proofs.NodeSpelling.{node_signed, length-node_spelling, node_spells}
 use Rattle.record_model.proofs.NodeTables.{ok_from_node}
 use Rattle.index_node.proofs.Placing.{all_put}
-use Rattle.index_root.specs.Roots.{new_node}
+use Rattle.index_node.specs.Roots.{new_node}
 use Rattle.index_model.specs.Indexes.{Place, node_block, entries_of_node, is_index_body, node_of_body, node_of_part, node_of_block, nodes_of, some_entries}
 use Rattle.index_plan.specs.declared.write.Write.{Write}
 use Rattle.index_plan.specs.Paths.{chosen, over}

@@ -15,7 +15,7 @@ use Rattle.index_model.specs.Indexes.{Place, node_of_block, nodes_of, some_entri
 use Rattle.index_model.specs.Walks.{Broken}
 use Rattle.index_model.specs.Laws.{HoldsIndex}
 use Rattle.index_model.proofs.WalkLaw.{walk_passes}
-use Rattle.index_root.proofs.Spelled.{root_law}
+use Rattle.index_node.proofs.RootSpelled.{root_law}
 use Rattle.index_plan.specs.declared.plan.Rooted.{Rooted}
 use Rattle.index_plan.specs.declared.write.Write.{Write}
 use Rattle.index_plan.specs.Paths.{chosen, over, written_vcns}
@@ -24,7 +24,7 @@ use Rattle.index_plan.specs.Laws.{NewTree, InsertsInto, Once}
 use Rattle.index_plan.specs.Growth.{fits_in}
 use Rattle.index_plan.specs.Search.{put}
 use Rattle.index_plan.proofs.Standing.{same_self}
-use Rattle.index_root.specs.Roots.{root_spelling}
+use Rattle.index_node.specs.Roots.{root_spelling}
 use Rattle.index_change.specs.declared.plan.DirPlan.{DirPlan}
 use Rattle.index_change.specs.Changing.{IsLaidOut, uses, PutNodes}
 use Rattle.index_change.specs.Orders.{goes, link_of, put_link}

@@ -16,7 +16,7 @@ use Rattle.index_model.specs.Walks.{Broken}
 use Rattle.index_model.specs.Laws.{HoldsIndex}
 use Rattle.index_model.proofs.Complete.{some_levels}
 use Rattle.index_model.proofs.WalkLaw.{walk_passes}
-use Rattle.index_root.proofs.Spelled.{root_law}
+use Rattle.index_node.proofs.RootSpelled.{root_law}
 use Rattle.index_plan.specs.declared.plan.Rooted.{Rooted}
 use Rattle.index_plan.specs.Laws.{Once, RemovesFrom, TakesFewOut, full_without, NeedsLevelWithout as NeedsWithout}
 use Rattle.index_plan.specs.Reading.{nodes_of}

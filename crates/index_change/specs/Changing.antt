@@ -9,7 +9,7 @@ use Rattle.disk_model.specs.Sectors.{same_block, sectors}
 use Rattle.record_model.specs.Nodes.{node_spelling, FitsNode}
 use Rattle.index_model.specs.Trees.{Tree, held, times, one_if}
 use Rattle.index_model.specs.Indexes.{Place, node_block}
-use Rattle.index_root.specs.Roots.{new_node}
+use Rattle.index_node.specs.Roots.{new_node}
 use Rattle.index_plan.specs.declared.write.Write.{Write}
 
 -- how often a VCN is that of a node of the tree, or a fresh one

@@ -10,7 +10,7 @@ use Rattle.index_model.specs.Laws.{HoldsIndex}
 use Rattle.index_plan.specs.Laws.{Once, Sought, full_without}
 use Rattle.index_plan.specs.Lists.{way}
 use Rattle.index_plan.specs.Room.{tight_count}
-use Rattle.index_root.specs.Roots.{root_spelling, HaveSpelling}
+use Rattle.index_node.specs.Roots.{root_spelling, HaveSpelling}
 use Rattle.index_tree.specs.declared.fault.TreeFault.{TreeFault}
 use Rattle.index_tree.specs.declared.fault.TreeFault.TheVariants.{Node, Present, Absent, Deep, View}
 use Rattle.index_change.specs.declared.plan.DirPlan.{DirPlan}

@@ -3,16 +3,15 @@ ghost use Rattle.block_view.specs.declared.fault.ViewFault.TheVariants.{Memory a
 ghost use Rattle.block_view.specs.Changes.{Fits};
 ghost use Rattle.disk_model.specs.Sectors.{sectors};
 ghost use Rattle.record_model.specs.Nodes.{node_spelling, FitsNode};
-ghost use Rattle.index_root.specs.Roots.{new_node, HaveSpelling};
+ghost use Rattle.index_node.specs.Roots.{new_node, HaveSpelling};
 ghost use Rattle.index_change.specs.Changing.{PutsNode, PutNodes, WasOld, AllWereOld};
 ghost use Rattle.index_tree.specs.Faults.{FailsAsView};
 ghost use Rattle.index_tree.specs.Places.{place_of};
 
 use block_view::{Block, Body, Change, View, ViewFault};
 use host_base::Bytes;
-use index_node::{EntryList, Node};
+use index_node::{EntryList, Node, have_spelling};
 use index_plan::Write;
-use index_root::have_spelling;
 use index_tree::DirPlace;
 use std::alloc::{AllocError, Global};
 
@@ -35,7 +34,7 @@ fn body_of<V: View>(alloc: Global, v: &mut V, block: Block) -> Result<Body, View
 }
 
 /// The bytes of a node in a block.
-#[tactic(auto, using(index_root::proofs::Spelled::each_block))]
+#[tactic(auto, using(index_node::proofs::RootSpelled::each_block))]
 pub fn node_bytes(alloc: Global, vcn: u64, entries: EntryList) -> Result<Bytes, AllocError>
     requires { HaveSpelling entries }
     ensures spelled { IfOk result (λ bytes. bytes ≡ node_spelling (new_node vcn entries)) }

@@ -1,6 +1,6 @@
 ghost use Rattle.std.specs.Prelude.{All, ◌≡◌, ◌≤◌, ◌++◌, IfOk, IfSome, length, reverse};
 ghost use Rattle.block_view.specs.Changes.{Fits};
-ghost use Rattle.index_root.specs.Roots.{root_spelling, HaveSpelling};
+ghost use Rattle.index_node.specs.Roots.{root_spelling, HaveSpelling};
 ghost use Rattle.index_change.specs.Changing.{AllWereOld};
 ghost use Rattle.index_tree.specs.Faults.{FailsAsView};
 ghost use Rattle.index_tree.specs.Places.{place_of};
@@ -10,8 +10,8 @@ use crate::changing::changes_of;
 use crate::plan::DirPlan;
 use block_view::{View, ViewFault};
 use host_base::Bytes;
+use index_node::{have_spelling, write_root};
 use index_plan::Rooted;
-use index_root::{have_spelling, write_root};
 use index_tree::DirPlace;
 use record_model::EntryList;
 use std::alloc::{AllocError, Global};

@@ -18,7 +18,7 @@ mod plan;
 mod removing;
 
 pub use block_view::{Block, BlockKind, Change, View, ViewFault};
-pub use index_tree::{DirPlace, TreeFault};
+pub use index_tree::{BlockList, DirPlace, TreeFault};
 pub use inserting::plan_insert;
 pub use plan::DirPlan;
 pub use removing::plan_remove;

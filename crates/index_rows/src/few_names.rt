@@ -6,7 +6,7 @@ ghost use Rattle.disk_model.specs.declared.block.BlockKind.TheVariants.{Index as
 use block_view::{Block, BlockKind, Held, MemoryView};
 use file_tree::LinkList;
 use host_base::Bytes;
-use index_tree::DirPlace;
+use index_tree::{BlockList, DirPlace};
 use std::alloc::{AllocError, Global};
 
 /// The byte of a child that says that there is none.
@@ -117,7 +117,7 @@ pub fn place_of(alloc: Global, root: &Spot, count: usize) -> Result<DirPlace, Al
     }
     Ok(DirPlace {
         root: Bytes::from(value),
-        blocks,
+        blocks: BlockList::of_blocks(alloc, blocks),
         step: 2,
         used: 0,
     })

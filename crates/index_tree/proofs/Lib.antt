@@ -1,3 +1,6 @@
+pub mod Listed
+pub mod Near
+pub mod Marking
 pub mod Finals
 pub mod Steps
 pub mod Searching

@@ -195,7 +195,7 @@ fn find_from<V: View>(
     ensures cause { FailsByView (V.faults v.old) (V.faults v.new) result }
 {
     let root = read_root(alloc, dir)?;
-    let mut met = Met::new(alloc, dir)?;
+    let mut met = Met::new(alloc, dir);
     let name = name.units();
     let over = Finder {
         alloc,
@@ -209,8 +209,9 @@ fn find_from<V: View>(
 
 /// The links of the keys of a directory's index whose name is the same as this one by the table of
 /// upper-case units, in the order of names, where the view's content holds an index at that place.
-/// It reads the nodes on the way to the name and those that hold such keys, each once; it takes
-/// time and memory linear in their bytes, beside a byte for each block of the place.
+/// It reads the nodes on the way to the name and those that hold such keys, each once, and takes
+/// memory linear in their bytes; time is linear in these, with a search among the blocks that were
+/// met, and among the runs of the place, for each block.
 ///
 /// - [`TreeFault::Node`]: a node that it met, and the rule that this node breaks.
 /// - [`TreeFault::View`]: the view failed and counts it, or there is no memory left.

@@ -5,6 +5,7 @@
 //! those of the Linux-NTFS documentation, "$INDEX_ROOT", "Index Record" and "Index Entry".
 #![tactic(auto)]
 
+mod blocks;
 mod fault;
 mod finding;
 mod met;
@@ -13,6 +14,7 @@ mod place;
 mod walking;
 
 pub use block_view::{Block, BlockKind, Change, View, ViewFault};
+pub use blocks::BlockList;
 pub use fault::TreeFault;
 pub use finding::{find, side_of};
 pub use met::entry_link;

@@ -1,7 +1,10 @@
-ghost use Rattle.std.specs.Prelude.{◌≡◌, ℕ, List, IfOk, Ok};
+ghost use Rattle.std.specs.Prelude.{◌≡◌, ◌&&◌, ℕ, List, true, false, not, nat_lt, replicate, set, slice_index_or, IfOk, OnOk, Ok};
+ghost use Rattle.std.specs.Ordering.{nat_cmp};
+ghost use Rattle.std.specs.BTreeSet.{contains};
 ghost use Rattle.host_base.specs.Answers.{Gives};
 ghost use Rattle.index_model.specs.Indexes.{Place, entry_link, precedes};
 ghost use Rattle.index_model.specs.Walks.{nothing_met, entered, keyed, with_link, final, follows, named_event, found_event, all_judged};
+ghost use Rattle.index_tree.specs.Marks.{marks_of};
 ghost use Rattle.index_tree.specs.Places.{place_of};
 ghost use Rattle.index_tree.specs.Faults.{tree_cause};
 
@@ -11,15 +14,18 @@ use file_tree::{Link, LinkList};
 use index_model::Side;
 use record_model::{Entry, FileNameValue, ValueFault};
 use std::alloc::{AllocError, Global};
+use std::collections::BTreeSet;
 use std::marker::Model;
 use std_values::NamedValue;
 use upcase_order::Upcase;
 
-/// What a walk has met so far: the links of keys, and a mark for each block that was met.
+/// What a walk has met so far: the links of keys, and the numbers of the blocks that were met.
 #[derive(Drop)]
 pub struct Met {
     links: LinkList,
-    marks: Vec<bool>,
+    numbers: BTreeSet<u64>,
+    // The blocks of the place.
+    count: u64,
 }
 
 impl Model for Met {
@@ -27,7 +33,9 @@ impl Model for Met {
 
     ghost Value = { MetOf };
 
-    ghost view = { λ m. record { links = m.links; marks = m.marks.items } };
+    ghost use Rattle.index_tree.specs.Marks.{marks_of};
+
+    ghost view = { λ m. record { links = m.links; marks = marks_of m.numbers m.count } };
 }
 
 /// The link that an entry holds; the last entry of a node holds none, and so does one whose key is
@@ -76,15 +84,45 @@ fn follows(up: &Upcase, links: &[Link], link: &Link) -> bool
     }
 }
 
+// No block yet.
+fn no_numbers(alloc: Global) -> BTreeSet<u64>
+    ensures { (count : ℕ) → marks_of result count ≡ replicate count false }
+{
+    BTreeSet::new(alloc)
+}
+
+// Whether a block below the count wasn't met.
+fn is_unmet(numbers: &BTreeSet<u64>, count: u64, number: u64) -> bool
+    ensures { result ≡ (nat_lt number count && not (contains nat_cmp numbers.now number)) }
+{
+    number < count && !numbers.contains(&number)
+}
+
+// The same by the marks.
+fn is_new(numbers: &BTreeSet<u64>, count: u64, number: u64) -> bool
+    ensures { result ≡ not (slice_index_or (marks_of numbers.now count) number true) }
+{
+    is_unmet(numbers, count, number)
+}
+
+// Marks a block as met.
+fn mark(numbers: &mut BTreeSet<u64>, number: u64) -> Result<(), AllocError>
+    ensures { OnOk result ((count : ℕ) → marks_of numbers.new count ≡ set (marks_of numbers.old count) number true) }
+{
+    numbers.insert(number)?;
+    Ok(())
+}
+
 impl Met {
     /// Nothing yet, in an index at this place.
-    pub fn new(alloc: Global, dir: &DirPlace) -> Result<Met, AllocError>
-        ensures { IfOk result (λ m. m ≡ nothing_met (place_of dir.now)) }
+    pub fn new(alloc: Global, dir: &DirPlace) -> Met
+        ensures { result ≡ nothing_met (place_of dir.now) }
     {
-        Ok(Met {
+        Met {
             links: LinkList::new(alloc),
-            marks: vec![in alloc; false; dir.blocks.len()]?,
-        })
+            numbers: no_numbers(alloc),
+            count: dir.blocks.len(),
+        }
     }
 
     /// The links.
@@ -94,18 +132,16 @@ impl Met {
         self.links
     }
 
-    /// Meets the child of a node. `Node` with rule 7 comes where its VCN lies outside the
-    /// allocation or was met before.
+    /// Meets the child of a node, in time logarithmic in the blocks that were met. `Node` with rule
+    /// 7 comes where its VCN lies outside the allocation or was met before.
     pub fn enter(&mut self, dir: &DirPlace, vcn: u64, child: u64) -> Result<(), TreeFault>
         ensures { Gives (λ _. self.new) tree_cause result (entered (place_of dir.now) self.old vcn child) }
     {
         let number = dir.number_of(child);
-        if dir.node_block(child).is_none() || self.marks.get(number).copied().unwrap_or(true) {
+        if dir.node_block(child).is_none() || !is_new(&self.numbers, self.count, number) {
             return Err(TreeFault::Node { vcn, rule: 7 });
         }
-        if let Some(mark) = self.marks.get_mut(number) {
-            *mark = true;
-        }
+        mark(&mut self.numbers, number)?;
         Ok(())
     }
 

@@ -123,7 +123,7 @@ fn walk_from<V: View>(
     ensures cause { FailsByView (V.faults v.old) (V.faults v.new) result }
 {
     let root = read_root(alloc, dir)?;
-    let mut met = Met::new(alloc, dir)?;
+    let mut met = Met::new(alloc, dir);
     let over = Walker { alloc, dir, up };
     over.entries(v, LEVELS_BELOW, ROOT_VCN, root.as_slice(), &mut met)?;
     Ok(met.into_links())
@@ -132,8 +132,9 @@ fn walk_from<V: View>(
 /// The links of the keys of a directory's index, in the order of names, where the view's content
 /// holds an index at that place: each node below the root lies in a block of the place, is met once
 /// and on level 16 at most, and each key stands before the next one or has a name of the same
-/// units. It takes time and memory linear in the bytes of the nodes, beside a byte for each block
-/// of the place, and reads each block once.
+/// units. It reads each of these blocks once, and takes memory linear in the bytes of their nodes;
+/// time is linear in these, with a search among the blocks that were met, and among the runs of the
+/// place, for each block. Blocks of the place that aren't met cost nothing.
 ///
 /// - [`TreeFault::Node`]: the first node, in the order of the walk, that breaks a rule.
 /// - [`TreeFault::View`]: the view failed and counts it, or there is no memory left.

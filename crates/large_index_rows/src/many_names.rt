@@ -1,18 +1,19 @@
 //! Indexes of many names, in blocks of memory that are changed in place.
-ghost use Rattle.std.specs.Prelude.{◌≡◌, ◌*◌, length, IfErr, OnOk};
+ghost use Rattle.std.specs.Prelude.{◌≡◌, ◌*◌, ◌<◌, length, IfErr, IfOk, OnOk};
 ghost use Rattle.block_view.specs.declared.fault.ViewFault.TheVariants.{Fault as fault};
 ghost use Rattle.disk_model.specs.Sectors.{sectors};
-ghost use Rattle.index_root.specs.Roots.{HaveSpelling};
+ghost use Rattle.index_node.specs.Roots.{HaveSpelling};
+ghost use Rattle.stream_map.specs.Runs.{IsSmall, AreSmall};
 
 use disk_model::Body;
 use host_base::{Bytes, FileRef};
 use index_change::{
     Block, BlockKind, DirPlace, DirPlan, TreeFault, View, ViewFault, plan_insert, plan_remove,
 };
-use index_node::Node;
-use index_root::{have_spelling, write_root};
-use index_tree::walk;
-use record_model::{Entry, EntryList};
+use index_node::{Node, have_spelling, write_root};
+use index_tree::{BlockList, walk};
+use record_model::{Entry, EntryList, Run, Runs};
+use state_model::{ClusterSize, Extents};
 use std::alloc::{AllocError, Global};
 use std::process::Abort;
 use std::test::Fail;
@@ -92,7 +93,7 @@ fn last(alloc: Global, down: Option<u64>) -> Entry {
 }
 
 // The bytes of a node in a block.
-#[tactic(auto, using(index_root::proofs::Spelled::each_block))]
+#[tactic(auto, using(index_node::proofs::RootSpelled::each_block))]
 fn node_bytes(alloc: Global, vcn: u64, entries: EntryList) -> Result<Bytes, AllocError>
     requires { HaveSpelling entries }
 {
@@ -116,31 +117,96 @@ fn node(alloc: Global, vcn: u64, entries: EntryList) -> Result<Bytes, Fail> {
     Ok(node_bytes(alloc, vcn, entries)?)
 }
 
-// An index without entries, in a record with 400 other used bytes.
-fn bare(alloc: Global, blocks: u64) -> Result<Index, Fail> {
-    let mut bodies = Vec::new(alloc);
-    let mut places = Vec::new(alloc);
+// The bytes of a node without entries.
+fn bare_node(alloc: Global, vcn: u64) -> Result<Bytes, Fail> {
+    let mut entries = EntryList::new(alloc);
+    entries.push(last(alloc, None))?;
+    node(alloc, vcn, entries)
+}
+
+// An index without entries over so many blocks, in a record with 400 other used bytes.
+fn index_over(
+    alloc: Global,
+    bodies: Vec<Bytes>,
+    blocks: BlockList,
+    count: u64,
+) -> Result<Index, Fail> {
     let mut free = Vec::new(alloc);
-    for vcn in 0..blocks {
-        let mut entries = EntryList::new(alloc);
-        entries.push(last(alloc, None))?;
-        bodies.push(node(alloc, vcn, entries)?)?;
-        places.push(Block {
-            first: vcn.wrapping_mul(8),
-            kind: BlockKind::Index,
-        })?;
+    for vcn in 0..count {
         free.push(vcn)?;
     }
     Ok(Index {
         disk: Disk { bodies, faults: 0 },
         dir: DirPlace {
             root: Bytes::copy_of(alloc, &BARE)?,
-            blocks: places,
+            blocks,
             step: 1,
             used: 448,
         },
         free,
     })
+}
+
+// An index without entries over so many blocks, one behind the other on the disk.
+fn bare(alloc: Global, blocks: u64) -> Result<Index, Fail> {
+    let mut bodies = Vec::new(alloc);
+    let mut places = Vec::new(alloc);
+    for vcn in 0..blocks {
+        bodies.push(bare_node(alloc, vcn)?)?;
+        places.push(Block {
+            first: vcn.wrapping_mul(8),
+            kind: BlockKind::Index,
+        })?;
+    }
+    index_over(alloc, bodies, BlockList::of_blocks(alloc, places), blocks)
+}
+
+// The runs of a scattered allocation.
+const SCATTERED: u64 = 500;
+
+// One of runs of one block each, the last VCN first on the disk; counted by their VCNs, or by their
+// places on the disk.
+fn one_block(i: u64, turned: bool) -> Run
+    requires { i < 500 }
+    ensures { IsSmall result }
+{
+    let other = SCATTERED - 1 - i;
+    let (vcn, lcn) = if turned { (other, i) } else { (i, other) };
+    Run {
+        vcn,
+        lcn: Some(lcn),
+        len: 1,
+    }
+}
+
+// Those runs in their order, or the last one first.
+fn scattered_runs(alloc: Global, turned: bool) -> Result<Runs, AllocError>
+    ensures { IfOk result AreSmall }
+{
+    let mut runs = Runs::new(alloc);
+    for i in 0..SCATTERED {
+        runs.push(one_block(i, turned))?;
+    }
+    Ok(runs)
+}
+
+// An index without entries over an allocation in those runs.
+fn scattered(alloc: Global, turned: bool) -> Result<Index, Fail> {
+    let mut bodies = Vec::new(alloc);
+    for lcn in 0..SCATTERED {
+        bodies.push(bare_node(alloc, SCATTERED - 1 - lcn)?)?;
+    }
+    let Some(per) = ClusterSize::new(8) else {
+        return Err(Fail::from(AllocError));
+    };
+    let extents = Extents {
+        runs: scattered_runs(alloc, turned)?,
+        allocated: 4096 * SCATTERED,
+        real: 4096 * SCATTERED,
+        initialised: 4096 * SCATTERED,
+    };
+    let blocks = BlockList::of_extents(alloc, per, extents);
+    index_over(alloc, bodies, blocks, SCATTERED)
 }
 
 // Puts bytes from this place on, as far as there is room.
@@ -263,6 +329,17 @@ fn takes_names_in_falling_order(rt: HostRuntime) -> Result<(), Fail> {
         (left.len(), index.free.len(), index.dir.root.as_slice()),
         (0, 300, BARE.as_slice())
     );
+    Ok(())
+}
+
+#[test]
+fn takes_names_in_scattered_blocks(rt: HostRuntime) -> Result<(), Fail> {
+    let up = Upcase::standard(rt.alloc())?;
+    for turned in [false, true] {
+        let mut index = scattered(rt.alloc(), turned)?;
+        let numbers = walked_after(rt.alloc(), &mut index, &up, true)?;
+        assert!(rt; are_all(numbers.as_slice()), "turned {turned}");
+    }
     Ok(())
 }
 

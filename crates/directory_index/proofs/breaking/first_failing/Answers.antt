@@ -19,7 +19,7 @@ loop-number-preserved g c = record {
     stays = c.in_ok-kept.ensures.kept.stays ∙ c.loop-number.invariant.kept.stays;
     later = omega (arith, c.loop-number.invariant.kept.later, c.in_ok-kept.ensures.kept.later);
   };
-  counted = c.in_ok-kept.ensures.counted ∙ c.loop-number.invariant.counted;
+  counted = c.in_ok-kept.ensures.kept.counted ∙ c.loop-number.invariant.counted;
 }
 
 pub returns-then-not-kept-clause-value : goal.returns-then-not-kept-clause-value

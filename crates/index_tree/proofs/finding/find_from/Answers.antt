@@ -19,12 +19,12 @@ unfolding find_of
 returns-in_err-entries-clause-value g c =
     let p = err_from_is_err_and c.from_residual-in_err-entries.result c.from_residual-in_err-entries.ensures.1 in
     rw (p.1, p.2)
-    (below_root_fails _ (place_of c.args.dir.now) c.args.up.now (λ (content : Content). sought_in c.args.up.now c.args.name.now (node_of_block content (place_of c.args.dir.now)) 15 root_vcn) _ (root_at c.args.dir.now.root) c.in_ok-root.root c.in_ok-met.met c.in_ok-root.ensures c.in_ok-met.ensures
+    (below_root_fails _ (place_of c.args.dir.now) c.args.up.now (λ (content : Content). sought_in c.args.up.now c.args.name.now (node_of_block content (place_of c.args.dir.now)) 15 root_vcn) _ (root_at c.args.dir.now.root) c.in_ok-root.root c.new-met.result c.in_ok-root.ensures c.new-met.ensures
     (rw (c.units-name.ensures.value, c.as_slice.ensures) at c.in_err-entries.ensures.value))
 
 pub returns-clause-value : goal.returns-clause-value
 unfolding find_of
 returns-clause-value g c =
     rw c.into_links.ensures
-    (all_met _ (place_of c.args.dir.now) c.args.up.now (λ (content : Content). sought_in c.args.up.now c.args.name.now (node_of_block content (place_of c.args.dir.now)) 15 root_vcn) (root_at c.args.dir.now.root) c.in_ok-root.root c.in_ok-met.met c.entries.new.met c.in_ok-root.ensures c.in_ok-met.ensures
+    (all_met _ (place_of c.args.dir.now) c.args.up.now (λ (content : Content). sought_in c.args.up.now c.args.name.now (node_of_block content (place_of c.args.dir.now)) 15 root_vcn) (root_at c.args.dir.now.root) c.in_ok-root.root c.new-met.result c.entries.new.met c.in_ok-root.ensures c.new-met.ensures
     (rw (c.units-name.ensures.value, c.as_slice.ensures) at c.in_ok-entries.ensures.value))

@@ -1,6 +1,6 @@
 use Rattle.std.proofs.Common.{sym, subst}
 use Rattle.record_model.specs.Nodes.{FitsNode}
-use Rattle.index_root.proofs.Spelled.{each_block}
+use Rattle.index_node.proofs.RootSpelled.{each_block}
 use Rattle.large_index_rows.proofs.many_names.node_bytes.Goals as goal
 
 pub write-requires-clause-fits : goal.write-requires-clause-fits

@@ -1,6 +1,6 @@
 use Rattle.std.proofs.Common.{◌≡◌, ◌<◌, ◌^◌, drop, max}
 use Rattle.volume_model.specs.Indexes.{runs_end}
-use Rattle.directory_index.proofs.filling.runs_end.Given as goal
+use Rattle.index_tree.proofs.blocks.runs_end.Given as goal
 
 -- the end so far, or that of the runs that are left, is that of all
 abbrev pub invariant-loop-run : goal.invariant-loop-run
