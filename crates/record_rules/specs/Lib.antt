@@ -1,3 +1,4 @@
 pub mod Counts
 pub mod Links
+pub mod Passing
 pub mod Rises

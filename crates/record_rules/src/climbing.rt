@@ -1,20 +1,19 @@
 //! The names of all files, and the way up from them.
-ghost use Rattle.std.specs.Prelude.{◌≡◌, ◌++◌, IfOk, OnOk, length, map};
+ghost use Rattle.std.specs.Prelude.{◌≡◌, ◌++◌, ◌&&◌, ◌==◌, not, nat_lt, IfOk, OnOk, length, map};
 ghost use Rattle.std.specs.List.{range_with_len, list_any};
 ghost use Rattle.file_tree.specs.declared.link.Link.{Link as the_link};
-ghost use Rattle.state_model.specs.Trees.{all_links, first_parent, parent_at, is_in_system, is_system};
+ghost use Rattle.file_tree.specs.Walks.{root};
+ghost use Rattle.state_model.specs.Trees.{all_links, first_user_record, first_parent, parent_at, leads, is_in_system, is_system};
 ghost use Rattle.state_model.specs.Loads.{table_in};
 ghost use Rattle.record_rules.specs.Links.{links_in};
 
 use crate::fields::FIRST_USER_RECORD;
 use crate::linking::{links_at, links_of};
+use crate::passing::{Question, ROOT, climb_all};
 use file_record::FileRec;
 use file_tree::{Link, LinkList};
 use host_base::Memory;
 use std::alloc::{AllocError, Global};
-
-// The root's number.
-pub const ROOT: u64 = 5;
 
 // Appends copies of the links.
 fn append(links: &mut LinkList, more: &[Link]) -> Result<(), AllocError>
@@ -75,19 +74,32 @@ fn parents_of(
     Ok(parents)
 }
 
-/// Records, with the directory of each file's first name, by which the way up is climbed.
+/// Records, with the directory of each file's first name, and what the way up from each says.
 #[derive(Drop)]
 pub struct Climber<'a> {
     /// The record in use of each number, if there is one.
     pub records: &'a [Option<FileRec>],
     parents: Vec<Option<u64>>,
+    rooted: Vec<bool>,
+    in_system: Vec<bool>,
     ghost are_parents: { parents.items ≡ map (parent_at (table_in records.now)) (range_with_len 0 (length records.now)) },
+    ghost are_rooted: { rooted.items ≡ map (leads (table_in records.now) (length records.now)) (range_with_len 0 (length records.now)) },
+    ghost are_in_system: { in_system.items ≡ map (is_in_system (table_in records.now) (length records.now)) (range_with_len 0 (length records.now)) },
+}
+
+// Whether a number past so many records is that of a directory of the volume itself, other than the
+// root, where there are records at all.
+fn is_own_past(count: usize, number: u64) -> bool
+    ensures { result ≡ (nat_lt 0 count && (not (number == root) && nat_lt number first_user_record)) }
+{
+    0 < count && number != ROOT && number < FIRST_USER_RECORD
 }
 
 impl<'a> Climber<'a> {
     /// A climber of these records: the record in use of each number, if there is one. `links` are
     /// the names of each file. The error is want of memory. It takes time and memory linear in the
-    /// records.
+    /// records: on the ways up from all of them it passes each record once.
+    #[tactic(auto, using(crate::proofs::Climbs::are_rooted, crate::proofs::Climbs::are_in_system))]
     pub fn new(
         alloc: Global,
         records: &'a [Option<FileRec>],
@@ -96,9 +108,14 @@ impl<'a> Climber<'a> {
         requires { links.now ≡ links_in records.now }
         ensures records { IfOk result (λ c. c.records.now ≡ records.now) }
     {
+        let parents = parents_of(alloc, records, links)?;
+        let rooted = climb_all(alloc, Question::Rooted, &parents)?;
+        let in_system = climb_all(alloc, Question::InSystem, &parents)?;
         Ok(Climber {
             records,
-            parents: parents_of(alloc, records, links)?,
+            parents,
+            rooted,
+            in_system,
         })
     }
 
@@ -114,27 +131,27 @@ impl<'a> Climber<'a> {
         }
     }
 
+    /// Whether the way up from the directory with this number, by the first name of each file on it
+    /// (Linux-NTFS documentation, "$FILE_NAME"), reaches the root. It takes constant time.
+    #[tactic(auto)]
+    pub fn leads(&self, number: u64) -> bool
+        ensures value { result ≡ leads (table_in self.now.records.now) (length self.now.records.now) number }
+    {
+        match self.rooted.get(number as usize) {
+            Some(rooted) => *rooted,
+            None => number == ROOT,
+        }
+    }
+
     // Whether on the way up stands a directory of the volume itself, other than the root.
-    #[tactic(auto, using(crate::proofs::Ascents::system_more, crate::proofs::Ascents::system_none))]
+    #[tactic(auto)]
     fn is_in_system(&self, directory: u64) -> bool
         ensures { result ≡ is_in_system (table_in self.now.records.now) (length self.now.records.now) directory }
     {
-        let mut at = directory;
-        let mut most = self.records.len();
-        while most > 0 {
-            most -= 1;
-            if at == ROOT {
-                return false;
-            }
-            if at < FIRST_USER_RECORD {
-                return true;
-            }
-            match self.parent(at) {
-                Some(parent) => at = parent,
-                None => return false,
-            }
+        match self.in_system.get(directory as usize) {
+            Some(in_system) => *in_system,
+            None => is_own_past(self.records.len(), directory),
         }
-        false
     }
 
     // Whether one of these names stands below a directory of the volume itself.
@@ -148,8 +165,7 @@ impl<'a> Climber<'a> {
 
     /// Whether the file with this number is one of the volume itself, or one of the names `links`
     /// stands below a directory of the volume itself, other than the root. It takes time linear in
-    /// these names times how deep they stand; a way up is given up after as many steps as there are
-    /// records.
+    /// these names.
     #[tactic(auto, unfolding(state_model::specs::Trees::is_system))]
     pub fn is_system(&self, number: u64, links: &[Link]) -> bool
         ensures value { result ≡ is_system (table_in self.now.records.now) (length self.now.records.now) number links.now }

@@ -4,8 +4,7 @@ ghost use Rattle.record_rules.specs.Counts.{count_at, names_at, has_reference};
 ghost use Rattle.state_model.specs.Loads.{table_in};
 ghost use Rattle.record_rules.specs.Links.{links_in};
 
-use crate::files::file_at;
-use file_record::FileRec;
+use file_record::{FileRec, file_at};
 use file_tree::{Link, LinkList};
 use host_base::{FileRef, Memory};
 use std::alloc::Global;

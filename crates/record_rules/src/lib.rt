@@ -10,10 +10,10 @@ mod climbing;
 mod comparing;
 mod counts;
 mod fields;
-mod files;
 mod linking;
 mod names;
 mod naming;
+mod passing;
 mod references;
 mod rising;
 mod rules;
@@ -26,7 +26,7 @@ pub use fields::{
     FIRST_USER_RECORD, has_type, info_of, is_compressed, is_directory_record, is_encrypted,
     is_sparse,
 };
-pub use files::file_at;
+pub use file_record::file_at;
 pub use linking::{links_in, links_of};
 pub use names::{push_some, record_links, value_link};
 pub use rules::{first_misnamed, first_misplaced, first_unrooted};

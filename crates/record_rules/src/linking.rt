@@ -4,9 +4,8 @@ ghost use Rattle.state_model.specs.Files.{links_at};
 ghost use Rattle.state_model.specs.Loads.{table_in};
 ghost use Rattle.record_rules.specs.Links.{links_in};
 
-use crate::files::file_at;
 use crate::names::record_links;
-use file_record::FileRec;
+use file_record::{FileRec, file_at};
 use file_tree::{Link, LinkList};
 use host_base::Memory;
 use std::alloc::{AllocError, Global};

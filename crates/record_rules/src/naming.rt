@@ -6,8 +6,7 @@ ghost use Rattle.state_model.specs.Rules.{is_partner, has_partner, is_short_in, 
 ghost use Rattle.state_model.specs.Loads.{table_in};
 
 use crate::fields::{FIRST_USER_RECORD, has_type, is_directory_record};
-use crate::files::file_at;
-use file_record::FileRec;
+use file_record::{FileRec, file_at};
 use file_tree::{Link, SHORT, WIN32};
 use host_base::{FileRef, is_same_reference};
 use record_model::STANDARD_INFORMATION;

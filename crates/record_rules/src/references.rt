@@ -6,8 +6,7 @@ ghost use Rattle.state_model.specs.Rules.{is_directory_at};
 ghost use Rattle.state_model.specs.Loads.{table_in};
 
 use crate::fields::is_directory_record;
-use crate::files::file_at;
-use file_record::FileRec;
+use file_record::{FileRec, file_at};
 use file_tree::Link;
 use host_base::FileRef;
 

@@ -53,8 +53,7 @@ pub fn first_misplaced(records: &[Option<FileRec>], links: &[LinkList]) -> Optio
 }
 
 /// The least number of a directory whose way up doesn't reach the root (rule 8), if there is one.
-/// It takes time linear in the records and in the directories times their depth; the way up of the
-/// one that is found is given up after as many steps as there are records.
+/// It takes time linear in the records.
 #[tactic(auto, unfolding(state_model::specs::Rules::first_failing))]
 pub fn first_unrooted(climber: &Climber) -> Option<u64>
     ensures value { result ≡ first_failing (keeps_8 (table_in climber.now.records.now) (length climber.now.records.now)) (length climber.now.records.now) }

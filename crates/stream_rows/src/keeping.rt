@@ -4,7 +4,7 @@ use record_model::{DATA, INDEX_ALLOCATION, NAMES_INDEX};
 use std::alloc::{AllocError, Global};
 use std::test::Fail;
 use stream_sizes::{Body, FileRec, SizesFault, first_broken, keeps_streams};
-use volume_images::{Kept, Part, index_view, put_file, record};
+use volume_images::{Kept, Part, index_view, per_cluster, put_file, record};
 
 // 8 clusters from cluster 16 on, or 8 that are sparse.
 fn pairs(is_sparse: bool) -> &'static [u8] {
@@ -78,7 +78,15 @@ fn keeps(
 ) -> Result<Result<bool, SizesFault>, AllocError> {
     let mut view = view(alloc)?;
     let mut body = Body::empty(alloc)?;
-    Ok(keeps_streams(alloc, &mut view, 1, clusters, number, file, &mut body))
+    Ok(keeps_streams(
+        alloc,
+        &mut view,
+        per_cluster(1),
+        clusters,
+        number,
+        file,
+        &mut body,
+    ))
 }
 
 #[test]
@@ -118,7 +126,14 @@ fn broken_in(
     }
     let mut view = view(alloc)?;
     let mut body = Body::empty(alloc)?;
-    Ok(first_broken(alloc, &mut view, 1, clusters, &files, &mut body))
+    Ok(first_broken(
+        alloc,
+        &mut view,
+        per_cluster(1),
+        clusters,
+        &files,
+        &mut body,
+    ))
 }
 
 #[test]

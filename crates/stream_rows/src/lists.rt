@@ -1,19 +1,18 @@
 //! Entries of attribute lists.
-ghost use Rattle.std.specs.Prelude.{◌≡◌, ◌<◌, ◌≤◌, IfOk};
+ghost use Rattle.std.specs.Prelude.{◌≡◌, IfOk};
 ghost use Rattle.state_model.specs.Streams.{real_size};
 ghost use Rattle.stream_map.specs.Runs.{HasSmallRuns};
 
-use attribute_list::{FRONT_BYTES, ListEntry, Step, first_entry, next};
 use block_view::{Body, MemoryView};
 use disk_model::put_bytes;
 use host_base::{Bytes, FileRef};
 use record_model::Runs;
-use state_model::{Extents, Stream};
+use state_model::{ClusterSize, Extents, Stream};
 use std::alloc::{AllocError, Global};
 use std::test::Fail;
-use stream_map::real_size;
+use stream_map::{FRONT_BYTES, ListEntry, Step, first_entry, next_entry, real_size};
 use utf16_name::Units;
-use volume_images::{run, sectors_view};
+use volume_images::{per_cluster, run, sectors_view};
 
 // An entry of 0x20 bytes for the data stream `ab`.
 static ENTRY: [u8; 0x20] = [
@@ -89,17 +88,15 @@ fn step_of(alloc: Global, found: Found) -> Result<Option<Step>, AllocError> {
 fn is_as_wanted(
     alloc: Global,
     view: &mut MemoryView,
-    per: u64,
+    per: ClusterSize,
     stream: &Stream,
     row: &Row,
 ) -> Result<bool, AllocError>
-    requires some { 0 < per }
-    requires few { per ≤ 8 }
     requires small { HasSmallRuns stream.now }
 {
     let mut body = Body::empty(alloc)?;
     let mut at = row.0.min(real_size(stream));
-    let step = next(alloc, view, per, stream, &mut at, &mut body).ok();
+    let step = next_entry(alloc, view, per, stream, &mut at, &mut body).ok();
     Ok(step == step_of(alloc, row.1)? && at == row.2)
 }
 
@@ -107,12 +104,10 @@ fn is_as_wanted(
 fn first_bad(
     alloc: Global,
     view: &mut MemoryView,
-    per: u64,
+    per: ClusterSize,
     stream: &Stream,
     rows: &[Row],
 ) -> Result<Option<usize>, AllocError>
-    requires some { 0 < per }
-    requires few { per ≤ 8 }
     requires small { HasSmallRuns stream.now }
 {
     for (number, row) in rows.iter().enumerate() {
@@ -130,7 +125,7 @@ fn zeros_behind_the_entries_are_a_fault(rt: HostRuntime) -> Result<(), Fail> {
     let stream = Stream::Held(Bytes::from(bytes));
     let mut view = sectors_view(rt.alloc(), &[], 0)?;
     let rows = [Row(0, Found::Entry, 0x20), Row(0x20, Found::Fault, 0x20)];
-    let bad = first_bad(rt.alloc(), &mut view, 8, &stream, &rows)?;
+    let bad = first_bad(rt.alloc(), &mut view, per_cluster(8), &stream, &rows)?;
     assert_eq!(rt; bad, None);
     Ok(())
 }
@@ -161,7 +156,7 @@ fn an_entry_lies_in_two_clusters(rt: HostRuntime) -> Result<(), Fail> {
         Row(0x1ec, Found::Entry, 0x20c),
         Row(0x20c, Found::End, 0x20c),
     ];
-    let bad = first_bad(rt.alloc(), &mut view, 1, &stream, &rows)?;
+    let bad = first_bad(rt.alloc(), &mut view, per_cluster(1), &stream, &rows)?;
     assert_eq!(rt; bad, None);
     Ok(())
 }

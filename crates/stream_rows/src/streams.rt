@@ -96,10 +96,17 @@ fn bytes_are_read_up_to_the_initialised_size(rt: HostRuntime) -> Result<(), Fail
     let mut body = Body::empty(rt.alloc())?;
     let extents = clusters(rt.alloc())?;
     let mut out = [9; 600];
-    let filled = fill(&mut view, 1, &extents, 500, &mut body, &mut out);
+    let filled = fill(
+        &mut view,
+        per_cluster(1),
+        &extents,
+        500,
+        &mut body,
+        &mut out,
+    );
     let some = [out[11], out[12], out[399], out[400], out[599]];
     assert_eq!(rt; (filled, some), (Ok(()), [7, 8, 8, 0, 0]));
-    let failed = fill(&mut view, 1, &extents, 0, &mut body, &mut out);
+    let failed = fill(&mut view, per_cluster(1), &extents, 0, &mut body, &mut out);
     assert_eq!(rt; failed, Err(ViewFault::Fault));
     Ok(())
 }
@@ -110,7 +117,7 @@ fn bytes_at(alloc: Global, name: &[u16], at: u64) -> Result<[u8; 4], Fail> {
     let mut body = Body::empty(alloc)?;
     let mut out = [9; 4];
     match data(alloc, name)? {
-        Some(stream) => front(&mut view, 1, &stream, at, &mut body, &mut out)?,
+        Some(stream) => front(&mut view, per_cluster(1), &stream, at, &mut body, &mut out)?,
         None => return Err("no stream".into()),
     }
     Ok(out)

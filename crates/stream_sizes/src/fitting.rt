@@ -1,11 +1,12 @@
 //! Where the runs of a stream lie, and its sizes.
-ghost use Rattle.std.specs.Prelude.{◌≡◌, ◌==◌, ◌*◌, ◌≤◌};
+ghost use Rattle.std.specs.Prelude.{◌≡◌, ◌==◌, ◌*◌};
 ghost use Rattle.std.specs.List.{list_all, list_any};
 ghost use Rattle.volume_model.specs.Sizes.{lies_below, lies_inside, has_sizes, fits_volume, is_hole, has_hole, is_initialised};
 
 use crate::joins::total_clusters;
 use record_model::Run;
-use state_model::{Extents, Stream};
+use state_model::{ClusterSize, Extents, Stream};
+use stream_map::is_hole;
 
 // Whether a run lies below so many clusters, or is sparse.
 fn lies_inside(clusters: u64, run: &Run) -> bool
@@ -24,18 +25,16 @@ fn lie_inside(clusters: u64, runs: &[Run]) -> bool
 }
 
 // Whether this is the size in bytes of so many clusters.
-fn is_size_of(per: u64, total: u128, allocated: u64) -> bool
-    requires { per ≤ 8 }
+fn is_size_of(per: ClusterSize, total: u128, allocated: u64) -> bool
     ensures { result ≡ (allocated == total * (512 * per)) }
 {
-    match total.checked_mul(u128::from(512 * per)) {
+    match total.checked_mul(u128::from(512 * per.sectors())) {
         None => false,
         Some(bytes) => u128::from(allocated) == bytes,
     }
 }
 
-fn has_sizes(per: u64, extents: &Extents) -> bool
-    requires { per ≤ 8 }
+fn has_sizes(per: ClusterSize, extents: &Extents) -> bool
     ensures { result ≡ has_sizes per extents.now }
 {
     let total = total_clusters(extents.runs.as_slice());
@@ -48,8 +47,7 @@ fn has_sizes(per: u64, extents: &Extents) -> bool
 /// real size, this at most the allocated one, and this is that of its clusters (Linux-NTFS
 /// documentation, "Attribute Header"); a volume has `per` sectors a cluster. A value in a record
 /// fits, and so does a stream that isn't there. Linear in the runs.
-pub fn fits_volume(per: u64, clusters: u64, stream: &Option<Stream>) -> bool
-    requires { per ≤ 8 }
+pub fn fits_volume(per: ClusterSize, clusters: u64, stream: &Option<Stream>) -> bool
     ensures { result ≡ fits_volume per clusters stream.now }
 {
     match stream {
@@ -59,12 +57,6 @@ pub fn fits_volume(per: u64, clusters: u64, stream: &Option<Stream>) -> bool
         Some(Stream::Held(_)) => true,
         None => true,
     }
-}
-
-fn is_hole(run: &Run) -> bool
-    ensures { result ≡ is_hole run.now }
-{
-    !run.lcn.is_some()
 }
 
 fn have_hole(runs: &[Run]) -> bool

@@ -6,10 +6,10 @@ ghost use Rattle.state_model.specs.Loads.{total_clusters};
 ghost use Rattle.stream_map.specs.Attributes.{behind};
 ghost use Rattle.volume_model.specs.Sizes.{follow, are_joined};
 
-use crate::attributes::{attributes_of, first_vcn};
 use host_base::Memory;
 use record_model::{Attr, OwnForm, PairsFault, Run, Runs};
 use std::alloc::Global;
+use stream_map::{attributes_of, first_vcn};
 
 /// How many clusters runs have, those of sparse ones among them; linear in the runs.
 pub fn total_clusters(runs: &[Run]) -> u128

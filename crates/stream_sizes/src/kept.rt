@@ -1,5 +1,5 @@
 //! What each stream keeps.
-ghost use Rattle.std.specs.Prelude.{◌≡◌, ◌≤◌, ◌&&◌, true, IfOk, IfSome, IsTrue};
+ghost use Rattle.std.specs.Prelude.{◌≡◌, ◌&&◌, true, IfOk, IfSome, IsTrue};
 ghost use Rattle.std.specs.List.{list_all};
 ghost use Rattle.state_model.specs.Streams.{attributes_of, stream_of};
 ghost use Rattle.volume_model.specs.Sizes.{are_joined, fits_volume, keeps_stream};
@@ -8,18 +8,18 @@ use crate::fitting::fits_volume;
 use crate::joins::is_joined;
 use host_base::Memory;
 use record_model::{Attr, FILE_NAME};
+use state_model::ClusterSize;
 use std::alloc::Global;
 use stream_map::stream_of;
 
 fn fits(
     alloc: Global,
-    per: u64,
+    per: ClusterSize,
     clusters: u64,
     kind: u32,
     name: &[u16],
     attrs: &[Attr],
 ) -> Result<bool, Memory>
-    requires { per ≤ 8 }
     ensures { IfOk result (λ fits. fits ≡ fits_volume per clusters (stream_of kind name.now attrs.now)) }
 {
     let stream = stream_of(alloc, kind, name, attrs)?;
@@ -28,13 +28,12 @@ fn fits(
 
 fn keeps_named(
     alloc: Global,
-    per: u64,
+    per: ClusterSize,
     clusters: u64,
     kind: u32,
     name: &[u16],
     attrs: &[Attr],
 ) -> Result<bool, Memory>
-    requires { per ≤ 8 }
     ensures { IfOk result (λ keeps. keeps ≡ (are_joined (attributes_of kind name.now attrs.now) && fits_volume per clusters (stream_of kind name.now attrs.now))) }
 {
     Ok(is_joined(alloc, kind, name, attrs)? && fits(alloc, per, clusters, kind, name, attrs)?)
@@ -44,12 +43,11 @@ fn keeps_named(
 #[tactic(auto, unfolding(volume_model::specs::Sizes::keeps_stream))]
 fn keeps_stream(
     alloc: Global,
-    per: u64,
+    per: ClusterSize,
     clusters: u64,
     attrs: &[Attr],
     attr: &Attr,
 ) -> Result<bool, Memory>
-    requires { per ≤ 8 }
     ensures { IfOk result (λ keeps. keeps ≡ keeps_stream per clusters attrs.now attr.now) }
 {
     Ok(
@@ -75,13 +73,12 @@ fn is_same_stream(a: &Attr, b: &Attr) -> bool
 #[tactic(auto, unfolding(volume_model::specs::Sizes::keeps_stream))]
 fn keeps_next(
     alloc: Global,
-    per: u64,
+    per: ClusterSize,
     clusters: u64,
     attrs: &[Attr],
     before: Option<&Attr>,
     attr: &Attr,
 ) -> Result<bool, Memory>
-    requires few { per ≤ 8 }
     requires before { IfSome before (λ b. keeps_stream per clusters attrs.now b.now ≡ true) }
     ensures { IfOk result (λ keeps. keeps ≡ keeps_stream per clusters attrs.now attr.now) }
 {
@@ -96,8 +93,12 @@ fn keeps_next(
 /// has `per` sectors a cluster. The error is want of memory. Linear in the attributes and the runs
 /// where the attributes of each stream stand one behind the other and by rising first VCN, for each
 /// stream; else one such pass for each attribute.
-pub fn keep_all(alloc: Global, per: u64, clusters: u64, attrs: &[Attr]) -> Result<bool, Memory>
-    requires { per ≤ 8 }
+pub fn keep_all(
+    alloc: Global,
+    per: ClusterSize,
+    clusters: u64,
+    attrs: &[Attr],
+) -> Result<bool, Memory>
     ensures { IfOk result (λ keeps. keeps ≡ list_all (keeps_stream per clusters attrs.now) attrs.now) }
 {
     let mut before: Option<&Attr> = None;

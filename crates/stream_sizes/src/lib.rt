@@ -7,7 +7,6 @@
 //! "$INDEX_ALLOCATION".
 #![tactic(auto)]
 
-mod attributes;
 mod fault;
 mod fitting;
 mod joins;

@@ -1,11 +1,10 @@
 //! What the streams of one file keep.
-ghost use Rattle.std.specs.Prelude.{◌≡◌, ◌<◌, ◌≤◌, ◌&&◌, List, Option, Ok, IfOk, IfSome, IsErrOf};
+ghost use Rattle.std.specs.Prelude.{◌≡◌, ◌&&◌, List, Option, Ok, IfOk, IfSome};
 ghost use Rattle.std.specs.List.{list_all};
 ghost use Rattle.host_base.specs.Answers.{GivesOrFails};
-ghost use Rattle.host_base.specs.Causes.{Rose, Counts};
 ghost use Rattle.record_model.specs.Records.{Record as a_record};
 ghost use Rattle.stream_sizes.specs.Errors.{sizes_cause};
-ghost use Rattle.block_view.specs.Views.{KeepsView};
+ghost use Rattle.block_view.specs.Views.{AsksView};
 ghost use Rattle.stream_sizes.specs.Volumes.{TablePlace, volume_with};
 ghost use Rattle.volume_model.specs.Sizes.{keeps_stream, keeps_whole, keeps_table, keeps_streams};
 
@@ -17,17 +16,17 @@ use block_view::View;
 use disk_model::Body;
 use file_record::FileRec;
 use host_base::Memory;
+use state_model::ClusterSize;
 use std::alloc::Global;
 
 // What they keep, but for torn blocks.
 fn keeps_shape(
     alloc: Global,
-    per: u64,
+    per: ClusterSize,
     clusters: u64,
     number: u64,
     file: &FileRec,
 ) -> Result<bool, Memory>
-    requires { per ≤ 8 }
     ensures { IfOk result (λ keeps. keeps ≡ (list_all (keeps_stream per clusters file.now.attrs) file.now.attrs && keeps_whole number file.now && keeps_table number file.now)) }
 {
     Ok(
@@ -60,18 +59,14 @@ fn keeps_shape(
 pub fn keeps_streams<V: View>(
     alloc: Global,
     view: &mut V,
-    per: u64,
+    per: ClusterSize,
     clusters: u64,
     number: u64,
     file: &FileRec,
     body: &mut Body,
 ) -> Result<bool, SizesFault>
-    requires some { 0 < per }
-    requires few { per ≤ 8 }
     ensures value { (e : TablePlace) (files : List (Option a_record)) → IfSome (V.content view.old) (λ c. GivesOrFails (λ keeps. keeps) sizes_cause result (Ok (keeps_streams c (volume_with per clusters e files) number file.now))) }
-    ensures kept { KeepsView V.content V.kept V.faults view.old view.new }
-    ensures fault { IsErrOf result SizesFault.View → Rose (V.faults view.old) (V.faults view.new) }
-    ensures counted { Counts sizes_cause (V.faults view.old) (V.faults view.new) result }
+    ensures kept { AsksView V.content V.kept V.faults sizes_cause view.old view.new result }
 {
     if !keeps_shape(alloc, per, clusters, number, file)? {
         return Ok(false);

@@ -1,7 +1,6 @@
 //! Blocks that must not be torn.
-ghost use Rattle.std.specs.Prelude.{◌≡◌, ◌==◌, ◌+◌, ◌*◌, ◌^◌, ◌<◌, ◌≤◌, ◌||◌, ℕ, nat_le, not, [], length, drop, find, Some, IfOk, IfSome, IsErrOf};
+ghost use Rattle.std.specs.Prelude.{◌≡◌, ◌==◌, ◌+◌, ◌*◌, ◌^◌, ◌<◌, ◌≤◌, ◌||◌, ℕ, nat_le, not, [], length, drop, find, Some, IfOk, IfSome};
 ghost use Rattle.std.specs.List.{list_any, range_with_len};
-ghost use Rattle.host_base.specs.Causes.{Rose, Counts};
 ghost use Rattle.disk_model.specs.declared.block.BlockKind.TheVariants.{FileRec as file_kind, Index as index_kind};
 ghost use Rattle.disk_model.specs.Sectors.{sectors};
 ghost use Rattle.record_model.specs.Constants.{data_type, names_index, index_allocation};
@@ -10,7 +9,7 @@ ghost use Rattle.state_model.specs.Rules.{implies};
 ghost use Rattle.state_model.specs.Streams.{holds, block_at, stream_of};
 ghost use Rattle.stream_map.specs.Runs.{AreSmall, HasSmallRuns};
 ghost use Rattle.stream_sizes.specs.Errors.{sizes_cause};
-ghost use Rattle.block_view.specs.Views.{KeepsView};
+ghost use Rattle.block_view.specs.Views.{AsksView};
 ghost use Rattle.volume_model.specs.Sizes.{is_torn_at, begun, stream_has_torn, keeps_untorn};
 ghost use Rattle.volume_model.specs.Volumes.{table_file, mirror_file};
 
@@ -20,7 +19,7 @@ use block_view::View;
 use disk_model::{BlockKind, Body};
 use file_record::FileRec;
 use record_model::{Attr, DATA, INDEX_ALLOCATION, NAMES_INDEX, Run};
-use state_model::Stream;
+use state_model::{ClusterSize, Stream};
 use std::alloc::Global;
 use stream_map::{block_at, stream_of};
 
@@ -55,13 +54,13 @@ fn passed(vcn: u64, runs: &[Run]) -> usize
 }
 
 // The runs in which the blocks from the n-th on may lie.
-fn runs_from(per: u64, runs: &[Run], kind: BlockKind, n: u64) -> &[Run]
-    requires some { 0 < per }
+fn runs_from(per: ClusterSize, runs: &[Run], kind: BlockKind, n: u64) -> &[Run]
     requires small { AreSmall runs.now }
     requires place { n < 2 ^ 56 }
     ensures small { AreSmall result.now }
     ensures same { (k : ℕ) → n ≤ k → block_at per result.now kind k ≡ block_at per runs.now kind k }
 {
+    let per = per.sectors();
     let vcn = sectors(kind) * n / per;
     let begin = passed(vcn, runs);
     &runs[begin..]
@@ -70,20 +69,16 @@ fn runs_from(per: u64, runs: &[Run], kind: BlockKind, n: u64) -> &[Run]
 // Whether the n-th block of this kind lies in one run, and is torn.
 fn is_torn_at<V: View>(
     view: &mut V,
-    per: u64,
+    per: ClusterSize,
     runs: &[Run],
     kind: BlockKind,
     n: u64,
     body: &mut Body,
 ) -> Result<bool, SizesFault>
-    requires some { 0 < per }
-    requires few { per ≤ 8 }
     requires small { AreSmall runs.now }
     requires place { n < 2 ^ 56 }
     ensures value { IfSome (V.content view.old) (λ c. IfOk result (λ torn. torn ≡ is_torn_at c (block_at per runs.now kind n))) }
-    ensures kept { KeepsView V.content V.kept V.faults view.old view.new }
-    ensures fault { IsErrOf result SizesFault.View → Rose (V.faults view.old) (V.faults view.new) }
-    ensures counted { Counts sizes_cause (V.faults view.old) (V.faults view.new) result }
+    ensures kept { AsksView V.content V.kept V.faults sizes_cause view.old view.new result }
 {
     match block_at(per, runs, kind, n) {
         None => Ok(false),
@@ -97,20 +92,16 @@ fn is_torn_at<V: View>(
 // Whether one of the first so many is torn.
 fn has_torn_below<V: View>(
     view: &mut V,
-    per: u64,
+    per: ClusterSize,
     runs: &[Run],
     kind: BlockKind,
     count: u64,
     body: &mut Body,
 ) -> Result<bool, SizesFault>
-    requires some { 0 < per }
-    requires few { per ≤ 8 }
     requires small { AreSmall runs.now }
     requires places { count ≤ 2 ^ 56 }
     ensures value { IfSome (V.content view.old) (λ c. IfOk result (λ torn. torn ≡ list_any (λ n. is_torn_at c (block_at per runs.now kind n)) (range_with_len 0 count))) }
-    ensures kept { KeepsView V.content V.kept V.faults view.old view.new }
-    ensures fault { IsErrOf result SizesFault.View → Rose (V.faults view.old) (V.faults view.new) }
-    ensures counted { Counts sizes_cause (V.faults view.old) (V.faults view.new) result }
+    ensures kept { AsksView V.content V.kept V.faults sizes_cause view.old view.new result }
 {
     let mut rest = runs;
     for n in 0..count {
@@ -138,18 +129,14 @@ fn begun(kind: BlockKind, initialised: u64) -> u64
 // Whether a block of this kind that begins below the initialised size of a stream is torn.
 fn has_torn<V: View>(
     view: &mut V,
-    per: u64,
+    per: ClusterSize,
     kind: BlockKind,
     stream: &Stream,
     body: &mut Body,
 ) -> Result<bool, SizesFault>
-    requires some { 0 < per }
-    requires few { per ≤ 8 }
     requires small { HasSmallRuns stream.now }
     ensures value { IfSome (V.content view.old) (λ c. IfOk result (λ torn. torn ≡ stream_has_torn c per kind (512 * sectors kind) (Some stream.now))) }
-    ensures kept { KeepsView V.content V.kept V.faults view.old view.new }
-    ensures fault { IsErrOf result SizesFault.View → Rose (V.faults view.old) (V.faults view.new) }
-    ensures counted { Counts sizes_cause (V.faults view.old) (V.faults view.new) result }
+    ensures kept { AsksView V.content V.kept V.faults sizes_cause view.old view.new result }
 {
     match stream {
         Stream::Held(_) => Ok(false),
@@ -163,18 +150,14 @@ fn has_torn<V: View>(
 // The same; there is none where there is no stream.
 fn stream_has_torn<V: View>(
     view: &mut V,
-    per: u64,
+    per: ClusterSize,
     kind: BlockKind,
     stream: &Option<Stream>,
     body: &mut Body,
 ) -> Result<bool, SizesFault>
-    requires some { 0 < per }
-    requires few { per ≤ 8 }
     requires small { IfSome stream.now HasSmallRuns }
     ensures value { IfSome (V.content view.old) (λ c. IfOk result (λ torn. torn ≡ stream_has_torn c per kind (512 * sectors kind) stream.now)) }
-    ensures kept { KeepsView V.content V.kept V.faults view.old view.new }
-    ensures fault { IsErrOf result SizesFault.View → Rose (V.faults view.old) (V.faults view.new) }
-    ensures counted { Counts sizes_cause (V.faults view.old) (V.faults view.new) result }
+    ensures kept { AsksView V.content V.kept V.faults sizes_cause view.old view.new result }
 {
     match stream {
         None => Ok(false),
@@ -186,19 +169,15 @@ fn stream_has_torn<V: View>(
 fn is_untorn<V: View>(
     alloc: Global,
     view: &mut V,
-    per: u64,
+    per: ClusterSize,
     block: BlockKind,
     kind: u32,
     name: &[u16],
     attrs: &[Attr],
     body: &mut Body,
 ) -> Result<bool, SizesFault>
-    requires some { 0 < per }
-    requires few { per ≤ 8 }
     ensures value { IfSome (V.content view.old) (λ c. IfOk result (λ untorn. untorn ≡ not (stream_has_torn c per block (512 * sectors block) (stream_of kind name.now attrs.now)))) }
-    ensures kept { KeepsView V.content V.kept V.faults view.old view.new }
-    ensures fault { IsErrOf result SizesFault.View → Rose (V.faults view.old) (V.faults view.new) }
-    ensures counted { Counts sizes_cause (V.faults view.old) (V.faults view.new) result }
+    ensures kept { AsksView V.content V.kept V.faults sizes_cause view.old view.new result }
 {
     let stream = stream_of(alloc, kind, name, attrs)?;
     let torn = stream_has_torn(view, per, block, &stream, body)?;
@@ -208,17 +187,13 @@ fn is_untorn<V: View>(
 fn keeps_records<V: View>(
     alloc: Global,
     view: &mut V,
-    per: u64,
+    per: ClusterSize,
     number: u64,
     attrs: &[Attr],
     body: &mut Body,
 ) -> Result<bool, SizesFault>
-    requires some { 0 < per }
-    requires few { per ≤ 8 }
     ensures value { IfSome (V.content view.old) (λ c. IfOk result (λ keeps. keeps ≡ implies ((number == table_file) || (number == mirror_file)) (not (stream_has_torn c per file_kind 1024 (stream_of data_type [] attrs.now))))) }
-    ensures kept { KeepsView V.content V.kept V.faults view.old view.new }
-    ensures fault { IsErrOf result SizesFault.View → Rose (V.faults view.old) (V.faults view.new) }
-    ensures counted { Counts sizes_cause (V.faults view.old) (V.faults view.new) result }
+    ensures kept { AsksView V.content V.kept V.faults sizes_cause view.old view.new result }
 {
     if number != TABLE && number != MIRROR {
         return Ok(true);
@@ -229,16 +204,12 @@ fn keeps_records<V: View>(
 fn keeps_blocks<V: View>(
     alloc: Global,
     view: &mut V,
-    per: u64,
+    per: ClusterSize,
     file: &FileRec,
     body: &mut Body,
 ) -> Result<bool, SizesFault>
-    requires some { 0 < per }
-    requires few { per ≤ 8 }
     ensures value { IfSome (V.content view.old) (λ c. IfOk result (λ keeps. keeps ≡ implies (is_directory_record file.now) (not (stream_has_torn c per index_kind 4096 (stream_of index_allocation names_index file.now.attrs))))) }
-    ensures kept { KeepsView V.content V.kept V.faults view.old view.new }
-    ensures fault { IsErrOf result SizesFault.View → Rose (V.faults view.old) (V.faults view.new) }
-    ensures counted { Counts sizes_cause (V.faults view.old) (V.faults view.new) result }
+    ensures kept { AsksView V.content V.kept V.faults sizes_cause view.old view.new result }
 {
     if !is_directory(file) {
         return Ok(true);
@@ -266,17 +237,13 @@ fn keeps_blocks<V: View>(
 pub fn keeps_untorn<V: View>(
     alloc: Global,
     view: &mut V,
-    per: u64,
+    per: ClusterSize,
     number: u64,
     file: &FileRec,
     body: &mut Body,
 ) -> Result<bool, SizesFault>
-    requires some { 0 < per }
-    requires few { per ≤ 8 }
     ensures value { IfSome (V.content view.old) (λ c. IfOk result (λ keeps. keeps ≡ keeps_untorn c per number file.now)) }
-    ensures kept { KeepsView V.content V.kept V.faults view.old view.new }
-    ensures fault { IsErrOf result SizesFault.View → Rose (V.faults view.old) (V.faults view.new) }
-    ensures counted { Counts sizes_cause (V.faults view.old) (V.faults view.new) result }
+    ensures kept { AsksView V.content V.kept V.faults sizes_cause view.old view.new result }
 {
     if !keeps_records(alloc, view, per, number, file.attrs().as_slice(), body)? {
         return Ok(false);

@@ -1,14 +1,12 @@
 //! What the streams of all files keep, and the lengths of the bitmaps.
-ghost use Rattle.std.specs.Prelude.{◌≡◌, ◌==◌, ◌<◌, ◌≤◌, ◌*◌, ◌&&◌, [], nat_le, max, length, Ok, IfOk, IfSome, IsErrOf};
-ghost use Rattle.std.specs.Option.{option_copied};
+ghost use Rattle.std.specs.Prelude.{◌≡◌, ◌==◌, ◌*◌, ◌&&◌, [], nat_le, max, length, Ok, IfOk, IfSome};
 ghost use Rattle.host_base.specs.Answers.{GivesOrFails};
-ghost use Rattle.host_base.specs.Causes.{Rose, Counts};
 ghost use Rattle.record_model.specs.Constants.{data_type, bitmap_type};
-ghost use Rattle.state_model.specs.Files.{is_base_record, only_base, file_at};
+ghost use Rattle.state_model.specs.Files.{file_at};
 ghost use Rattle.state_model.specs.Loads.{table_in};
 ghost use Rattle.state_model.specs.Rules.{implies, at_file, first_failing};
 ghost use Rattle.stream_sizes.specs.Errors.{sizes_cause};
-ghost use Rattle.block_view.specs.Views.{KeepsView};
+ghost use Rattle.block_view.specs.Views.{AsksView};
 ghost use Rattle.stream_sizes.specs.Volumes.{TablePlace, volume_with};
 ghost use Rattle.volume_model.specs.Sizes.{keeps_streams, keeps_bitmaps, keeps_sizes};
 ghost use Rattle.volume_model.specs.Volumes.{file_stream, size_or, bitmap_file, table_file};
@@ -18,43 +16,15 @@ use crate::streams::keeps_streams;
 use crate::whole::{BITMAP, TABLE};
 use block_view::View;
 use disk_model::Body;
-use file_record::FileRec;
+use file_record::{FileRec, file_at};
 use host_base::Memory;
 use record_model::{BITMAP_TYPE, DATA};
-use state_model::Stream;
+use state_model::{ClusterSize, Stream};
 use std::alloc::Global;
 use stream_map::{real_size, stream_of};
 
 /// The numbers of the files whose bitmaps are tried, also where no file has them.
 const LEAST_COUNT: u64 = 7;
-
-fn is_base_record(file: &FileRec) -> bool
-    ensures { result ≡ is_base_record file.now }
-{
-    let base = file.head().base;
-    base.number == 0 && base.seq == 0
-}
-
-// The record where it is a base record.
-fn only_base(file: &Option<FileRec>) -> Option<&FileRec>
-    ensures { option_copied result ≡ only_base file.now }
-{
-    match file {
-        Some(file) if is_base_record(file) => Some(file),
-        _ => None,
-    }
-}
-
-// The file with this number, if there is one.
-#[tactic(auto, unfolding(state_model::specs::Files::file_at))]
-fn file_at(files: &[Option<FileRec>], number: u64) -> Option<&FileRec>
-    ensures value { option_copied result ≡ file_at (table_in files.now) number }
-{
-    match files.get(number as usize) {
-        Some(file) => only_base(file),
-        None => None,
-    }
-}
 
 fn size_or(stream: &Option<Stream>) -> u64
     ensures { result ≡ size_or stream.now }
@@ -112,7 +82,7 @@ fn keeps_cluster_bits(
 #[tactic(auto, unfolding(volume_model::specs::Sizes::keeps_bitmaps))]
 fn keeps_bitmaps(
     alloc: Global,
-    per: u64,
+    per: ClusterSize,
     clusters: u64,
     files: &[Option<FileRec>],
     number: u64,
@@ -129,18 +99,14 @@ fn keeps_bitmaps(
 fn keeps_file<V: View>(
     alloc: Global,
     view: &mut V,
-    per: u64,
+    per: ClusterSize,
     clusters: u64,
     files: &[Option<FileRec>],
     number: u64,
     body: &mut Body,
 ) -> Result<bool, SizesFault>
-    requires some { 0 < per }
-    requires few { per ≤ 8 }
     ensures value { (e : TablePlace) → IfSome (V.content view.old) (λ c. IfOk result (λ keeps. keeps ≡ at_file (keeps_streams c (volume_with per clusters e files.now) number) (file_at (table_in files.now) number))) }
-    ensures kept { KeepsView V.content V.kept V.faults view.old view.new }
-    ensures fault { IsErrOf result SizesFault.View → Rose (V.faults view.old) (V.faults view.new) }
-    ensures counted { Counts sizes_cause (V.faults view.old) (V.faults view.new) result }
+    ensures kept { AsksView V.content V.kept V.faults sizes_cause view.old view.new result }
 {
     match file_at(files, number) {
         None => Ok(true),
@@ -152,18 +118,14 @@ fn keeps_file<V: View>(
 fn keeps_sizes<V: View>(
     alloc: Global,
     view: &mut V,
-    per: u64,
+    per: ClusterSize,
     clusters: u64,
     files: &[Option<FileRec>],
     number: u64,
     body: &mut Body,
 ) -> Result<bool, SizesFault>
-    requires some { 0 < per }
-    requires few { per ≤ 8 }
     ensures value { (e : TablePlace) → IfSome (V.content view.old) (λ c. IfOk result (λ keeps. keeps ≡ keeps_sizes c (volume_with per clusters e files.now) number)) }
-    ensures kept { KeepsView V.content V.kept V.faults view.old view.new }
-    ensures fault { IsErrOf result SizesFault.View → Rose (V.faults view.old) (V.faults view.new) }
-    ensures counted { Counts sizes_cause (V.faults view.old) (V.faults view.new) result }
+    ensures kept { AsksView V.content V.kept V.faults sizes_cause view.old view.new result }
 {
     if !keeps_bitmaps(alloc, per, clusters, files, number)? {
         return Ok(false);
@@ -185,17 +147,13 @@ fn keeps_sizes<V: View>(
 pub fn first_broken<V: View>(
     alloc: Global,
     view: &mut V,
-    per: u64,
+    per: ClusterSize,
     clusters: u64,
     files: &[Option<FileRec>],
     body: &mut Body,
 ) -> Result<Option<u64>, SizesFault>
-    requires some { 0 < per }
-    requires few { per ≤ 8 }
     ensures value { (e : TablePlace) → IfSome (V.content view.old) (λ c. GivesOrFails (λ number. number) sizes_cause result (Ok (first_failing (keeps_sizes c (volume_with per clusters e files.now)) (max (length files.now) 7)))) }
-    ensures kept { KeepsView V.content V.kept V.faults view.old view.new }
-    ensures fault { IsErrOf result SizesFault.View → Rose (V.faults view.old) (V.faults view.new) }
-    ensures counted { Counts sizes_cause (V.faults view.old) (V.faults view.new) result }
+    ensures kept { AsksView V.content V.kept V.faults sizes_cause view.old view.new result }
 {
     let count = (files.len() as u64).max(LEAST_COUNT);
     for number in 0..count {

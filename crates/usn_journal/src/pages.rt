@@ -1,12 +1,11 @@
 //! The pages of the journal from a position on.
-ghost use Rattle.std.specs.Prelude.{◌≡◌, ◌+◌, ◌-◌, ◌*◌, ◌/◌, ◌^◌, ◌<◌, ◌≤◌, ◌++◌, Vec, min, length, take, All, IfOk, OnOk, IfSome, IsOk, Ok, IsErrOf};
+ghost use Rattle.std.specs.Prelude.{◌≡◌, ◌+◌, ◌-◌, ◌*◌, ◌/◌, ◌^◌, ◌<◌, ◌≤◌, ◌++◌, Vec, min, length, take, All, IfOk, OnOk, IfSome, IsOk, Ok};
 ghost use Rattle.host_base.specs.Answers.{GivesOrFails};
-ghost use Rattle.host_base.specs.Causes.{Rose, Counts};
 ghost use Rattle.file_tree.specs.declared.journal.Usn.{Usn as UsnOf};
 ghost use Rattle.journal_model.specs.Journals.{page_entries};
 ghost use Rattle.state_model.specs.Streams.{byte_at};
 ghost use Rattle.stream_map.specs.Runs.{AreSmall};
-ghost use Rattle.block_view.specs.Views.{KeepsView};
+ghost use Rattle.block_view.specs.Views.{AsksView};
 ghost use Rattle.volume_state.specs.Journals.{journal_first, journal_entries};
 ghost use Rattle.usn_journal.specs.Errors.{journal_cause, page_cause};
 ghost use Rattle.usn_journal.specs.Pulls.{usn_end, from_on, read_entries};
@@ -15,7 +14,7 @@ use crate::fault::PageFault;
 use block_view::View;
 use disk_model::Body;
 use file_tree::{Usn, UsnList};
-use state_model::Extents;
+use state_model::{ClusterSize, Extents};
 use std::alloc::{AllocError, Global};
 use stream_map::fill;
 use usn_record::read_page;
@@ -28,15 +27,13 @@ const PAGE: u64 = 4096;
 fn read_bytes<V: View>(
     alloc: Global,
     view: &mut V,
-    per: u64,
+    per: ClusterSize,
     extents: &Extents,
     first: u64,
     number: u64,
     body: &mut Body,
     page: &mut [u8],
 ) -> Result<UsnList, PageFault>
-    requires some { 0 < per }
-    requires few { per ≤ 8 }
     requires small { AreSmall extents.now.runs }
     requires begun { first < PAGE * number + PAGE }
     requires left { first ≤ extents.now.real }
@@ -45,9 +42,7 @@ fn read_bytes<V: View>(
     requires size { length page.old ≡ min extents.now.real (PAGE * number + PAGE) - PAGE * number }
     ensures value { IfSome (V.content view.old) (λ c. GivesOrFails (λ entries. entries) page_cause result (page_entries (byte_at c per extents.now) first extents.now.real number)) }
     ensures ends { IfOk result (λ entries. All (λ (entry : UsnOf). usn_end entry ≤ PAGE * number + PAGE) entries) }
-    ensures kept { KeepsView V.content V.kept V.faults view.old view.new }
-    ensures fault { IsErrOf result PageFault.View → Rose (V.faults view.old) (V.faults view.new) }
-    ensures counted { Counts page_cause (V.faults view.old) (V.faults view.new) result }
+    ensures kept { AsksView V.content V.kept V.faults page_cause view.old view.new result }
 {
     let begin = PAGE * number;
     fill(view, per, extents, begin, body, page)?;
@@ -58,15 +53,13 @@ fn read_bytes<V: View>(
 fn read_number<V: View>(
     alloc: Global,
     view: &mut V,
-    per: u64,
+    per: ClusterSize,
     extents: &Extents,
     first: u64,
     number: u64,
     body: &mut Body,
     room: &mut [u8],
 ) -> Result<UsnList, PageFault>
-    requires some { 0 < per }
-    requires few { per ≤ 8 }
     requires small { AreSmall extents.now.runs }
     requires begun { first < PAGE * number + PAGE }
     requires left { first ≤ extents.now.real }
@@ -75,9 +68,7 @@ fn read_number<V: View>(
     requires size { length room.old ≡ PAGE }
     ensures value { IfSome (V.content view.old) (λ c. GivesOrFails (λ entries. entries) page_cause result (page_entries (byte_at c per extents.now) first extents.now.real number)) }
     ensures ends { IfOk result (λ entries. All (λ (entry : UsnOf). usn_end entry ≤ PAGE * number + PAGE) entries) }
-    ensures kept { KeepsView V.content V.kept V.faults view.old view.new }
-    ensures fault { IsErrOf result PageFault.View → Rose (V.faults view.old) (V.faults view.new) }
-    ensures counted { Counts page_cause (V.faults view.old) (V.faults view.new) result }
+    ensures kept { AsksView V.content V.kept V.faults page_cause view.old view.new result }
 {
     let count = (extents.real - PAGE * number).min(PAGE) as usize;
     read_bytes(
@@ -117,7 +108,7 @@ fn front(mut found: Vec<Usn>, most: u32) -> Vec<Usn>
 pub fn read_pages<V: View>(
     alloc: Global,
     view: &mut V,
-    per: u64,
+    per: ClusterSize,
     extents: &Extents,
     first: u64,
     from: u64,
@@ -125,8 +116,6 @@ pub fn read_pages<V: View>(
     body: &mut Body,
     room: &mut [u8],
 ) -> Result<Vec<Usn>, PageFault>
-    requires some { 0 < per }
-    requires few { per ≤ 8 }
     requires small { AreSmall extents.now.runs }
     requires first { first ≡ journal_first per extents.now }
     requires begun { first ≤ from }
@@ -136,9 +125,7 @@ pub fn read_pages<V: View>(
     requires whole { IfSome (V.content view.old) (λ c. IsOk (journal_entries c per extents.now)) }
     ensures value { IfSome (V.content view.old) (λ c. GivesOrFails (λ (v : Vec UsnOf Global). v.items) journal_cause result (Ok (take most (from_on from (read_entries (journal_entries c per extents.now)))))) }
     ensures ends { IfOk result (λ found. All (λ (entry : UsnOf). usn_end entry < 2 ^ 64) found.items) }
-    ensures kept { KeepsView V.content V.kept V.faults view.old view.new }
-    ensures fault { IsErrOf result PageFault.View → Rose (V.faults view.old) (V.faults view.new) }
-    ensures counted { Counts page_cause (V.faults view.old) (V.faults view.new) result }
+    ensures kept { AsksView V.content V.kept V.faults page_cause view.old view.new result }
 {
     let end = (extents.real + (PAGE - 1)) / PAGE;
     let mut found = Vec::new(alloc);

@@ -1,9 +1,8 @@
-ghost use Rattle.std.specs.Prelude.{◌≡◌, ◌+◌, ◌*◌, ◌^◌, ◌<◌, ◌≤◌, ◌⊎◌, not, find, length, All, IfOk, IfErr, IfSome, IsOk, Ok, Err, IsErrOf};
+ghost use Rattle.std.specs.Prelude.{◌≡◌, ◌+◌, ◌*◌, ◌^◌, ◌<◌, ◌≤◌, ◌⊎◌, not, find, length, All, IfOk, IfErr, IfSome, IsOk, Ok, Err};
 ghost use Rattle.host_base.specs.Answers.{GivesOrFails};
-ghost use Rattle.host_base.specs.Causes.{Rose, Counts};
 ghost use Rattle.file_tree.specs.declared.journal.Usn.{Usn as UsnOf};
 ghost use Rattle.stream_map.specs.Runs.{AreSmall};
-ghost use Rattle.block_view.specs.Views.{KeepsView};
+ghost use Rattle.block_view.specs.Views.{AsksView};
 ghost use Rattle.std.specs.Option.{option_copied};
 ghost use Rattle.volume_model.specs.Sizes.{is_hole};
 ghost use Rattle.volume_state.specs.Journals.{run_place, journal_first, journal_entries};
@@ -16,8 +15,9 @@ use block_view::View;
 use disk_model::Body;
 use file_tree::{Usn, UsnList};
 use record_model::Run;
-use state_model::Extents;
+use state_model::{ClusterSize, Extents};
 use std::alloc::{AllocError, Global};
+use stream_map::is_hole;
 
 // The bytes of a page of the journal.
 const PAGE: usize = 4096;
@@ -35,12 +35,6 @@ pub struct Pulled {
     pub end: u64,
 }
 
-fn is_hole(run: &Run) -> bool
-    ensures { result ≡ is_hole run.now }
-{
-    run.lcn.is_none()
-}
-
 // The first run that isn't sparse.
 fn first_whole(runs: &[Run]) -> Option<&Run>
     ensures { option_copied result ≡ find (λ r. not (is_hole r)) runs.now }
@@ -48,20 +42,18 @@ fn first_whole(runs: &[Run]) -> Option<&Run>
     runs.iter().find(|run| !is_hole(run))
 }
 
-fn run_place(per: u64, size: u64, run: Option<&Run>) -> u128
-    requires { per ≤ 8 }
+fn run_place(per: ClusterSize, size: u64, run: Option<&Run>) -> u128
     ensures { result ≡ run_place per size (option_copied run.entry) }
 {
     match run {
-        Some(run) => u128::from(run.vcn) * (SECTOR * u128::from(per)),
+        Some(run) => u128::from(run.vcn) * (SECTOR * u128::from(per.sectors())),
         None => u128::from(size),
     }
 }
 
 // Where the journal begins: at its first cluster that isn't sparse, or at its end.
 #[tactic(auto, unfolding(volume_state::specs::Journals::journal_first))]
-fn first_place(per: u64, extents: &Extents) -> u128
-    requires { per ≤ 8 }
+fn first_place(per: ClusterSize, extents: &Extents) -> u128
     ensures { result ≡ journal_first per extents.now }
 {
     let run = first_whole(extents.runs.as_slice());
@@ -100,15 +92,13 @@ fn end_of(next: u64, entries: &[Usn]) -> u64
 fn pull_inside<V: View>(
     alloc: Global,
     view: &mut V,
-    per: u64,
+    per: ClusterSize,
     extents: &Extents,
     first: u64,
     from: u64,
     most: u32,
     body: &mut Body,
 ) -> Result<Pulled, PullFault>
-    requires some { 0 < per }
-    requires few { per ≤ 8 }
     requires small { AreSmall extents.now.runs }
     requires first { first ≡ journal_first per extents.now }
     requires begun { first ≤ from }
@@ -116,9 +106,7 @@ fn pull_inside<V: View>(
     requires whole { IfSome (V.content view.old) (λ c. IsOk (journal_entries c per extents.now)) }
     ensures value { IfSome (V.content view.old) (λ c. GivesOrFails (λ pulled. pulled) pull_cause result (Ok (pulled_in extents.now.real from most (read_entries (journal_entries c per extents.now))))) }
     ensures inside { IfErr result IsInside }
-    ensures kept { KeepsView V.content V.kept V.faults view.old view.new }
-    ensures fault { IsErrOf result PullFault.View → Rose (V.faults view.old) (V.faults view.new) }
-    ensures counted { Counts pull_cause (V.faults view.old) (V.faults view.new) result }
+    ensures kept { AsksView V.content V.kept V.faults pull_cause view.old view.new result }
 {
     let next = extents.real;
     if next >= MOST_READ {
@@ -155,14 +143,12 @@ fn pull_inside<V: View>(
 pub fn read_from<V: View>(
     alloc: Global,
     view: &mut V,
-    per: u64,
+    per: ClusterSize,
     extents: &Extents,
     from: u64,
     most: u32,
     body: &mut Body,
 ) -> Result<Pulled, PullFault>
-    requires some { 0 < per }
-    requires few { per ≤ 8 }
     requires small { AreSmall extents.now.runs }
     requires left { journal_first per extents.now ≤ extents.now.real }
     requires whole { IfSome (V.content view.old) (λ c. IsOk (journal_entries c per extents.now)) }
@@ -172,9 +158,7 @@ pub fn read_from<V: View>(
     ensures ahead { extents.now.real < from → result ≡ Err (PullFault.Ahead extents.now.real) }
     ensures unasked { from < journal_first per extents.now ⊎ extents.now.real < from → view.new ≡ view.old }
     ensures inside { journal_first per extents.now ≤ from → from ≤ extents.now.real → IfErr result IsInside }
-    ensures kept { KeepsView V.content V.kept V.faults view.old view.new }
-    ensures fault { IsErrOf result PullFault.View → Rose (V.faults view.old) (V.faults view.new) }
-    ensures counted { Counts pull_cause (V.faults view.old) (V.faults view.new) result }
+    ensures kept { AsksView V.content V.kept V.faults pull_cause view.old view.new result }
 {
     let next = extents.real;
     let first = first_place(per, extents) as u64;

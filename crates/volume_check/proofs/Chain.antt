@@ -1,5 +1,5 @@
 -- A check in steps is the check.
-use Rattle.std.proofs.Common.{◌≡◌, ℕ, Option, Some, None, Result, Ok, Err, refl, sym, ap, ◌∙◌}
+use Rattle.std.proofs.Common.{◌≡◌, ℕ, List, Option, Some, None, Result, Ok, Err, refl, sym, ap, ◌∙◌}
 use Rattle.std.specs.Prelude.{IfSome}
 use Rattle.std.specs.Option.{option_map}
 use Rattle.host_base.specs.Answers.{GivesOrFails}
@@ -16,9 +16,10 @@ use Rattle.volume_state.specs.Rules.{broken_1, broken_2, broken_3, broken_4, bro
 use Rattle.volume_state.specs.Trees.{volume_journal, tree_with, without_records, report_of, reported, checked}
 use Rattle.volume_journal.specs.Judging.{bare, bare_journal}
 use Rattle.volume_check.specs.declared.fault.CheckFault.{CheckFault}
-use Rattle.volume_check.specs.declared.marks.Marks.{Marks}
+use Rattle.volume_map.specs.declared.map.VolumeMap.{VolumeMap}
+use Rattle.volume_map.specs.Maps.{volume_in, IsMapOf}
 use Rattle.volume_check.specs.Errors.{check_cause}
-use Rattle.volume_check.specs.Parts.{AreMarks}
+use Rattle.volume_check.specs.Parts.{AreParts}
 use Rattle.volume_check.specs.Steps.{from_1, from_2, from_3, from_4, from_5, from_6, from_7, from_8, tree_or, ninth}
 
 -- the first of two
@@ -68,18 +69,27 @@ unfolding checked ninth bare_journal broken_9
 goes_on c v e =
     ap (reported c v) (first_is c v ∙ ap (λ (o : Option Broken). or_else o (nine c v)) (sym e)) ∙ sym (ninth_by c v (journal_of c (upper_of c v) v) refl)
 
-abbrev first_found : Volume → Marks → Option Broken → Content → Type 0
-first_found v marks found c = AreMarks c v marks → found ≡ from_1 c v
+-- what was found where the content keeps a premise
+abbrev first_found : (Content → Type 0) → Volume → Option Broken → Content → Type 0
+first_found P v found c = P c → found ≡ from_1 c v
 
 -- over a content that may be known: a rule before the ninth is broken
-pub known_breaks : (known : Option Content) (v : Volume) (marks : Marks) (found : Option Broken) (b : Broken) → found ≡ Some b → IfSome known (first_found v marks found)
-    → IfSome known (λ c. AreMarks c v marks → checked c v ≡ Err b)
-known_breaks known v marks found b is h = one known (first_found v marks found) _ (λ c first are. breaks c v b (sym is ∙ first are)) h
+pub known_breaks : (known : Option Content) (P : Content → Type 0) (v : Volume) (found : Option Broken) (b : Broken) → found ≡ Some b → IfSome known (first_found P v found)
+    → IfSome known (λ c. P c → checked c v ≡ Err b)
+known_breaks known P v found b is h = one known (first_found P v found) (λ c. P c → checked c v ≡ Err b) (λ c first are. breaks c v b (sym is ∙ first are)) h
 
-abbrev ninth_given : Volume → Marks → Result Tree CheckFault → Content → Type 0
-ninth_given v marks result c = AreMarks c v marks → GivesOrFails (λ (t : Tree). t) check_cause result (ninth c v)
+abbrev ninth_given : (Content → Type 0) → Volume → Result Tree CheckFault → Content → Type 0
+ninth_given P v result c = P c → GivesOrFails (λ (t : Tree). t) check_cause result (ninth c v)
 
 -- they are kept, and the ninth is judged
-pub known_goes_on : (known : Option Content) (v : Volume) (marks : Marks) (found : Option Broken) (result : Result Tree CheckFault) → found ≡ None → IfSome known (first_found v marks found)
-    → IfSome known (ninth_given v marks result) → IfSome known (λ c. AreMarks c v marks → GivesOrFails (λ (t : Tree). t) check_cause result (checked c v))
-known_goes_on known v marks found result is h ninth = both known (first_found v marks found) (ninth_given v marks result) _ (λ c first given are. rw (goes_on c v (sym is ∙ first are)) (given are)) h ninth
+pub known_goes_on : (known : Option Content) (P : Content → Type 0) (v : Volume) (found : Option Broken) (result : Result Tree CheckFault) → found ≡ None → IfSome known (first_found P v found)
+    → IfSome known (ninth_given P v result) → IfSome known (λ c. P c → GivesOrFails (λ (t : Tree). t) check_cause result (checked c v))
+known_goes_on known P v found result is h ninth =
+    both known (first_found P v found) (ninth_given P v result) (λ c. P c → GivesOrFails (λ (t : Tree). t) check_cause result (checked c v)) (λ c first given are. rw (goes_on c v (sym is ∙ first are)) (given are)) h ninth
+
+-- ---- the parts
+
+-- with the table of upper-case units that was read, the map alone is the premise
+pub known_parts : (known : Option Content) (m : VolumeMap) (upper : List ℕ) (Q : Content → Type 0) → IfSome known (λ c. upper ≡ upper_of c (volume_in m)) → IfSome known (λ c. AreParts c m upper → Q c) → IfSome known (λ c. IsMapOf c m → Q c)
+known_parts known m upper Q read h =
+    both known (λ c. upper ≡ upper_of c (volume_in m)) (λ c. AreParts c m upper → Q c) (λ c. IsMapOf c m → Q c) (λ c u f are. f (record { map = are; upper = u })) read h

@@ -11,8 +11,8 @@ use Rattle.volume_model.specs.Volumes.{Volume, cluster_bits, cluster_bitmap, byt
 use Rattle.volume_model.specs.Owners.{volume_runs, keeps_cluster_bit}
 use Rattle.volume_model.specs.Sizes.{keeps_place, keeps_sizes}
 use Rattle.volume_state.specs.Rules.{broken_4, broken_6, file_count}
-use Rattle.volume_check.specs.declared.marks.Marks.{Marks}
-use Rattle.volume_check.specs.Parts.{AreMarks}
+use Rattle.volume_map.specs.declared.map.VolumeMap.{VolumeMap}
+use Rattle.volume_map.specs.Maps.{volume_in, IsMapOf}
 use Rattle.volume_check.specs.Steps.{from_4, from_5}
 
 -- a number was found: the rule is broken there
@@ -27,11 +27,12 @@ has_all_bits : (c : Content) (v : Volume) → length (cluster_bits c v) ≡ v.cl
 unfolding cluster_bits
 has_all_bits c v = length-bits_of_bytes (bytes_or c v.per (cluster_bitmap v)) v.clusters
 
--- a cluster that is owned and not marked, by the bits that were read
-pub six_is : (c : Content) (v : Volume) (marks : Marks) (runs : List Run) (found : Option ℕ) → AreMarks c v marks → runs ≡ volume_runs v.files
-    → found ≡ first_failing (keeps_cluster_bit marks.clusters runs) (length marks.clusters) → found ≡ broken_6 c v
+-- a cluster that is owned and not marked, by the bits of the map
+pub six_is : (c : Content) (m : VolumeMap) (runs : List Run) (found : Option ℕ) → IsMapOf c m → runs ≡ volume_runs m.files.items
+    → found ≡ first_failing (keeps_cluster_bit m.cluster_bits runs) (length m.cluster_bits) → found ≡ broken_6 c (volume_in m)
 unfolding broken_6
-six_is c v marks runs found are own is =
+six_is c m runs found are own is =
+    let v = volume_in m in
     is ∙ ap (λ bits. first_failing (keeps_cluster_bit bits runs) (length bits)) are.clusters
     ∙ ap (λ (xs : List Run). first_failing (keeps_cluster_bit (cluster_bits c v) xs) (length (cluster_bits c v))) own
     ∙ ap (first_failing (keeps_cluster_bit (cluster_bits c v) (volume_runs v.files))) (has_all_bits c v)
@@ -56,13 +57,13 @@ abbrev four_found : Volume → Option ℕ → Content → Type 0
 four_found v found c = found ≡ broken_4 c v
 
 -- rule 4 is broken, over a content that may be known
-pub four_stops : (known : Option Content) (v : Volume) (marks : Marks) (found : Option ℕ) (n : ℕ) → found ≡ Some n → IfSome known (four_found v found)
-    → IfSome known (λ c. AreMarks c v marks → Some (record { rule = 4; number = n }) ≡ from_4 c v)
+pub four_stops : (known : Option Content) (m : VolumeMap) (found : Option ℕ) (n : ℕ) → found ≡ Some n → IfSome known (four_found (volume_in m) found)
+    → IfSome known (λ c. IsMapOf c m → Some (record { rule = 4; number = n }) ≡ from_4 c (volume_in m))
 unfolding from_4
-four_stops known v marks found n is h = one known (four_found v found) _ (λ c e are. stops 4 n found (broken_4 c v) (from_5 c v) is e) h
+four_stops known m found n is h = one known (four_found (volume_in m) found) _ (λ c e are. stops 4 n found (broken_4 c (volume_in m)) (from_5 c (volume_in m)) is e) h
 
 -- and kept
-pub four_goes_on : (known : Option Content) (v : Volume) (marks : Marks) (found : Option ℕ) (broken : Option Broken) → found ≡ None → ((c : Content) → AreMarks c v marks → broken ≡ from_5 c v) → IfSome known (four_found v found)
-    → IfSome known (λ c. AreMarks c v marks → broken ≡ from_4 c v)
+pub four_goes_on : (known : Option Content) (m : VolumeMap) (found : Option ℕ) (broken : Option Broken) → found ≡ None → ((c : Content) → IsMapOf c m → broken ≡ from_5 c (volume_in m)) → IfSome known (four_found (volume_in m) found)
+    → IfSome known (λ c. IsMapOf c m → broken ≡ from_4 c (volume_in m))
 unfolding from_4
-four_goes_on known v marks found broken is rest h = one known (four_found v found) _ (λ c e are. goes_on 4 found (broken_4 c v) (from_5 c v) broken is e (rest c are)) h
+four_goes_on known m found broken is rest h = one known (four_found (volume_in m) found) _ (λ c e are. goes_on 4 found (broken_4 c (volume_in m)) (from_5 c (volume_in m)) broken is e (rest c are)) h

@@ -1,15 +1,13 @@
 //! The check.
-ghost use Rattle.std.specs.Prelude.{◌≡◌, IfSome, IsErrOf};
+ghost use Rattle.std.specs.Prelude.{◌≡◌, IfSome};
 ghost use Rattle.host_base.specs.Answers.{GivesOrFails};
-ghost use Rattle.host_base.specs.Causes.{Rose, Counts};
-ghost use Rattle.volume_map.specs.Maps.{volume_in, IsMap};
-ghost use Rattle.block_view.specs.Views.{KeepsView};
+ghost use Rattle.volume_map.specs.Maps.{volume_in, IsMap, IsMapOf};
+ghost use Rattle.block_view.specs.Views.{AsksView};
 ghost use Rattle.volume_state.specs.Trees.{checked};
 ghost use Rattle.volume_check.specs.Errors.{check_cause};
-ghost use Rattle.volume_check.specs.Parts.{AreMarks, AreNames};
+ghost use Rattle.volume_check.specs.Parts.{AreParts, AreNames};
 
 use crate::fault::CheckFault;
-use crate::marks::{Marks, read_marks};
 use crate::names::{Names, names_of};
 use crate::report::report;
 use crate::rules::from_1;
@@ -18,29 +16,29 @@ use disk_model::Body;
 use file_tree::Tree;
 use record_rules::Climber;
 use std::alloc::Global;
+use system_files::upper_table;
+use upcase_order::Upcase;
 use volume_map::VolumeMap;
 
-// The same, by the marks of the volume.
-fn check_marked<V: View>(
+// The same, by the volume's table of upper-case units.
+fn check_ordered<V: View>(
     alloc: Global,
     view: &mut V,
     map: &VolumeMap,
     names: &Names,
     climber: &Climber,
-    marks: &Marks,
+    upper: &Upcase,
     body: &mut Body,
 ) -> Result<Tree, CheckFault>
     requires map { IsMap map.now }
     requires names { AreNames map.now.files.items names.now }
     requires records { climber.now.records.now ≡ map.now.files.items }
-    ensures value { IfSome (V.content view.old) (λ c. AreMarks c (volume_in map.now) marks.now → GivesOrFails (λ tree. tree) check_cause result (checked c (volume_in map.now))) }
-    ensures kept { KeepsView V.content V.kept V.faults view.old view.new }
-    ensures fault { IsErrOf result CheckFault.View → Rose (V.faults view.old) (V.faults view.new) }
-    ensures counted { Counts check_cause (V.faults view.old) (V.faults view.new) result }
+    ensures value { IfSome (V.content view.old) (λ c. AreParts c map.now upper.now → GivesOrFails (λ tree. tree) check_cause result (checked c (volume_in map.now))) }
+    ensures kept { AsksView V.content V.kept V.faults check_cause view.old view.new result }
 {
-    match from_1(alloc, view, map, names, climber, marks, body)? {
+    match from_1(alloc, view, map, names, climber, upper, body)? {
         Some(broken) => Err(CheckFault::Broken(broken)),
-        None => report(alloc, view, map, names, climber, marks, body),
+        None => report(alloc, view, map, names, climber, upper, body),
     }
 }
 
@@ -55,14 +53,12 @@ fn check_named<V: View>(
     requires map { IsMap map.now }
     requires names { AreNames map.now.files.items names.now }
     requires records { climber.now.records.now ≡ map.now.files.items }
-    ensures value { IfSome (V.content view.old) (λ c. GivesOrFails (λ tree. tree) check_cause result (checked c (volume_in map.now))) }
-    ensures kept { KeepsView V.content V.kept V.faults view.old view.new }
-    ensures fault { IsErrOf result CheckFault.View → Rose (V.faults view.old) (V.faults view.new) }
-    ensures counted { Counts check_cause (V.faults view.old) (V.faults view.new) result }
+    ensures value { IfSome (V.content view.old) (λ c. IsMapOf c map.now → GivesOrFails (λ tree. tree) check_cause result (checked c (volume_in map.now))) }
+    ensures kept { AsksView V.content V.kept V.faults check_cause view.old view.new result }
 {
     let mut body = Body::empty(alloc)?;
-    let marks = read_marks(alloc, view, map, &mut body)?;
-    check_marked(alloc, view, map, names, climber, &marks, &mut body)
+    let upper = upper_table(alloc, view, map, &mut body)?;
+    check_ordered(alloc, view, map, names, climber, &upper, &mut body)
 }
 
 /// The tree that a loaded volume stands for, without the bytes of its nodes and the records of its
@@ -79,15 +75,17 @@ fn check_named<V: View>(
 /// - [`CheckFault::View`]: the view failed.
 /// - [`CheckFault::Memory`]: want of memory.
 ///
-/// It goes once over the records, over each index and over `$J`. It takes time linear in the
-/// records, in the names times how deep they stand, in the indexes' blocks and in the clusters'
-/// bits, and n log n in the runs; memory is linear in the records, the names and the runs.
+/// The tree is that of the view's content where the map was loaded of it: the heads of the records
+/// and the bits of the bitmaps are taken from the map, and not read again. It reads the table of
+/// upper-case units and `$J` once, each block of an index that a node lies in twice, for its names
+/// and for whether it is torn, and each record of the file table and of its mirror once, for whether
+/// it is torn. It takes time linear in the records and the names, in the bytes of the indexes' nodes
+/// and in the clusters' bits, and n log n in the runs and the nodes; memory is linear in the records,
+/// the names and the runs. Blocks of an index that no node lies in cost nothing.
 pub fn check<V: View>(alloc: Global, view: &mut V, map: &VolumeMap) -> Result<Tree, CheckFault>
     requires map { IsMap map.now }
-    ensures value { IfSome (V.content view.old) (λ c. GivesOrFails (λ tree. tree) check_cause result (checked c (volume_in map.now))) }
-    ensures kept { KeepsView V.content V.kept V.faults view.old view.new }
-    ensures fault { IsErrOf result CheckFault.View → Rose (V.faults view.old) (V.faults view.new) }
-    ensures counted { Counts check_cause (V.faults view.old) (V.faults view.new) result }
+    ensures value { IfSome (V.content view.old) (λ c. IsMapOf c map.now → GivesOrFails (λ tree. tree) check_cause result (checked c (volume_in map.now))) }
+    ensures kept { AsksView V.content V.kept V.faults check_cause view.old view.new result }
 {
     let names = names_of(alloc, &map.files)?;
     let climber = Climber::new(alloc, &map.files, &names.links)?;

@@ -2,14 +2,13 @@
 //! journal, exactly where it breaks none of the nine rules; else the first rule that it breaks,
 //! with the least number at which it does.
 //!
-//! The contract: `check` answers what the definition of a check gives for the view's content. The
-//! layouts are those of the Linux-NTFS documentation, "FILE Record", "$FILE_NAME", "$INDEX_ROOT",
-//! "Data runs", "$Bitmap" and "$UsnJrnl".
+//! The contract: `check` answers what the definition of a check gives for the view's content, of
+//! which the map was loaded. The layouts are those of the Linux-NTFS documentation, "FILE Record",
+//! "$FILE_NAME", "$INDEX_ROOT", "Data runs", "$Bitmap" and "$UsnJrnl".
 #![tactic(auto)]
 
 mod checking;
 mod fault;
-mod marks;
 mod names;
 mod report;
 mod rules;

@@ -1,18 +1,16 @@
 //! The rules before the ninth, each tried where those before it are kept.
-ghost use Rattle.std.specs.Prelude.{◌≡◌, ◌+◌, ◌*◌, ◌<◌, IfOk, IfSome, IsSome, IsErrOf};
-ghost use Rattle.host_base.specs.Causes.{Rose, Counts};
+ghost use Rattle.std.specs.Prelude.{◌≡◌, ◌+◌, ◌*◌, ◌<◌, IfOk, IfSome, IsSome};
 ghost use Rattle.disk_model.specs.Content.{Content as the_content};
 ghost use Rattle.volume_model.specs.Owners.{volume_runs};
-ghost use Rattle.volume_map.specs.Maps.{volume_in, IsMap};
-ghost use Rattle.block_view.specs.Views.{KeepsView};
+ghost use Rattle.volume_map.specs.Maps.{volume_in, IsMap, IsMapOf};
+ghost use Rattle.block_view.specs.Views.{AsksView};
 ghost use Rattle.volume_check.specs.Errors.{check_cause, NeverBroken};
-ghost use Rattle.volume_check.specs.Parts.{AreMarks, AreNames};
+ghost use Rattle.volume_check.specs.Parts.{AreParts, AreNames};
 ghost use Rattle.volume_model.specs.Sizes.{is_at, placed_record, keeps_place};
 ghost use Rattle.volume_state.specs.Rules.{broken_1, broken_2, broken_4};
 ghost use Rattle.volume_check.specs.Steps.{from_1, from_2, from_3, from_4, from_5, from_6, from_7, from_8};
 
 use crate::fault::CheckFault;
-use crate::marks::Marks;
 use crate::names::Names;
 use block_view::View;
 use cluster_owners::{Run, volume_runs};
@@ -22,6 +20,7 @@ use record_rules::{Climber, first_misnamed, first_misplaced, first_unrooted};
 use state_model::Broken;
 use std::alloc::Global;
 use stream_map::block_at;
+use upcase_order::Upcase;
 use volume_map::VolumeMap;
 
 // Rule 8: the way up of each directory.
@@ -38,11 +37,11 @@ fn from_8(map: &VolumeMap, climber: &Climber) -> Option<Broken>
 
 // From rule 7 on: records that are in use and not marked.
 #[tactic(auto, unfolding(crate::specs::Steps::from_7, volume_state::specs::Rules::broken_7))]
-fn from_7(map: &VolumeMap, climber: &Climber, marks: &Marks) -> Option<Broken>
+fn from_7(map: &VolumeMap, climber: &Climber) -> Option<Broken>
     requires { climber.now.records.now ≡ map.now.files.items }
-    ensures { (c : the_content) → AreMarks c (volume_in map.now) marks.now → result ≡ from_7 c (volume_in map.now) }
+    ensures { (c : the_content) → IsMapOf c map.now → result ≡ from_7 c (volume_in map.now) }
 {
-    match volume_parts::first_unmarked(&marks.heads, &marks.records) {
+    match volume_map::first_unmarked(&map.heads, &map.record_bits) {
         Some(number) => Some(Broken { rule: 7, number }),
         None => from_8(map, climber),
     }
@@ -54,34 +53,28 @@ fn from_6(
     alloc: Global,
     map: &VolumeMap,
     climber: &Climber,
-    marks: &Marks,
     runs: &[Run],
 ) -> Result<Option<Broken>, Memory>
     requires records { climber.now.records.now ≡ map.now.files.items }
     requires runs { runs.now ≡ volume_runs map.now.files.items }
-    ensures { (c : the_content) → AreMarks c (volume_in map.now) marks.now → IfOk result (λ broken. broken ≡ from_6 c (volume_in map.now)) }
+    ensures { (c : the_content) → IsMapOf c map.now → IfOk result (λ broken. broken ≡ from_6 c (volume_in map.now)) }
 {
-    match cluster_owners::first_unmarked(alloc, runs, &marks.clusters)? {
+    match cluster_owners::first_unmarked(alloc, runs, &map.cluster_bits)? {
         Some(number) => Ok(Some(Broken { rule: 6, number })),
-        None => Ok(from_7(map, climber, marks)),
+        None => Ok(from_7(map, climber)),
     }
 }
 
 // From rule 5 on: clusters that are owned twice.
 #[tactic(auto, unfolding(crate::specs::Steps::from_5, volume_state::specs::Rules::broken_5))]
-fn from_5(
-    alloc: Global,
-    map: &VolumeMap,
-    climber: &Climber,
-    marks: &Marks,
-) -> Result<Option<Broken>, Memory>
+fn from_5(alloc: Global, map: &VolumeMap, climber: &Climber) -> Result<Option<Broken>, Memory>
     requires { climber.now.records.now ≡ map.now.files.items }
-    ensures { (c : the_content) → AreMarks c (volume_in map.now) marks.now → IfOk result (λ broken. broken ≡ from_5 c (volume_in map.now)) }
+    ensures { (c : the_content) → IsMapOf c map.now → IfOk result (λ broken. broken ≡ from_5 c (volume_in map.now)) }
 {
     let runs = volume_runs(alloc, &map.files)?;
     match cluster_owners::first_shared(alloc, runs.as_slice(), map.clusters)? {
         Some(number) => Ok(Some(Broken { rule: 5, number })),
-        None => from_6(alloc, map, climber, marks, runs.as_slice()),
+        None => from_6(alloc, map, climber, runs.as_slice()),
     }
 }
 
@@ -91,7 +84,7 @@ fn is_in_place(map: &VolumeMap, number: u64) -> bool
     requires number { number < 4 }
     ensures { result ≡ is_at (map.now.mft * map.now.per_cluster + 2 * number) (placed_record (volume_in map.now) number) }
 {
-    let first = map.mft * map.per_cluster + 2 * number;
+    let first = map.mft * map.per_cluster.sectors() + 2 * number;
     let runs = map.table.runs.as_slice();
     match block_at(map.per_cluster, runs, BlockKind::FileRec, number) {
         Some(block) => block.first == first,
@@ -119,9 +112,7 @@ fn first_unfit<V: View>(
     requires map { IsMap map.now }
     ensures value { IfSome (V.content view.old) (λ c. IfOk result (λ number. number ≡ broken_4 c (volume_in map.now))) }
     ensures never { NeverBroken result }
-    ensures kept { KeepsView V.content V.kept V.faults view.old view.new }
-    ensures fault { IsErrOf result CheckFault.View → Rose (V.faults view.old) (V.faults view.new) }
-    ensures counted { Counts check_cause (V.faults view.old) (V.faults view.new) result }
+    ensures kept { AsksView V.content V.kept V.faults check_cause view.old view.new result }
 {
     if !keeps_place(map) {
         return Ok(Some(0));
@@ -138,20 +129,17 @@ fn from_4<V: View>(
     view: &mut V,
     map: &VolumeMap,
     climber: &Climber,
-    marks: &Marks,
     body: &mut Body,
 ) -> Result<Option<Broken>, CheckFault>
     requires map { IsMap map.now }
     requires records { climber.now.records.now ≡ map.now.files.items }
-    ensures value { IfSome (V.content view.old) (λ c. AreMarks c (volume_in map.now) marks.now → IfOk result (λ broken. broken ≡ from_4 c (volume_in map.now))) }
+    ensures value { IfSome (V.content view.old) (λ c. IsMapOf c map.now → IfOk result (λ broken. broken ≡ from_4 c (volume_in map.now))) }
     ensures never { NeverBroken result }
-    ensures kept { KeepsView V.content V.kept V.faults view.old view.new }
-    ensures fault { IsErrOf result CheckFault.View → Rose (V.faults view.old) (V.faults view.new) }
-    ensures counted { Counts check_cause (V.faults view.old) (V.faults view.new) result }
+    ensures kept { AsksView V.content V.kept V.faults check_cause view.old view.new result }
 {
     match first_unfit(alloc, view, map, body)? {
         Some(number) => Ok(Some(Broken { rule: 4, number })),
-        None => Ok(from_5(alloc, map, climber, marks)?),
+        None => Ok(from_5(alloc, map, climber)?),
     }
 }
 
@@ -163,29 +151,27 @@ fn from_3<V: View>(
     map: &VolumeMap,
     names: &Names,
     climber: &Climber,
-    marks: &Marks,
+    upper: &Upcase,
     body: &mut Body,
 ) -> Result<Option<Broken>, CheckFault>
     requires map { IsMap map.now }
     requires names { AreNames map.now.files.items names.now }
     requires records { climber.now.records.now ≡ map.now.files.items }
-    ensures value { IfSome (V.content view.old) (λ c. AreMarks c (volume_in map.now) marks.now → IfOk result (λ broken. broken ≡ from_3 c (volume_in map.now))) }
+    ensures value { IfSome (V.content view.old) (λ c. AreParts c map.now upper.now → IfOk result (λ broken. broken ≡ from_3 c (volume_in map.now))) }
     ensures never { NeverBroken result }
-    ensures kept { KeepsView V.content V.kept V.faults view.old view.new }
-    ensures fault { IsErrOf result CheckFault.View → Rose (V.faults view.old) (V.faults view.new) }
-    ensures counted { Counts check_cause (V.faults view.old) (V.faults view.new) result }
+    ensures kept { AsksView V.content V.kept V.faults check_cause view.old view.new result }
 {
     match directory_index::first_broken(
         alloc,
         view,
         map.per_cluster,
-        &marks.upper,
+        upper,
         &map.files,
         &names.links,
         &names.counts,
     )? {
         Some(number) => Ok(Some(Broken { rule: 3, number })),
-        None => from_4(alloc, view, map, climber, marks, body),
+        None => from_4(alloc, view, map, climber, body),
     }
 }
 
@@ -197,31 +183,29 @@ fn from_2<V: View>(
     map: &VolumeMap,
     names: &Names,
     climber: &Climber,
-    marks: &Marks,
+    upper: &Upcase,
     body: &mut Body,
 ) -> Result<Option<Broken>, CheckFault>
     requires map { IsMap map.now }
     requires names { AreNames map.now.files.items names.now }
     requires records { climber.now.records.now ≡ map.now.files.items }
-    ensures value { IfSome (V.content view.old) (λ c. AreMarks c (volume_in map.now) marks.now → IfOk result (λ broken. broken ≡ from_2 c (volume_in map.now))) }
+    ensures value { IfSome (V.content view.old) (λ c. AreParts c map.now upper.now → IfOk result (λ broken. broken ≡ from_2 c (volume_in map.now))) }
     ensures never { NeverBroken result }
-    ensures kept { KeepsView V.content V.kept V.faults view.old view.new }
-    ensures fault { IsErrOf result CheckFault.View → Rose (V.faults view.old) (V.faults view.new) }
-    ensures counted { Counts check_cause (V.faults view.old) (V.faults view.new) result }
+    ensures kept { AsksView V.content V.kept V.faults check_cause view.old view.new result }
     ensures unasked { IsSome (broken_2 (volume_in map.now)) → view.new ≡ view.old }
 {
     match first_misplaced(&map.files, &names.links) {
         Some(number) => Ok(Some(Broken { rule: 2, number })),
-        None => from_3(alloc, view, map, names, climber, marks, body),
+        None => from_3(alloc, view, map, names, climber, upper, body),
     }
 }
 
 /// The first rule before the ninth that a loaded volume breaks, with the least number at which it
-/// does, if it breaks one. `names` are the names of its files, `climber` climbs over these, `marks`
-/// are its marks, and `body` is room for a body.
+/// does, if it breaks one. `names` are the names of its files, `climber` climbs over these, `upper`
+/// is its table of upper-case units, and `body` is room for a body.
 ///
-/// It goes over the records, the indexes and the streams once each, and sorts the runs; a rule is
-/// tried only where those before it are kept. Where rule 1 is broken the view isn't asked.
+/// It goes over the indexes and then over the streams, and sorts the runs; a rule is tried only
+/// where those before it are kept. Where rule 1 is broken the view isn't asked.
 #[tactic(auto, unfolding(crate::specs::Steps::from_1, volume_state::specs::Rules::broken_1))]
 pub fn from_1<V: View>(
     alloc: Global,
@@ -229,21 +213,19 @@ pub fn from_1<V: View>(
     map: &VolumeMap,
     names: &Names,
     climber: &Climber,
-    marks: &Marks,
+    upper: &Upcase,
     body: &mut Body,
 ) -> Result<Option<Broken>, CheckFault>
     requires map { IsMap map.now }
     requires names { AreNames map.now.files.items names.now }
     requires records { climber.now.records.now ≡ map.now.files.items }
-    ensures value { IfSome (V.content view.old) (λ c. AreMarks c (volume_in map.now) marks.now → IfOk result (λ broken. broken ≡ from_1 c (volume_in map.now))) }
+    ensures value { IfSome (V.content view.old) (λ c. AreParts c map.now upper.now → IfOk result (λ broken. broken ≡ from_1 c (volume_in map.now))) }
     ensures never { NeverBroken result }
-    ensures kept { KeepsView V.content V.kept V.faults view.old view.new }
-    ensures fault { IsErrOf result CheckFault.View → Rose (V.faults view.old) (V.faults view.new) }
-    ensures counted { Counts check_cause (V.faults view.old) (V.faults view.new) result }
+    ensures kept { AsksView V.content V.kept V.faults check_cause view.old view.new result }
     ensures unasked { IsSome (broken_1 (volume_in map.now)) → view.new ≡ view.old }
 {
     match first_misnamed(&map.files, &names.links) {
         Some(number) => Ok(Some(Broken { rule: 1, number })),
-        None => from_2(alloc, view, map, names, climber, marks, body),
+        None => from_2(alloc, view, map, names, climber, upper, body),
     }
 }

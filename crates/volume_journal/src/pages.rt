@@ -1,11 +1,10 @@
 //! The pages of the journal.
-ghost use Rattle.std.specs.Prelude.{◌≡◌, ◌+◌, ◌-◌, ◌*◌, ◌/◌, ◌^◌, ◌<◌, ◌≤◌, min, length, Ok, IfOk, IfSome, IsErrOf};
+ghost use Rattle.std.specs.Prelude.{◌≡◌, ◌+◌, ◌-◌, ◌*◌, ◌/◌, ◌^◌, ◌<◌, ◌≤◌, min, length, Ok, IfOk, IfSome};
 ghost use Rattle.host_base.specs.Answers.{GivesOrFails};
-ghost use Rattle.host_base.specs.Causes.{Rose, Counts};
 ghost use Rattle.journal_model.specs.Journals.{page_entries, journal_from};
 ghost use Rattle.state_model.specs.Streams.{byte_at};
 ghost use Rattle.stream_map.specs.Runs.{AreSmall};
-ghost use Rattle.block_view.specs.Views.{KeepsView};
+ghost use Rattle.block_view.specs.Views.{AsksView};
 ghost use Rattle.volume_state.specs.Journals.{journal_first, journal_entries, journal_owned};
 ghost use Rattle.volume_journal.specs.Errors.{journal_cause};
 ghost use Rattle.volume_journal.specs.Judging.{judged, owned_in};
@@ -13,7 +12,7 @@ ghost use Rattle.volume_journal.specs.Judging.{judged, owned_in};
 use crate::fault::JournalFault;
 use block_view::View;
 use disk_model::Body;
-use state_model::Extents;
+use state_model::{ClusterSize, Extents};
 use std::alloc::{AllocError, Global};
 use stream_map::fill;
 use usn_record::{check_page, ends_in_record};
@@ -34,15 +33,13 @@ fn page_room(alloc: Global) -> Result<Vec<u8>, AllocError>
 // for its bytes.
 fn check_bytes<V: View>(
     view: &mut V,
-    per: u64,
+    per: ClusterSize,
     extents: &Extents,
     first: u64,
     number: u64,
     body: &mut Body,
     page: &mut [u8],
 ) -> Result<(), JournalFault>
-    requires some { 0 < per }
-    requires few { per ≤ 8 }
     requires small { AreSmall extents.now.runs }
     requires begun { first < PAGE * number + PAGE }
     requires left { first ≤ extents.now.real }
@@ -50,9 +47,7 @@ fn check_bytes<V: View>(
     requires room { extents.now.real + 8192 < 2 ^ 64 }
     requires size { length page.old ≡ min extents.now.real (PAGE * number + PAGE) - PAGE * number }
     ensures value { IfSome (V.content view.old) (λ c. GivesOrFails (λ done. done) journal_cause result (judged (page_entries (byte_at c per extents.now) first extents.now.real number))) }
-    ensures kept { KeepsView V.content V.kept V.faults view.old view.new }
-    ensures fault { IsErrOf result JournalFault.View → Rose (V.faults view.old) (V.faults view.new) }
-    ensures counted { Counts journal_cause (V.faults view.old) (V.faults view.new) result }
+    ensures kept { AsksView V.content V.kept V.faults journal_cause view.old view.new result }
 {
     let begin = PAGE * number;
     fill(view, per, extents, begin, body, page)?;
@@ -63,15 +58,13 @@ fn check_bytes<V: View>(
 // The same; `room` is room for a page.
 fn check_number<V: View>(
     view: &mut V,
-    per: u64,
+    per: ClusterSize,
     extents: &Extents,
     first: u64,
     number: u64,
     body: &mut Body,
     room: &mut [u8],
 ) -> Result<(), JournalFault>
-    requires some { 0 < per }
-    requires few { per ≤ 8 }
     requires small { AreSmall extents.now.runs }
     requires begun { first < PAGE * number + PAGE }
     requires left { first ≤ extents.now.real }
@@ -79,9 +72,7 @@ fn check_number<V: View>(
     requires room { extents.now.real + 8192 < 2 ^ 64 }
     requires size { length room.old ≡ PAGE }
     ensures value { IfSome (V.content view.old) (λ c. GivesOrFails (λ done. done) journal_cause result (judged (page_entries (byte_at c per extents.now) first extents.now.real number))) }
-    ensures kept { KeepsView V.content V.kept V.faults view.old view.new }
-    ensures fault { IsErrOf result JournalFault.View → Rose (V.faults view.old) (V.faults view.new) }
-    ensures counted { Counts journal_cause (V.faults view.old) (V.faults view.new) result }
+    ensures kept { AsksView V.content V.kept V.faults journal_cause view.old view.new result }
 {
     let count = (extents.real - PAGE * number).min(PAGE) as usize;
     check_bytes(view, per, extents, first, number, body, &mut room[..count])
@@ -90,22 +81,18 @@ fn check_number<V: View>(
 // Checks the records of all pages from the journal's first byte on; `room` is room for a page.
 fn check_pages<V: View>(
     view: &mut V,
-    per: u64,
+    per: ClusterSize,
     extents: &Extents,
     first: u64,
     body: &mut Body,
     room: &mut [u8],
 ) -> Result<(), JournalFault>
-    requires some { 0 < per }
-    requires few { per ≤ 8 }
     requires small { AreSmall extents.now.runs }
     requires left { first ≤ extents.now.real }
     requires room { extents.now.real + 8192 < 2 ^ 64 }
     requires size { length room.old ≡ PAGE }
     ensures value { IfSome (V.content view.old) (λ c. GivesOrFails (λ done. done) journal_cause result (judged (journal_from (byte_at c per extents.now) first extents.now.real (first / PAGE)))) }
-    ensures kept { KeepsView V.content V.kept V.faults view.old view.new }
-    ensures fault { IsErrOf result JournalFault.View → Rose (V.faults view.old) (V.faults view.new) }
-    ensures counted { Counts journal_cause (V.faults view.old) (V.faults view.new) result }
+    ensures kept { AsksView V.content V.kept V.faults journal_cause view.old view.new result }
 {
     let end = (extents.real + (PAGE - 1)) / PAGE;
     for number in first / PAGE..end {
@@ -119,23 +106,19 @@ fn check_pages<V: View>(
 #[tactic(auto, unfolding(volume_state::specs::Journals::journal_owned, journal_model::specs::Journals::is_owned, journal_model::specs::Journals::bytes_between))]
 fn last_owned<V: View>(
     view: &mut V,
-    per: u64,
+    per: ClusterSize,
     extents: &Extents,
     first: u64,
     body: &mut Body,
     room: &mut [u8],
 ) -> Result<bool, JournalFault>
-    requires some { 0 < per }
-    requires few { per ≤ 8 }
     requires small { AreSmall extents.now.runs }
     requires first { first ≡ journal_first per extents.now }
     requires left { first ≤ extents.now.real }
     requires room { extents.now.real + 8192 < 2 ^ 64 }
     requires size { length room.old ≡ PAGE }
     ensures value { IfSome (V.content view.old) (λ c. GivesOrFails (λ owned. owned) journal_cause result (Ok (journal_owned c per extents.now))) }
-    ensures kept { KeepsView V.content V.kept V.faults view.old view.new }
-    ensures fault { IsErrOf result JournalFault.View → Rose (V.faults view.old) (V.faults view.new) }
-    ensures counted { Counts journal_cause (V.faults view.old) (V.faults view.new) result }
+    ensures kept { AsksView V.content V.kept V.faults journal_cause view.old view.new result }
 {
     let begin = first.max(PAGE * (extents.real / PAGE));
     let page = &mut room[..(extents.real - begin) as usize];
@@ -156,20 +139,16 @@ fn last_owned<V: View>(
 pub fn check_entries<V: View>(
     alloc: Global,
     view: &mut V,
-    per: u64,
+    per: ClusterSize,
     extents: &Extents,
     first: u64,
     body: &mut Body,
 ) -> Result<bool, JournalFault>
-    requires some { 0 < per }
-    requires few { per ≤ 8 }
     requires small { AreSmall extents.now.runs }
     requires first { first ≡ journal_first per extents.now }
     requires left { first ≤ extents.now.real }
     ensures value { IfSome (V.content view.old) (λ c. GivesOrFails (λ owned. owned) journal_cause result (owned_in c per extents.now)) }
-    ensures kept { KeepsView V.content V.kept V.faults view.old view.new }
-    ensures fault { IsErrOf result JournalFault.View → Rose (V.faults view.old) (V.faults view.new) }
-    ensures counted { Counts journal_cause (V.faults view.old) (V.faults view.new) result }
+    ensures kept { AsksView V.content V.kept V.faults journal_cause view.old view.new result }
 {
     if extents.real >= MOST_READ {
         return Err(JournalFault::Memory);

@@ -16,13 +16,12 @@ use file_tree::Link;
 use host_base::Memory;
 use record_model::{ATTRIBUTE_LIST, DATA};
 use record_rules::has_type;
-use state_model::{Extents, Stream};
+use state_model::{ClusterSize, Extents, Stream};
 use std::alloc::{AllocError, Global};
 use stream_map::stream_of;
 use thiserror::Error;
 use upcase_order::Upcase;
-use volume_map::VolumeMap;
-use volume_nodes::stream_flags;
+use volume_map::{VolumeMap, stream_flags};
 
 // No file is the journal's.
 const NO_FILE: u32 = 1;
@@ -67,8 +66,7 @@ impl From<Memory> for PlaceFault {
 }
 
 // The clusters of `$J`, which has these flags.
-fn entries_place(per: u64, flags: u16, entries: Stream) -> Result<Extents, PlaceFault>
-    requires few { per ≤ 8 }
+fn entries_place(per: ClusterSize, flags: u16, entries: Stream) -> Result<Extents, PlaceFault>
     requires small { HasSmallRuns entries }
     ensures place { Gives (λ e. e) place_cause result (in_shape (entries_in per flags entries)) }
     ensures inside { IfOk result (λ e. journal_first per e ≤ e.real) }
@@ -85,12 +83,11 @@ fn entries_place(per: u64, flags: u16, entries: Stream) -> Result<Extents, Place
 
 // The same, where there are both streams and `$Max` is in shape.
 fn streams_place(
-    per: u64,
+    per: ClusterSize,
     flags: u16,
     limits: Option<Stream>,
     entries: Option<Stream>,
 ) -> Result<Extents, PlaceFault>
-    requires few { per ≤ 8 }
     requires small { IfSome entries HasSmallRuns }
     ensures place { Gives (λ e. e) place_cause result (place_of_streams per flags limits entries) }
     ensures inside { IfOk result (λ e. journal_first per e ≤ e.real) }
@@ -110,8 +107,7 @@ fn streams_place(
 
 // The same of the file that holds the journal.
 #[tactic(auto, unfolding(volume_state::specs::Journals::entries_flags, volume_state::specs::Journals::limits_name, volume_state::specs::Journals::entries_name))]
-fn file_place(alloc: Global, per: u64, file: &FileRec) -> Result<Extents, PlaceFault>
-    requires few { per ≤ 8 }
+fn file_place(alloc: Global, per: ClusterSize, file: &FileRec) -> Result<Extents, PlaceFault>
     ensures place { Gives (λ e. e) place_cause result (place_of_file per (Some file.now)) }
     ensures inside { IfOk result (λ e. journal_first per e ≤ e.real) }
     ensures small { IfOk result (λ e. AreSmall e.runs) }

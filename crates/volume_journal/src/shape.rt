@@ -8,9 +8,9 @@ ghost use Rattle.volume_state.specs.Journals.{ends_within, run_place, journal_fi
 
 use record_model::{JournalMax, Run};
 use record_rules::is_sparse;
-use state_model::{Extents, Stream};
+use state_model::{ClusterSize, Extents, Stream};
 use std_values::FixedValue;
-use volume_nodes::is_hole;
+use stream_map::is_hole;
 
 // The bytes of a sector.
 const SECTOR: u128 = 512;
@@ -19,16 +19,18 @@ const SECTOR: u128 = 512;
 const MOST_ALLOCATED: u64 = 8_796_093_022_208;
 
 // Whether the run isn't sparse, or ends within so many bytes.
-fn ends_within(per: u64, size: u128, run: &Run) -> bool
-    requires { per ≤ 8 }
+fn ends_within(per: ClusterSize, size: u128, run: &Run) -> bool
     ensures { result ≡ ends_within per size run.now }
 {
-    let (vcn, len, per) = (u128::from(run.vcn), u128::from(run.len), u128::from(per));
+    let (vcn, len, per) = (
+        u128::from(run.vcn),
+        u128::from(run.len),
+        u128::from(per.sectors()),
+    );
     !is_hole(run) || (vcn + len) * (SECTOR * per) <= size
 }
 
-fn all_end_within(per: u64, size: u128, runs: &[Run]) -> bool
-    requires { per ≤ 8 }
+fn all_end_within(per: ClusterSize, size: u128, runs: &[Run]) -> bool
     ensures { result ≡ list_all (ends_within per size) runs.now }
 {
     runs.iter().all(|run| ends_within(per, size, run))
@@ -41,20 +43,18 @@ fn first_whole(runs: &[Run]) -> Option<&Run>
     runs.iter().find(|run| !is_hole(run))
 }
 
-fn run_place(per: u64, size: u64, run: Option<&Run>) -> u128
-    requires { per ≤ 8 }
+fn run_place(per: ClusterSize, size: u64, run: Option<&Run>) -> u128
     ensures { result ≡ run_place per size (option_copied run.entry) }
 {
     match run {
-        Some(run) => u128::from(run.vcn) * (SECTOR * u128::from(per)),
+        Some(run) => u128::from(run.vcn) * (SECTOR * u128::from(per.sectors())),
         None => u128::from(size),
     }
 }
 
 // Where the journal begins: at its first cluster that isn't sparse, or at its end.
 #[tactic(auto, unfolding(volume_state::specs::Journals::journal_first))]
-fn first_place(per: u64, extents: &Extents) -> u128
-    requires { per ≤ 8 }
+fn first_place(per: ClusterSize, extents: &Extents) -> u128
     ensures { result ≡ journal_first per extents.now }
 {
     let run = first_whole(extents.runs.as_slice());
@@ -62,8 +62,7 @@ fn first_place(per: u64, extents: &Extents) -> u128
 }
 
 #[tactic(auto, unfolding(volume_state::specs::Journals::has_journal_shape))]
-pub fn has_shape(per: u64, flags: u16, extents: &Extents) -> bool
-    requires { per ≤ 8 }
+pub fn has_shape(per: ClusterSize, flags: u16, extents: &Extents) -> bool
     ensures { result ≡ has_journal_shape per flags extents.now }
 {
     let runs = extents.runs.as_slice();
@@ -92,8 +91,7 @@ pub fn limits_of(stream: &Stream) -> Option<JournalMax>
 
 /// The clusters of `$J`, which has these flags; none where it is resident, or out of shape. A
 /// volume has `per` sectors a cluster. Linear in the runs.
-pub fn entries_of(per: u64, flags: u16, stream: &Stream) -> Option<&Extents>
-    requires few { per ≤ 8 }
+pub fn entries_of(per: ClusterSize, flags: u16, stream: &Stream) -> Option<&Extents>
     requires small { HasSmallRuns stream.now }
     ensures value { MatchOption result (entries_in per flags stream.now ≡ Err 0) (λ e. entries_in per flags stream.now ≡ Ok e.now) }
     ensures first { IfSome result (λ e. journal_first per e.now ≤ e.now.real) }
@@ -106,8 +104,7 @@ pub fn entries_of(per: u64, flags: u16, stream: &Stream) -> Option<&Extents>
 }
 
 /// Where a journal in shape begins, in bytes.
-pub fn first_byte(per: u64, extents: &Extents) -> u64
-    requires few { per ≤ 8 }
+pub fn first_byte(per: ClusterSize, extents: &Extents) -> u64
     requires inside { journal_first per extents.now ≤ extents.now.real }
     ensures value { result ≡ journal_first per extents.now }
 {

@@ -1,13 +1,12 @@
 //! The journal of a volume.
-ghost use Rattle.std.specs.Prelude.{◌≡◌, ◌<◌, ◌≤◌, ℕ, [], length, Some, IfSome, IsErrOf};
+ghost use Rattle.std.specs.Prelude.{◌≡◌, ◌≤◌, ℕ, [], length, Some, IfSome};
 ghost use Rattle.host_base.specs.Answers.{GivesOrFails};
-ghost use Rattle.host_base.specs.Causes.{Rose, Counts};
 ghost use Rattle.disk_model.specs.Content.{Content};
 ghost use Rattle.state_model.specs.Loads.{table_in};
 ghost use Rattle.state_model.specs.Trees.{all_links};
 ghost use Rattle.stream_map.specs.Runs.{AreSmall, HasSmallRuns};
 ghost use Rattle.volume_map.specs.Maps.{volume_in, IsMap};
-ghost use Rattle.block_view.specs.Views.{KeepsView};
+ghost use Rattle.block_view.specs.Views.{AsksView};
 ghost use Rattle.volume_state.specs.Journals.{journal_first, journal_owned, journal_with, journal_of_streams, journal_of_file};
 ghost use Rattle.volume_state.specs.Trees.{without_records};
 ghost use Rattle.volume_journal.specs.Errors.{journal_cause};
@@ -22,12 +21,11 @@ use disk_model::Body;
 use file_record::FileRec;
 use file_tree::{Journal, Link, UsnList};
 use record_model::{DATA, JournalMax};
-use state_model::{Extents, Stream};
+use state_model::{ClusterSize, Extents, Stream};
 use std::alloc::Global;
 use stream_map::stream_of;
 use upcase_order::Upcase;
-use volume_map::VolumeMap;
-use volume_nodes::stream_flags;
+use volume_map::{VolumeMap, stream_flags};
 
 // `$Max`
 pub const LIMITS_NAME: [u16; 4] = [0x24, 0x4d, 0x61, 0x78];
@@ -60,19 +58,15 @@ fn journal_with(
 fn placed_journal<V: View>(
     alloc: Global,
     view: &mut V,
-    per: u64,
+    per: ClusterSize,
     limits: JournalMax,
     extents: &Extents,
     body: &mut Body,
 ) -> Result<Option<Journal>, JournalFault>
-    requires some { 0 < per }
-    requires few { per ≤ 8 }
     requires small { AreSmall extents.now.runs }
     requires left { journal_first per extents.now ≤ extents.now.real }
     ensures value { IfSome (V.content view.old) (λ c. GivesOrFails (λ journal. journal) journal_cause result (journal_in_place c per limits extents.now)) }
-    ensures kept { KeepsView V.content V.kept V.faults view.old view.new }
-    ensures fault { IsErrOf result JournalFault.View → Rose (V.faults view.old) (V.faults view.new) }
-    ensures counted { Counts journal_cause (V.faults view.old) (V.faults view.new) result }
+    ensures kept { AsksView V.content V.kept V.faults journal_cause view.old view.new result }
 {
     let first = first_byte(per, extents);
     let owned = check_entries(alloc, view, per, extents, first, body)?;
@@ -83,19 +77,15 @@ fn placed_journal<V: View>(
 fn stream_journal<V: View>(
     alloc: Global,
     view: &mut V,
-    per: u64,
+    per: ClusterSize,
     flags: u16,
     limits: &Stream,
     entries: &Stream,
     body: &mut Body,
 ) -> Result<Option<Journal>, JournalFault>
-    requires some { 0 < per }
-    requires few { per ≤ 8 }
     requires small { HasSmallRuns entries.now }
     ensures value { IfSome (V.content view.old) (λ c. GivesOrFails (λ journal. journal) journal_cause result (bare (journal_of_streams c per flags (Some limits.now) (Some entries.now)))) }
-    ensures kept { KeepsView V.content V.kept V.faults view.old view.new }
-    ensures fault { IsErrOf result JournalFault.View → Rose (V.faults view.old) (V.faults view.new) }
-    ensures counted { Counts journal_cause (V.faults view.old) (V.faults view.new) result }
+    ensures kept { AsksView V.content V.kept V.faults journal_cause view.old view.new result }
 {
     let Some(limits) = limits_of(limits) else {
         return Err(JournalFault::Broken { at: 0 });
@@ -110,19 +100,15 @@ fn stream_journal<V: View>(
 fn optional_journal<V: View>(
     alloc: Global,
     view: &mut V,
-    per: u64,
+    per: ClusterSize,
     flags: u16,
     limits: Option<Stream>,
     entries: Option<Stream>,
     body: &mut Body,
 ) -> Result<Option<Journal>, JournalFault>
-    requires some { 0 < per }
-    requires few { per ≤ 8 }
     requires small { IfSome entries HasSmallRuns }
     ensures value { IfSome (V.content view.old) (λ c. GivesOrFails (λ journal. journal) journal_cause result (bare (journal_of_streams c per flags limits entries))) }
-    ensures kept { KeepsView V.content V.kept V.faults view.old view.new }
-    ensures fault { IsErrOf result JournalFault.View → Rose (V.faults view.old) (V.faults view.new) }
-    ensures counted { Counts journal_cause (V.faults view.old) (V.faults view.new) result }
+    ensures kept { AsksView V.content V.kept V.faults journal_cause view.old view.new result }
 {
     let Some(limits) = limits else {
         return Ok(None);
@@ -138,16 +124,12 @@ fn optional_journal<V: View>(
 fn file_journal<V: View>(
     alloc: Global,
     view: &mut V,
-    per: u64,
+    per: ClusterSize,
     file: &FileRec,
     body: &mut Body,
 ) -> Result<Option<Journal>, JournalFault>
-    requires some { 0 < per }
-    requires few { per ≤ 8 }
     ensures value { IfSome (V.content view.old) (λ c. GivesOrFails (λ journal. journal) journal_cause result (bare (journal_of_file c per (Some file.now)))) }
-    ensures kept { KeepsView V.content V.kept V.faults view.old view.new }
-    ensures fault { IsErrOf result JournalFault.View → Rose (V.faults view.old) (V.faults view.new) }
-    ensures counted { Counts journal_cause (V.faults view.old) (V.faults view.new) result }
+    ensures kept { AsksView V.content V.kept V.faults journal_cause view.old view.new result }
 {
     let attrs = file.attrs().as_slice();
     let limits = stream_of(alloc, DATA, &LIMITS_NAME, attrs)?;
@@ -185,9 +167,7 @@ pub fn volume_journal<V: View>(
     requires map { IsMap map.now }
     requires links { links.now ≡ all_links (table_in map.now.files.items) (length map.now.files.items) }
     ensures value { IfSome (V.content view.old) (λ c. GivesOrFails (λ journal. journal) journal_cause result (bare_journal c up.now (volume_in map.now))) }
-    ensures kept { KeepsView V.content V.kept V.faults view.old view.new }
-    ensures fault { IsErrOf result JournalFault.View → Rose (V.faults view.old) (V.faults view.new) }
-    ensures counted { Counts journal_cause (V.faults view.old) (V.faults view.new) result }
+    ensures kept { AsksView V.content V.kept V.faults journal_cause view.old view.new result }
 {
     let number = journal_number(alloc, up, links)?;
     match file_or_none(map, number) {

@@ -1,7 +1,6 @@
 //! The long names of a volume's files.
-ghost use Rattle.std.specs.Prelude.{◌≡◌, ◌*◌, ◌^◌, ◌<◌, ◌≤◌, IfSome, IsErrOf};
+ghost use Rattle.std.specs.Prelude.{◌≡◌, ◌*◌, ◌^◌, ◌<◌, ◌≤◌, IfSome};
 ghost use Rattle.host_base.specs.Answers.{Gives, GivesOrFails};
-ghost use Rattle.host_base.specs.Causes.{Rose, Counts};
 ghost use Rattle.disk_model.specs.declared.block.BlockKind.TheVariants.{FileRec as file_kind};
 ghost use Rattle.state_model.specs.Streams.{has_cut_block};
 ghost use Rattle.state_model.specs.Loads.{most_records, record_count};
@@ -9,14 +8,14 @@ ghost use Rattle.stream_map.specs.Runs.{AreSmall};
 ghost use Rattle.volume_map.specs.Errors.{map_cause};
 ghost use Rattle.volume_links.specs.Names.{links_in, loaded_links};
 ghost use Rattle.volume_links.specs.Scans.{verdict_of};
-ghost use Rattle.block_view.specs.Views.{KeepsView};
+ghost use Rattle.block_view.specs.Views.{AsksView};
 
 use crate::names::long_links;
 use crate::scanning::{Scan, scan_table};
 use block_view::View;
 use disk_model::{BlockKind, Body};
 use file_tree::Link;
-use state_model::{Extents, Geometry};
+use state_model::{ClusterSize, Extents, Geometry};
 use std::alloc::Global;
 use stream_map::has_cut_block;
 use volume_map::{MapFault, files_in, table_of};
@@ -25,18 +24,14 @@ use volume_map::{MapFault, files_in, table_of};
 fn links_of_files<V: View>(
     alloc: Global,
     view: &mut V,
-    per: u64,
+    per: ClusterSize,
     extents: &Extents,
     body: &mut Body,
 ) -> Result<Vec<Link>, MapFault>
-    requires some { 0 < per }
-    requires few { per ≤ 8 }
     requires small { AreSmall extents.now.runs }
     requires records { record_count extents.now ≤ most_records }
     ensures answer { IfSome (V.content view.old) (λ c. GivesOrFails (λ links. links.items) map_cause result (links_in c per extents.now)) }
-    ensures kept { KeepsView V.content V.kept V.faults view.old view.new }
-    ensures fault { IsErrOf result MapFault.View → Rose (V.faults view.old) (V.faults view.new) }
-    ensures counted { Counts map_cause (V.faults view.old) (V.faults view.new) result }
+    ensures kept { AsksView V.content V.kept V.faults map_cause view.old view.new result }
 {
     let files = files_in(alloc, view, per, extents, body)?;
     Ok(long_links(alloc, &files)?)
@@ -56,18 +51,14 @@ fn scanned(scan: Scan) -> Result<Vec<Link>, MapFault>
 fn links_in<V: View>(
     alloc: Global,
     view: &mut V,
-    per: u64,
+    per: ClusterSize,
     extents: &Extents,
     body: &mut Body,
 ) -> Result<Vec<Link>, MapFault>
-    requires some { 0 < per }
-    requires few { per ≤ 8 }
     requires small { AreSmall extents.now.runs }
     requires records { record_count extents.now ≤ most_records }
     ensures answer { IfSome (V.content view.old) (λ c. GivesOrFails (λ links. links.items) map_cause result (links_in c per extents.now)) }
-    ensures kept { KeepsView V.content V.kept V.faults view.old view.new }
-    ensures fault { IsErrOf result MapFault.View → Rose (V.faults view.old) (V.faults view.new) }
-    ensures counted { Counts map_cause (V.faults view.old) (V.faults view.new) result }
+    ensures kept { AsksView V.content V.kept V.faults map_cause view.old view.new result }
 {
     let runs = extents.runs.as_slice();
     let cut = has_cut_block(per, BlockKind::FileRec, extents.real / 1024, runs);
@@ -87,15 +78,11 @@ fn links_in<V: View>(
 pub fn load_links<V: View>(
     alloc: Global,
     view: &mut V,
-    geometry: Geometry,
+    geometry: &Geometry,
 ) -> Result<Vec<Link>, MapFault>
-    requires some { 0 < geometry.per_cluster }
-    requires few { geometry.per_cluster ≤ 8 }
-    requires place { geometry.mft * geometry.per_cluster < 2 ^ 62 }
-    ensures answer { IfSome (V.content view.old) (λ c. GivesOrFails (λ links. links.items) map_cause result (loaded_links c geometry)) }
-    ensures kept { KeepsView V.content V.kept V.faults view.old view.new }
-    ensures fault { IsErrOf result MapFault.View → Rose (V.faults view.old) (V.faults view.new) }
-    ensures counted { Counts map_cause (V.faults view.old) (V.faults view.new) result }
+    requires place { geometry.now.mft * geometry.now.per_cluster < 2 ^ 62 }
+    ensures answer { IfSome (V.content view.old) (λ c. GivesOrFails (λ links. links.items) map_cause result (loaded_links c geometry.now)) }
+    ensures kept { AsksView V.content V.kept V.faults map_cause view.old view.new result }
 {
     let mut body = Body::empty(alloc)?;
     let extents = table_of(alloc, view, geometry, &mut body)?;

@@ -1,13 +1,12 @@
 //! One walk over the file table that keeps no record, but the long names of its files.
-ghost use Rattle.std.specs.Prelude.{◌≡◌, ◌+◌, ◌<◌, ◌≤◌, true, false, if◌then◌else◌, length, IfOk, IfSome, IsErrOf, IsTrue};
-ghost use Rattle.host_base.specs.Causes.{Rose, Counts};
+ghost use Rattle.std.specs.Prelude.{◌≡◌, ◌+◌, ◌<◌, ◌≤◌, true, false, if◌then◌else◌, length, IfOk, IfSome, IsTrue};
 ghost use Rattle.record_model.specs.Constants.{attribute_list};
 ghost use Rattle.state_model.specs.Files.{is_base_record, has_type};
 ghost use Rattle.state_model.specs.Loads.{Free, Used, most_records, record_count, slot_in, slot_of, whole_record, table_slot, rule_refusal, first_some};
 ghost use Rattle.stream_map.specs.Runs.{AreSmall};
 ghost use Rattle.volume_map.specs.Errors.{map_cause, NeverRefused};
 ghost use Rattle.volume_links.specs.Scans.{IsUnread, IsSeen, Judges, ScannedBelow, ScansOrFails, ScansAll};
-ghost use Rattle.block_view.specs.Views.{KeepsView};
+ghost use Rattle.block_view.specs.Views.{AsksView};
 
 use crate::names::push_record;
 use crate::plain::take_plain;
@@ -17,7 +16,7 @@ use file_record::{FileRec, RecFault};
 use file_tree::Link;
 use host_base::Memory;
 use record_model::ATTRIBUTE_LIST;
-use state_model::{Extents, MapRefusal};
+use state_model::{ClusterSize, Extents, MapRefusal};
 use std::alloc::Global;
 use stream_map::block_at;
 use volume_map::{MapFault, cuts_index, has_type, is_base_record, is_used, or_rule, whole_record};
@@ -45,13 +44,11 @@ enum Seen {
 // Takes the record of a file with no attribute list.
 fn take_unlisted(
     alloc: Global,
-    per: u64,
+    per: ClusterSize,
     number: u64,
     file: &FileRec,
     links: &mut Vec<Link>,
 ) -> Result<Seen, Memory>
-    requires some { 0 < per }
-    requires few { per ≤ 8 }
     requires base { is_base_record file.now ≡ true }
     requires unlisted { has_type attribute_list file.now ≡ false }
     ensures { IfOk result (IsSeen per number (Used file.now) links.old.items links.new.items) }
@@ -66,13 +63,11 @@ fn take_unlisted(
 // Takes a record that was read.
 fn take_file(
     alloc: Global,
-    per: u64,
+    per: ClusterSize,
     number: u64,
     file: &FileRec,
     links: &mut Vec<Link>,
 ) -> Result<Seen, Memory>
-    requires some { 0 < per }
-    requires few { per ≤ 8 }
     ensures { IfOk result (IsSeen per number (Used file.now) links.old.items links.new.items) }
 {
     if !is_base_record(file) {
@@ -97,13 +92,11 @@ fn unread(fault: RecFault) -> Result<Seen, Memory>
 // Takes the body of a record in use that isn't plain.
 fn take_whole(
     alloc: Global,
-    per: u64,
+    per: ClusterSize,
     number: u64,
     body: &[u8],
     links: &mut Vec<Link>,
 ) -> Result<Seen, Memory>
-    requires some { 0 < per }
-    requires few { per ≤ 8 }
     requires body { length body.now ≡ 1024 }
     ensures { IfOk result (IsSeen per number (slot_in (whole_record body.now)) links.old.items links.new.items) }
 {
@@ -116,13 +109,11 @@ fn take_whole(
 // Takes the body of a record in use.
 fn take_used(
     alloc: Global,
-    per: u64,
+    per: ClusterSize,
     number: u64,
     body: &[u8],
     links: &mut Vec<Link>,
 ) -> Result<Seen, Memory>
-    requires some { 0 < per }
-    requires few { per ≤ 8 }
     requires body { length body.now ≡ 1024 }
     ensures { IfOk result (IsSeen per number (slot_in (whole_record body.now)) links.old.items links.new.items) }
 {
@@ -138,13 +129,11 @@ fn take_used(
 #[tactic(auto, unfolding(state_model::specs::Loads::slot_of))]
 fn take_body(
     alloc: Global,
-    per: u64,
+    per: ClusterSize,
     number: u64,
     body: &Body,
     links: &mut Vec<Link>,
 ) -> Result<Seen, Memory>
-    requires some { 0 < per }
-    requires few { per ≤ 8 }
     requires body { length body.now.bytes ≡ 1024 }
     ensures { IfOk result (IsSeen per number (slot_of body.now) links.old.items links.new.items) }
 {
@@ -161,20 +150,16 @@ fn take_body(
 #[tactic(auto, unfolding(state_model::specs::Loads::table_slot))]
 fn read_body<V: View>(
     view: &mut V,
-    per: u64,
+    per: ClusterSize,
     extents: &Extents,
     number: u64,
     body: &mut Body,
 ) -> Result<bool, MapFault>
-    requires some { 0 < per }
-    requires few { per ≤ 8 }
     requires small { AreSmall extents.now.runs }
     requires number { number < most_records }
     ensures slot { IfSome (V.content view.old) (λ c. IfOk result (λ there. table_slot c per extents.now number ≡ (if there then slot_of body.new else Free))) }
     ensures size { IfOk result (λ there. IsTrue there → length body.new.bytes ≡ 1024) }
-    ensures kept { KeepsView V.content V.kept V.faults view.old view.new }
-    ensures fault { IsErrOf result MapFault.View → Rose (V.faults view.old) (V.faults view.new) }
-    ensures counted { Counts map_cause (V.faults view.old) (V.faults view.new) result }
+    ensures kept { AsksView V.content V.kept V.faults map_cause view.old view.new result }
     ensures certain { NeverRefused result }
 {
     if extents.initialised <= 1024 * number {
@@ -193,20 +178,16 @@ fn read_body<V: View>(
 fn take_record<V: View>(
     alloc: Global,
     view: &mut V,
-    per: u64,
+    per: ClusterSize,
     extents: &Extents,
     number: u64,
     body: &mut Body,
     links: &mut Vec<Link>,
 ) -> Result<Seen, MapFault>
-    requires some { 0 < per }
-    requires few { per ≤ 8 }
     requires small { AreSmall extents.now.runs }
     requires number { number < most_records }
     ensures seen { IfSome (V.content view.old) (λ c. IfOk result (IsSeen per number (table_slot c per extents.now number) links.old.items links.new.items)) }
-    ensures kept { KeepsView V.content V.kept V.faults view.old view.new }
-    ensures fault { IsErrOf result MapFault.View → Rose (V.faults view.old) (V.faults view.new) }
-    ensures counted { Counts map_cause (V.faults view.old) (V.faults view.new) result }
+    ensures kept { AsksView V.content V.kept V.faults map_cause view.old view.new result }
     ensures certain { NeverRefused result }
 {
     if !read_body(view, per, extents, number, body)? {
@@ -258,21 +239,17 @@ fn judge(
 fn step<V: View>(
     alloc: Global,
     view: &mut V,
-    per: u64,
+    per: ClusterSize,
     extents: &Extents,
     cut: bool,
     number: u64,
     body: &mut Body,
     scan: &mut Scan,
 ) -> Result<bool, MapFault>
-    requires some { 0 < per }
-    requires few { per ≤ 8 }
     requires small { AreSmall extents.now.runs }
     requires number { number < most_records }
     ensures answer { IfSome (V.content view.old) (λ c. ScannedBelow per cut (table_slot c per extents.now) number scan.old → ScansOrFails per cut (table_slot c per extents.now) (number + 1) result scan.new) }
-    ensures kept { KeepsView V.content V.kept V.faults view.old view.new }
-    ensures fault { IsErrOf result MapFault.View → Rose (V.faults view.old) (V.faults view.new) }
-    ensures counted { Counts map_cause (V.faults view.old) (V.faults view.new) result }
+    ensures kept { AsksView V.content V.kept V.faults map_cause view.old view.new result }
 {
     let seen = take_record(alloc, view, per, extents, number, body, &mut scan.links)?;
     judge(cut, number, seen, &mut scan.refusal)
@@ -285,19 +262,15 @@ fn step<V: View>(
 pub fn scan_table<V: View>(
     alloc: Global,
     view: &mut V,
-    per: u64,
+    per: ClusterSize,
     extents: &Extents,
     cut: bool,
     body: &mut Body,
 ) -> Result<Option<Scan>, MapFault>
-    requires some { 0 < per }
-    requires few { per ≤ 8 }
     requires small { AreSmall extents.now.runs }
     requires records { record_count extents.now ≤ most_records }
     ensures answer { IfSome (V.content view.old) (λ c. ScansAll per cut (table_slot c per extents.now) (record_count extents.now) result) }
-    ensures kept { KeepsView V.content V.kept V.faults view.old view.new }
-    ensures fault { IsErrOf result MapFault.View → Rose (V.faults view.old) (V.faults view.new) }
-    ensures counted { Counts map_cause (V.faults view.old) (V.faults view.new) result }
+    ensures kept { AsksView V.content V.kept V.faults map_cause view.old view.new result }
 {
     let mut scan = Scan {
         links: Vec::new(alloc),

@@ -4,3 +4,7 @@ pub mod Owners
 pub mod Joins
 pub mod ReadLists
 pub mod Loaded
+pub mod Heads
+pub mod Fronts
+pub mod Mapped
+pub mod Firsts

@@ -8,9 +8,9 @@ use Rattle.host_base.proofs.Known.{both, one, always}
 use Rattle.disk_model.specs.Content.{Content}
 use Rattle.record_model.specs.declared.list_entry.ListEntry.{ListEntry}
 use Rattle.record_model.specs.ListEntries.{ReadEntries, list_entries, with_entry}
-use Rattle.attribute_list.specs.declared.step.Step.{Step}
-use Rattle.attribute_list.specs.declared.step.Step.TheVariants.{End, Fault, Entry}
-use Rattle.attribute_list.specs.Steps.{IsStep}
+use Rattle.stream_map.specs.declared.list_step.Step.{Step}
+use Rattle.stream_map.specs.declared.list_step.Step.TheVariants.{End, Fault, Entry}
+use Rattle.stream_map.specs.ListSteps.{IsStep}
 use Rattle.state_model.specs.Files.{Table}
 use Rattle.volume_map.specs.declared.list_read.ListRead.{ListRead}
 use Rattle.volume_map.specs.Lists.{read_of, with_more, Takes, GoesOn, ReadUpTo, list_at, lists_of}

@@ -4,8 +4,8 @@ use Rattle.std.specs.List.{flat_map, list_any, range_with_len}
 use Rattle.disk_model.specs.Content.{Content}
 use Rattle.disk_model.specs.declared.block.BlockKind.TheVariants.{FileRec}
 use Rattle.record_model.specs.declared.attribute.Attr.{Attr}
-use Rattle.attribute_list.specs.declared.step.Step.{Step}
-use Rattle.attribute_list.specs.declared.step.Step.TheVariants.{End, Fault, Entry}
+use Rattle.stream_map.specs.declared.list_step.Step.{Step}
+use Rattle.stream_map.specs.declared.list_step.Step.TheVariants.{End, Fault, Entry}
 use Rattle.record_model.specs.declared.list_entry.ListEntry.{ListEntry}
 use Rattle.record_model.specs.ListEntries.{ReadEntries, list_entries}
 use Rattle.record_model.specs.Records.{Record}

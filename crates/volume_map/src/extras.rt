@@ -5,10 +5,9 @@ ghost use Rattle.std.specs.Option.{option_copied};
 ghost use Rattle.state_model.specs.Loads.{is_named_in, names_attr, table_in};
 ghost use Rattle.volume_map.specs.Lists.{read_of, read_at, named_of, named_at, owner_if, owner_of, owner_at, with_named, extra_at, extras_of};
 
-use crate::files::{file_at, record_at, reference};
 use crate::holding::names_attr;
 use crate::list_read::ListRead;
-use file_record::FileRec;
+use file_record::{FileRec, file_at, record_at, reference};
 use host_base::is_same_reference;
 use record_model::{Attr, AttrList, ListEntry, OwnForm};
 use std::alloc::{AllocError, Global};

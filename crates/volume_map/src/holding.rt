@@ -5,9 +5,8 @@ ghost use Rattle.state_model.specs.Files.{file_at};
 ghost use Rattle.state_model.specs.Loads.{names_attr, belongs_to, holds_named, is_held, holds_all, table_in};
 ghost use Rattle.volume_map.specs.Lists.{read_of, breaks_by, ten_at, tens_of};
 
-use crate::files::{file_at, record_at, reference};
 use crate::list_read::ListRead;
-use file_record::FileRec;
+use file_record::{FileRec, file_at, record_at, reference};
 use host_base::is_same_reference;
 use record_model::{Attr, ListEntry};
 use std::alloc::{AllocError, Global};

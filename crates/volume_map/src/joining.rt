@@ -5,8 +5,7 @@ ghost use Rattle.state_model.specs.Loads.{table_in};
 ghost use Rattle.volume_map.specs.Lists.{joined_with, joined_files};
 
 use crate::extras::copy_attr;
-use crate::files::is_base_record;
-use file_record::FileRec;
+use file_record::{FileRec, is_base_record};
 use record_model::{Attr, AttrList};
 use std::alloc::AllocError;
 

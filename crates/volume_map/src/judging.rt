@@ -1,5 +1,5 @@
 //! The least rule that each record breaks.
-ghost use Rattle.std.specs.Prelude.{◌≡◌, ◌==◌, ◌<◌, ◌≤◌, ℕ, length, IfOk, slice_index_or, Some, None, false};
+ghost use Rattle.std.specs.Prelude.{◌≡◌, ◌==◌, ◌<◌, ℕ, length, IfOk, slice_index_or, Some, None, false};
 ghost use Rattle.host_base.specs.Answers.{Gives};
 ghost use Rattle.state_model.specs.Streams.{has_cut_block, stream_of};
 ghost use Rattle.state_model.specs.Files.{is_directory_record};
@@ -12,13 +12,11 @@ use disk_model::BlockKind;
 use file_record::FileRec;
 use host_base::Memory;
 use record_model::{INDEX_ALLOCATION, NAMES_INDEX, RecordFlags};
-use state_model::{MapRefusal, Stream};
+use state_model::{ClusterSize, MapRefusal, Stream};
 use std::alloc::Global;
 use stream_map::{has_cut_block, stream_of};
 
-fn has_cut_index_block(per: u64, stream: Option<Stream>) -> bool
-    requires some { 0 < per }
-    requires few { per ≤ 8 }
+fn has_cut_index_block(per: ClusterSize, stream: Option<Stream>) -> bool
     ensures { result ≡ has_cut_index_block per stream }
 {
     match stream {
@@ -40,9 +38,7 @@ fn is_directory(file: &FileRec) -> bool
 
 /// Whether a block of the directory's index lies in two runs; linear in the record. `per` is the
 /// sectors of a cluster. The error is want of memory.
-pub fn cuts_index(alloc: Global, per: u64, file: &FileRec) -> Result<bool, Memory>
-    requires some { 0 < per }
-    requires few { per ≤ 8 }
+pub fn cuts_index(alloc: Global, per: ClusterSize, file: &FileRec) -> Result<bool, Memory>
     ensures { IfOk result (λ cuts. cuts ≡ cuts_index per (Some file.now)) }
 {
     if !is_directory(file) {
@@ -58,9 +54,7 @@ pub fn cuts_index(alloc: Global, per: u64, file: &FileRec) -> Result<bool, Memor
 }
 
 // The same of a file, if there is one.
-fn file_cuts_index(alloc: Global, per: u64, file: &Option<FileRec>) -> Result<bool, Memory>
-    requires some { 0 < per }
-    requires few { per ≤ 8 }
+fn file_cuts_index(alloc: Global, per: ClusterSize, file: &Option<FileRec>) -> Result<bool, Memory>
     ensures { IfOk result (λ cuts. cuts ≡ cuts_index per file.now) }
 {
     match file {
@@ -87,15 +81,13 @@ pub fn or_rule(rule: Option<u32>, nine: bool, ten: bool) -> Option<u32>
 // lies in two runs.
 fn rule_at(
     alloc: Global,
-    per: u64,
+    per: ClusterSize,
     cut: bool,
     number: usize,
     rules: &[Option<u32>],
     tens: &[bool],
     files: &[Option<FileRec>],
 ) -> Result<Option<u32>, Memory>
-    requires some { 0 < per }
-    requires few { per ≤ 8 }
     requires files { number < length files.now }
     requires rules { number < length rules.now }
     requires tens { number < length tens.now }
@@ -109,14 +101,12 @@ fn rule_at(
 /// with all their attributes. Linear in the records and the attributes of directories.
 pub fn check_rules(
     alloc: Global,
-    per: u64,
+    per: ClusterSize,
     cut: bool,
     rules: &[Option<u32>],
     tens: &[bool],
     files: &[Option<FileRec>],
 ) -> Result<(), MapFault>
-    requires some { 0 < per }
-    requires few { per ≤ 8 }
     requires rules { length rules.now ≡ length files.now }
     requires tens { length tens.now ≡ length files.now }
     ensures { Gives (λ x. x) map_cause result (unless (first_of (λ n. rule_refusal n (rule_by per cut n rules.now tens.now files.now)) (length files.now))) }

@@ -1,15 +1,18 @@
-//! The files of a volume: the records of its file table, wherever they lie, each with the
-//! attributes that its attribute list names in other records.
+//! The files of a volume by its file table, each with the attributes that its list names, with the
+//! heads of all records and the bits of the bitmaps; or what refuses them.
 //!
 //! The contract: `load` answers the files that a view's content stands for, or the first refusal
-//! that applies. The layouts are those of the Linux-NTFS documentation, "$MFT", "FILE Record" and
-//! "$ATTRIBUTE_LIST". The calls beside it, on one record or one table, are those that a pass over
-//! the same table makes which keeps less.
+//! that applies, and `load_volume` the heads and the bits beside them. The layouts are those of the
+//! Linux-NTFS documentation, "$MFT", "FILE Record", "$ATTRIBUTE_LIST" and "$Bitmap". The calls
+//! beside these, on one record or one table, are those that a pass over the same table makes which
+//! keeps less, and those that ask a volume's heads and bits for records.
 #![tactic(auto)]
 
+mod bits;
 mod extras;
 mod fault;
-mod files;
+mod flags;
+mod head;
 mod holding;
 mod joining;
 mod judging;
@@ -19,15 +22,21 @@ mod loading;
 mod map;
 mod record;
 mod slot;
+mod spare;
+mod streams;
 mod table;
 mod walk;
 
 pub use fault::MapFault;
-pub use files::{is_base_record, reference};
+pub use file_record::{is_base_record, reference};
+pub use flags::stream_flags;
+pub use head::Head;
 pub use judging::{cuts_index, or_rule};
 pub use loading::{files_in, load};
 pub use map::{VolumeMap, load_volume};
 pub use record::{pairs_fit, whole_record};
 pub use slot::is_used;
+pub use spare::{first_unmarked, spare_numbers};
 pub use state_model::{Geometry, MapRefusal};
+pub use streams::{file_stream, stream_or_empty};
 pub use table::{boot_record, has_type, table_of};

@@ -1,7 +1,6 @@
 //! The attribute lists of files.
-ghost use Rattle.std.specs.Prelude.{◌≡◌, ◌==◌, ◌<◌, ◌≤◌, ◌++◌, ◌∷◌, [], find, map, length, IfOk, OnOk, IfSome, IsErrOf, IsTrue};
+ghost use Rattle.std.specs.Prelude.{◌≡◌, ◌==◌, ◌<◌, ◌≤◌, ◌++◌, ◌∷◌, [], find, map, length, IfOk, OnOk, IfSome, IsTrue};
 ghost use Rattle.std.specs.Option.{option_copied};
-ghost use Rattle.host_base.specs.Causes.{Rose, Counts};
 ghost use Rattle.record_model.specs.ListEntries.{list_entries};
 ghost use Rattle.record_model.specs.declared.attribute.Attr.{Attr as attr};
 ghost use Rattle.record_model.specs.Constants.{attribute_list};
@@ -10,20 +9,18 @@ ghost use Rattle.state_model.specs.Loads.{attr_name, list_stream, list_entries_i
 ghost use Rattle.stream_map.specs.Runs.{HasSmallRuns};
 ghost use Rattle.volume_map.specs.Errors.{map_cause, NeverRefused};
 ghost use Rattle.volume_map.specs.Lists.{read_of, list_at, lists_of, Takes, GoesOn};
-ghost use Rattle.block_view.specs.Views.{KeepsView};
+ghost use Rattle.block_view.specs.Views.{AsksView};
 
 use crate::fault::MapFault;
-use crate::files::file_at;
 use crate::list_read::ListRead;
-use attribute_list::{Step, next};
 use block_view::View;
 use disk_model::Body;
-use file_record::FileRec;
+use file_record::{FileRec, file_at};
 use host_base::Memory;
 use record_model::{ATTRIBUTE_LIST, Attr};
-use state_model::Stream;
+use state_model::{ClusterSize, Stream};
 use std::alloc::{AllocError, Global};
-use stream_map::stream_of;
+use stream_map::{Step, next_entry, stream_of};
 
 // The first attribute that is a list.
 fn list_attr(attrs: &[Attr]) -> Option<&Attr>
@@ -73,25 +70,21 @@ fn take_step(list: &mut ListRead, step: Step) -> Result<bool, AllocError>
 fn read_step<V: View>(
     alloc: Global,
     view: &mut V,
-    per: u64,
+    per: ClusterSize,
     stream: &Stream,
     at: &mut u64,
     body: &mut Body,
     list: &mut ListRead,
 ) -> Result<bool, MapFault>
-    requires some { 0 < per }
-    requires few { per ≤ 8 }
     requires small { HasSmallRuns stream.now }
     requires place { at.old ≤ real_size stream.now }
     ensures step { IfSome (V.content view.old) (λ c. IfOk result (GoesOn (stream_bytes c per stream.now) at.old at.new list.old list.new)) }
     ensures moves { IfOk result (λ more. IsTrue more → at.old < at.new) }
     ensures inside { at.new ≤ real_size stream.now }
-    ensures kept { KeepsView V.content V.kept V.faults view.old view.new }
-    ensures fault { IsErrOf result MapFault.View → Rose (V.faults view.old) (V.faults view.new) }
-    ensures counted { Counts map_cause (V.faults view.old) (V.faults view.new) result }
+    ensures kept { AsksView V.content V.kept V.faults map_cause view.old view.new result }
     ensures certain { NeverRefused result }
 {
-    let step = next(alloc, view, per, stream, at, body)?;
+    let step = next_entry(alloc, view, per, stream, at, body)?;
     Ok(take_step(list, step)?)
 }
 
@@ -99,17 +92,13 @@ fn read_step<V: View>(
 fn read_list<V: View>(
     alloc: Global,
     view: &mut V,
-    per: u64,
+    per: ClusterSize,
     stream: &Stream,
     body: &mut Body,
 ) -> Result<ListRead, MapFault>
-    requires some { 0 < per }
-    requires few { per ≤ 8 }
     requires small { HasSmallRuns stream.now }
     ensures value { IfSome (V.content view.old) (λ c. IfOk result (λ list. read_of list ≡ list_entries (stream_bytes c per stream.now))) }
-    ensures kept { KeepsView V.content V.kept V.faults view.old view.new }
-    ensures fault { IsErrOf result MapFault.View → Rose (V.faults view.old) (V.faults view.new) }
-    ensures counted { Counts map_cause (V.faults view.old) (V.faults view.new) result }
+    ensures kept { AsksView V.content V.kept V.faults map_cause view.old view.new result }
     ensures certain { NeverRefused result }
 {
     let mut list = ListRead::empty(alloc);
@@ -126,17 +115,13 @@ fn read_list<V: View>(
 fn list_at<V: View>(
     alloc: Global,
     view: &mut V,
-    per: u64,
+    per: ClusterSize,
     records: &[Option<FileRec>],
     number: usize,
     body: &mut Body,
 ) -> Result<ListRead, MapFault>
-    requires some { 0 < per }
-    requires few { per ≤ 8 }
     ensures value { IfSome (V.content view.old) (λ c. IfOk result (λ list. read_of list ≡ list_at c per (table_in records.now) number)) }
-    ensures kept { KeepsView V.content V.kept V.faults view.old view.new }
-    ensures fault { IsErrOf result MapFault.View → Rose (V.faults view.old) (V.faults view.new) }
-    ensures counted { Counts map_cause (V.faults view.old) (V.faults view.new) result }
+    ensures kept { AsksView V.content V.kept V.faults map_cause view.old view.new result }
     ensures certain { NeverRefused result }
 {
     let Some(file) = file_at(records, number as u64) else {
@@ -160,17 +145,13 @@ fn push(lists: &mut Vec<ListRead>, list: ListRead) -> Result<(), AllocError>
 pub fn read_lists<V: View>(
     alloc: Global,
     view: &mut V,
-    per: u64,
+    per: ClusterSize,
     records: &[Option<FileRec>],
     body: &mut Body,
 ) -> Result<Vec<ListRead>, MapFault>
-    requires some { 0 < per }
-    requires few { per ≤ 8 }
     ensures value { IfSome (V.content view.old) (λ c. IfOk result (λ lists. map read_of lists.items ≡ lists_of c per (table_in records.now) (length records.now))) }
     ensures len { IfOk result (λ lists. length lists.items ≡ length records.now) }
-    ensures kept { KeepsView V.content V.kept V.faults view.old view.new }
-    ensures fault { IsErrOf result MapFault.View → Rose (V.faults view.old) (V.faults view.new) }
-    ensures counted { Counts map_cause (V.faults view.old) (V.faults view.new) result }
+    ensures kept { AsksView V.content V.kept V.faults map_cause view.old view.new result }
     ensures certain { NeverRefused result }
 {
     let mut lists = Vec::new(alloc);

@@ -1,14 +1,13 @@
 //! The file table, by record 0.
-ghost use Rattle.std.specs.Prelude.{◌≡◌, ◌+◌, ◌*◌, ◌^◌, ◌<◌, ◌≤◌, Ok, IfOk, IfSome, IsErrOf, OnOk, length};
+ghost use Rattle.std.specs.Prelude.{◌≡◌, ◌+◌, ◌*◌, ◌^◌, ◌<◌, ◌≤◌, Ok, IfOk, IfSome, OnOk, length};
 ghost use Rattle.host_base.specs.Answers.{Gives, GivesOrFails};
-ghost use Rattle.host_base.specs.Causes.{Rose, Counts};
 ghost use Rattle.record_model.specs.Records.{record_at};
 ghost use Rattle.state_model.specs.Files.{has_type};
 ghost use Rattle.state_model.specs.Loads.{boot_block, judged, most_records, no_extents, extents_or, record_count, table_extents, extents_in, table_of, slot_by, slot_of};
 ghost use Rattle.stream_map.specs.Runs.{AreSmall};
 ghost use Rattle.volume_map.specs.Errors.{map_cause};
 ghost use Rattle.volume_map.specs.Slots.{seen};
-ghost use Rattle.block_view.specs.Views.{KeepsView};
+ghost use Rattle.block_view.specs.Views.{AsksView};
 
 use crate::fault::MapFault;
 use crate::record::has_all_pairs;
@@ -33,9 +32,7 @@ pub fn read_slot<V: View>(
 ) -> Result<Slot, MapFault>
     requires { block.kind ≡ BlockKind.FileRec }
     ensures answer { IfSome (V.content view.old) (λ c. GivesOrFails seen map_cause result (Ok (slot_of (c block)))) }
-    ensures kept { KeepsView V.content V.kept V.faults view.old view.new }
-    ensures fault { IsErrOf result MapFault.View → Rose (V.faults view.old) (V.faults view.new) }
-    ensures counted { Counts map_cause (V.faults view.old) (V.faults view.new) result }
+    ensures kept { AsksView V.content V.kept V.faults map_cause view.old view.new result }
 {
     view.body(block, body)?;
     Ok(slot_of(alloc, body)?)
@@ -50,23 +47,21 @@ fn read_own_slot<V: View>(
 ) -> Result<Slot, MapFault>
     requires { block.kind ≡ BlockKind.FileRec }
     ensures answer { IfSome (V.content view.old) (λ c. GivesOrFails seen map_cause result (Ok (slot_by record_at (c block)))) }
-    ensures kept { KeepsView V.content V.kept V.faults view.old view.new }
-    ensures fault { IsErrOf result MapFault.View → Rose (V.faults view.old) (V.faults view.new) }
-    ensures counted { Counts map_cause (V.faults view.old) (V.faults view.new) result }
+    ensures kept { AsksView V.content V.kept V.faults map_cause view.old view.new result }
 {
     view.body(block, body)?;
     Ok(own_slot_of(alloc, body)?)
 }
 
 // Where the record of that number lies, by the place that the boot sector gives the table.
-fn boot_block(geometry: Geometry, number: u64) -> Block
-    requires place { geometry.mft * geometry.per_cluster < 2 ^ 62 }
+fn boot_block(geometry: &Geometry, number: u64) -> Block
+    requires place { geometry.now.mft * geometry.now.per_cluster < 2 ^ 62 }
     requires number { number < most_records }
-    ensures value { result ≡ boot_block geometry number }
+    ensures value { result ≡ boot_block geometry.now number }
     ensures kind { result.kind ≡ BlockKind.FileRec }
 {
     Block {
-        first: geometry.mft * geometry.per_cluster + 2 * number,
+        first: geometry.mft * geometry.per_cluster.sectors() + 2 * number,
         kind: BlockKind::FileRec,
     }
 }
@@ -164,16 +159,14 @@ fn extents_in(alloc: Global, file: Option<FileRec>) -> Result<Extents, MapFault>
 pub fn table_of<V: View>(
     alloc: Global,
     view: &mut V,
-    geometry: Geometry,
+    geometry: &Geometry,
     body: &mut Body,
 ) -> Result<Extents, MapFault>
-    requires { geometry.mft * geometry.per_cluster < 2 ^ 62 }
-    ensures answer { IfSome (V.content view.old) (λ c. GivesOrFails (λ e. e) map_cause result (table_of c geometry)) }
+    requires { geometry.now.mft * geometry.now.per_cluster < 2 ^ 62 }
+    ensures answer { IfSome (V.content view.old) (λ c. GivesOrFails (λ e. e) map_cause result (table_of c geometry.now)) }
     ensures small { IfOk result (λ e. AreSmall e.runs) }
     ensures few { IfOk result (λ e. record_count e ≤ most_records) }
-    ensures kept { KeepsView V.content V.kept V.faults view.old view.new }
-    ensures fault { IsErrOf result MapFault.View → Rose (V.faults view.old) (V.faults view.new) }
-    ensures counted { Counts map_cause (V.faults view.old) (V.faults view.new) result }
+    ensures kept { AsksView V.content V.kept V.faults map_cause view.old view.new result }
 {
     let slot = read_own_slot(alloc, view, boot_block(geometry, 0), body)?;
     let file = judged(0, slot)?;
@@ -186,16 +179,14 @@ pub fn table_of<V: View>(
 pub fn boot_record<V: View>(
     alloc: Global,
     view: &mut V,
-    geometry: Geometry,
+    geometry: &Geometry,
     number: u64,
     body: &mut Body,
 ) -> Result<Option<FileRec>, MapFault>
-    requires place { geometry.mft * geometry.per_cluster < 2 ^ 62 }
+    requires place { geometry.now.mft * geometry.now.per_cluster < 2 ^ 62 }
     requires number { number < most_records }
-    ensures answer { IfSome (V.content view.old) (λ c. GivesOrFails (λ file. file) map_cause result (judged number (slot_of (c (boot_block geometry number))))) }
-    ensures kept { KeepsView V.content V.kept V.faults view.old view.new }
-    ensures fault { IsErrOf result MapFault.View → Rose (V.faults view.old) (V.faults view.new) }
-    ensures counted { Counts map_cause (V.faults view.old) (V.faults view.new) result }
+    ensures answer { IfSome (V.content view.old) (λ c. GivesOrFails (λ file. file) map_cause result (judged number (slot_of (c (boot_block geometry.now number))))) }
+    ensures kept { AsksView V.content V.kept V.faults map_cause view.old view.new result }
 {
     let slot = read_slot(alloc, view, boot_block(geometry, number), body)?;
     judged(number, slot)

@@ -10,4 +10,3 @@ mod node;
 mod stream;
 
 pub use node::bare_nodes;
-pub use stream::{is_hole, stream_flags};

@@ -2,6 +2,7 @@
 ghost use Rattle.std.specs.Prelude.{IfOk};
 ghost use Rattle.volume_map.specs.Maps.{IsMap};
 
+use bit_set::BitSet;
 use block_view::MemoryView;
 use disk_model::Body;
 use file_record::FileRec;
@@ -12,7 +13,7 @@ use state_model::Extents;
 use std::alloc::{AllocError, Global};
 use std::test::Fail;
 use upcase_order::Upcase;
-use volume_images::{Kept, Part, put_file, record, sectors_view};
+use volume_images::{Kept, Part, per_cluster, put_file, record, sectors_view};
 use volume_journal::{JournalFault, volume_journal};
 use volume_map::VolumeMap;
 
@@ -74,11 +75,14 @@ fn map_of(alloc: Global, row: &Row) -> Result<VolumeMap, AllocError>
         initialised: 0,
     };
     Ok(VolumeMap {
-        per_cluster: 1,
+        per_cluster: per_cluster(1),
         clusters: 64,
         mft: 0,
         table,
         files,
+        heads: Vec::new(alloc),
+        record_bits: BitSet::from_bytes(alloc, &[], 0).or(Err(AllocError))?,
+        cluster_bits: BitSet::from_bytes(alloc, &[], 0).or(Err(AllocError))?,
     })
 }
 

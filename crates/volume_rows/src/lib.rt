@@ -9,4 +9,6 @@ mod directories;
 #[cfg(test)]
 mod journals;
 #[cfg(test)]
+mod maps;
+#[cfg(test)]
 mod pulls;

@@ -10,7 +10,7 @@ use state_model::Extents;
 use std::alloc::{AllocError, Global};
 use std::test::Fail;
 use usn_journal::{PullFault, read_from};
-use volume_images::run;
+use volume_images::{per_cluster, run};
 
 // File 26/1 in 25/1 with the name `f` was created and closed; its record stands at 0.
 static RECORD: [u8; 0x40] = [
@@ -110,7 +110,15 @@ fn is_as_wanted(alloc: Global, row: &Row) -> Result<bool, AllocError> {
     let mut body = Body::empty(alloc)?;
     let lcn = if row.0 { Some(16) } else { None };
     let journal = journal_in(alloc, lcn, row.1.0, row.1.1)?;
-    let found = match read_from(alloc, &mut view, 1, &journal, row.2.0, row.2.1, &mut body) {
+    let found = match read_from(
+        alloc,
+        &mut view,
+        per_cluster(1),
+        &journal,
+        row.2.0,
+        row.2.1,
+        &mut body,
+    ) {
         Ok(pulled) => Ok((pulled.entries.as_slice().len(), pulled.end)),
         Err(fault) => Err(fault),
     };

@@ -18,5 +18,5 @@ loop-n-preserved g c = record {
     stays = c.in_ok-is_torn_at.ensures.kept.stays ∙ c.loop-n.invariant.kept.stays;
     later = omega (arith, c.loop-n.invariant.kept.later, c.in_ok-is_torn_at.ensures.kept.later);
   };
-  counted = c.in_ok-is_torn_at.ensures.counted ∙ c.loop-n.invariant.counted;
+  counted = c.in_ok-is_torn_at.ensures.kept.counted ∙ c.loop-n.invariant.counted;
 }

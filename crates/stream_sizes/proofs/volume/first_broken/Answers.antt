@@ -13,7 +13,7 @@ loop-number-preserved g c = record {
     stays = c.in_ok-keeps_sizes.ensures.kept.stays ∙ c.loop-number.invariant.kept.stays;
     later = omega (arith, c.loop-number.invariant.kept.later, c.in_ok-keeps_sizes.ensures.kept.later);
   };
-  counted = c.in_ok-keeps_sizes.ensures.counted ∙ c.loop-number.invariant.counted;
+  counted = c.in_ok-keeps_sizes.ensures.kept.counted ∙ c.loop-number.invariant.counted;
 }
 
 pub returns-then-not-branch-clause-value : goal.returns-then-not-branch-clause-value

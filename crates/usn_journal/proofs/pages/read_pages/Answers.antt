@@ -61,7 +61,7 @@ loop-number-preserved g c =
         stays = c.in_ok-entries.ensures.kept.stays ∙ c.loop-number.invariant.kept.stays;
         later = omega (arith, c.loop-number.invariant.kept.later, c.in_ok-entries.ensures.kept.later);
       };
-      counted = c.in_ok-entries.ensures.counted ∙ c.loop-number.invariant.counted;
+      counted = c.in_ok-entries.ensures.kept.counted ∙ c.loop-number.invariant.counted;
     }
 
 pub returns-clause-value : goal.returns-clause-value

@@ -18,7 +18,7 @@ loop-number-preserved g c = record {
     stays = c.in_ok-check_number.ensures.kept.stays ∙ c.loop-number.invariant.kept.stays;
     later = omega (arith, c.loop-number.invariant.kept.later, c.in_ok-check_number.ensures.kept.later);
   };
-  counted = c.in_ok-check_number.ensures.counted ∙ c.loop-number.invariant.counted;
+  counted = c.in_ok-check_number.ensures.kept.counted ∙ c.loop-number.invariant.counted;
 }
 
 pub returns-clause-value : goal.returns-clause-value

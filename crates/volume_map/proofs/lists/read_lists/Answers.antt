@@ -22,5 +22,5 @@ loop-number-preserved g c = record {
     stays = c.in_ok-list.ensures.kept.stays ∙ c.loop-number.invariant.kept.stays;
     later = omega (arith, c.loop-number.invariant.kept.later, c.in_ok-list.ensures.kept.later);
   };
-  counted = c.in_ok-list.ensures.counted ∙ c.loop-number.invariant.counted;
+  counted = c.in_ok-list.ensures.kept.counted ∙ c.loop-number.invariant.counted;
 }

@@ -1,6 +1,0 @@
-use Rattle.std.proofs.Common.{◌∙◌}
-use Rattle.volume_parts.proofs.Heads.{unmarked}
-use Rattle.volume_parts.proofs.spare.first_unmarked.Goals as goal
-
-pub returns : goal.returns
-returns c = record { heads = c.first_unkept.ensures; value = λ content v hs bs. c.first_unkept.ensures ∙ unmarked _ _ content v hs bs }
