@@ -19,8 +19,8 @@ use Rattle.record_model.proofs.UnitBytes.{length-zeros}
 use Rattle.record_model.specs.Constants.{data_type, index_root, index_allocation, bitmap_type, names_index, volume_name, volume_information}
 use Rattle.record_writer.specs.Fitting.{rise_from}
 use Rattle.record_writer.proofs.Rising.{rise_true}
-use Rattle.index_root.specs.Roots.{root_spelling, HaveSpelling}
-use Rattle.index_root.proofs.Spelled.{root_law}
+use Rattle.index_node.specs.Roots.{root_spelling, HaveSpelling}
+use Rattle.index_node.proofs.RootSpelled.{root_law}
 use Rattle.volume_format.specs.declared.layout.Layout.{Layout}
 use Rattle.volume_format.specs.Layouts.{IsLayout, block_first, cluster_bits_bytes}
 use Rattle.volume_format.specs.Files.{bad_name, resident, mapped, standard, named, system_attrs, system_data, other_streams, volume_streams, root_streams, extend_streams, system_record, reserved_record, spare_record, in_clusters, head_of, sequence, is_directory, record_of}

@@ -16,8 +16,8 @@ use Rattle.record_model.specs.Nodes.{node_spelling, last_entry}
 use Rattle.record_model.specs.Records.{Record}
 use Rattle.record_model.proofs.NodeTables.{ok_from_node}
 use Rattle.record_model.proofs.NodeSpelling.{node_signed, node_spells, length-node_spelling}
-use Rattle.index_root.specs.Roots.{root_spelling}
-use Rattle.index_root.proofs.Spelled.{root_law}
+use Rattle.index_node.specs.Roots.{root_spelling}
+use Rattle.index_node.proofs.RootSpelled.{root_law}
 use Rattle.file_tree.specs.declared.link.Link.{Link}
 use Rattle.file_tree.specs.Names.{name_order}
 use Rattle.index_model.specs.declared.key.Key.{Key}

@@ -12,8 +12,8 @@ use Rattle.log_page.specs.Places.{page_bytes}
 use Rattle.log_reading.specs.LogPages.{sector_in, log_sector, sector_bytes, log_bytes}
 use Rattle.log_reading.proofs.Bytes.{all_initialised}
 use Rattle.log_recovery.specs.LogStates.{recovery_in}
-use Rattle.image_scan.specs.LogPlaces.{first_of, stream_sector, stream_place}
-use Rattle.image_scan.proofs.Alike.{in_stream}
+use Rattle.image_open.specs.LogPlaces.{first_of, stream_sector, stream_place}
+use Rattle.image_open.proofs.Alike.{in_stream}
 use Rattle.format_blocks.specs.Blocks.{block}
 use Rattle.format_files.specs.Volumes.{extents_at}
 use Rattle.format_files.proofs.Streams.{block_in_run}

@@ -25,12 +25,12 @@ use Rattle.volume_state.specs.Versions.{info_or_none, file_info, volume_info}
 use Rattle.log_model.specs.Logs.{recovered}
 use Rattle.log_reading.specs.declared.fault.RecoveryFault.{RecoveryFault}
 use Rattle.log_recovery.specs.LogStates.{LogState, recovery_in}
-use Rattle.image_scan.specs.declared.refusal.Refusal.TheVariants.{Short}
-use Rattle.image_scan.specs.Errors.{boot_refusal, map_refusal, log_refusal, refused_as}
-use Rattle.image_scan.specs.LogPlaces.{place_of}
-use Rattle.image_scan.specs.Scans.{Opened, boot_in, sized_on, boot_on, geometry_of, log_record, log_place, recovered_at, recovered_in, opened_by, opened_in}
-use Rattle.image_check.specs.Errors.{broken_refusal}
-use Rattle.image_check.specs.Checks.{volume_on, judged_version, has_version, tree_on, volume_tree, loaded_tree, check_in, check_of}
+use Rattle.image_open.specs.declared.refusal.Refusal.TheVariants.{Short}
+use Rattle.image_open.specs.Errors.{boot_refusal, map_refusal, log_refusal, refused_as}
+use Rattle.image_open.specs.LogPlaces.{place_of}
+use Rattle.image_open.specs.Volumes.{Opened, boot_in, sized_on, boot_on, geometry_of, log_record, log_place, recovered_at, recovered_in, opened_by, opened_in}
+use Rattle.image_read.specs.Errors.{broken_refusal}
+use Rattle.image_read.specs.Checks.{volume_on, judged_version, has_version, tree_on, volume_tree, loaded_tree, check_in, check_of}
 use Rattle.volume_format.specs.declared.layout.Layout.{Layout}
 use Rattle.volume_format.specs.Layouts.{IsLayout, layout_of}
 use Rattle.volume_format.specs.Files.{system_data, standard, named as name_attr, system_attrs, other_streams, volume_streams, system_record, record_of}

@@ -2,8 +2,8 @@
 use Rattle.std.specs.Prelude.{◌≡◌, ℕ, List, length, Ok}
 use Rattle.volume_format.specs.Layouts.{layout_of}
 use Rattle.volume_format.specs.Images.{formatted}
-use Rattle.image_check.specs.Checks.{check_of}
-use Rattle.image_check.specs.States.{StandsFor}
+use Rattle.image_read.specs.Checks.{check_of}
+use Rattle.image_read.specs.States.{StandsFor}
 use Rattle.format_blocks.specs.Regions.{CanFormat}
 use Rattle.format_laws.specs.Trees.{new_tree}
 

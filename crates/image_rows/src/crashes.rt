@@ -1,8 +1,6 @@
 //! What a crash leaves of a new volume, and that a call which only reads leaves it as it was.
 use crate::devices::device;
-use image_check::check_image;
-use image_journal::read_journal;
-use image_scan::scan_image;
+use image_read::{check_image, read_journal, scan_image};
 use sector_device::{Device, MemoryDevice};
 use std::alloc::{AllocError, Global};
 use std::test::Fail;

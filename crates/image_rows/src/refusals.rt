@@ -1,9 +1,8 @@
 //! Scans, checks and readings of images that are refused, and of a device that fails.
 use crate::devices::device;
 use disk_model::{put_bytes, put_u16, put_u64};
-use image_check::check_image;
-use image_journal::read_journal;
-use image_scan::{MountFault, Refusal, scan_image};
+use image_open::{MountFault, Refusal};
+use image_read::{check_image, read_journal, scan_image};
 use sector_device::MemoryDevice;
 use std::alloc::{AllocError, Global};
 use std::test::Fail;

@@ -13,8 +13,8 @@ use Rattle.record_model.specs.Values.{has_lawful_value}
 use Rattle.record_model.proofs.FixedValues.{length-volume_info_over}
 use Rattle.record_model.proofs.UnitBytes.{length-zeros}
 use Rattle.record_model.specs.Constants.{names_index}
-use Rattle.index_root.specs.Roots.{HaveSpelling, root_spelling}
-use Rattle.index_root.proofs.Spelled.{root_law}
+use Rattle.index_node.specs.Roots.{HaveSpelling, root_spelling}
+use Rattle.index_node.proofs.RootSpelled.{root_law}
 use Rattle.volume_format.specs.declared.layout.Layout.{Layout}
 use Rattle.volume_format.specs.declared.naming.Data.{Data}
 use Rattle.volume_format.specs.declared.naming.Data.TheVariants.{Absent, Empty, Clusters}

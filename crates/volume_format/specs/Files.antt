@@ -16,7 +16,7 @@ use Rattle.record_model.specs.Records.{Record, record_spelling}
 use Rattle.record_model.specs.StdValues.{std_info_over, file_name_over, volume_info_over}
 use Rattle.record_model.specs.Constants.{standard_information, file_name, volume_name, volume_information, data_type, index_root, index_allocation, bitmap_type, names_index}
 use Rattle.fixup_record.specs.Protecting.{protected_bytes}
-use Rattle.index_root.specs.Roots.{root_spelling}
+use Rattle.index_node.specs.Roots.{root_spelling}
 use Rattle.volume_format.specs.declared.layout.Layout.{Layout}
 use Rattle.volume_format.specs.declared.naming.Data.{Data}
 use Rattle.volume_format.specs.declared.naming.Data.TheVariants.{Absent, Empty, Clusters}

@@ -4,7 +4,7 @@ ghost use Rattle.disk_model.specs.Bytes.{zeros};
 ghost use Rattle.record_model.specs.StdValues.{volume_info_over};
 ghost use Rattle.record_model.specs.Nodes.{FitsDown, last_entry};
 ghost use Rattle.record_model.specs.Constants.{names_index, index_root, bitmap_type};
-ghost use Rattle.index_root.specs.Roots.{root_spelling};
+ghost use Rattle.index_node.specs.Roots.{root_spelling};
 ghost use Rattle.volume_format.specs.Layouts.{IsLayout};
 ghost use Rattle.volume_format.specs.Files.{FitsData, data_attrs, table_streams, volume_streams, root_streams, bad_streams, extend_streams, other_streams, resident};
 
@@ -14,7 +14,7 @@ use crate::naming::{Data, units};
 use crate::zeros::zeroed;
 use file_record::FileRec;
 use host_base::{Bytes, Memory};
-use index_root::write_root;
+use index_node::write_root;
 use record_model::{
     Attr, BITMAP_TYPE, DATA, EntryList, INDEX_ALLOCATION, INDEX_ROOT, NAMES_INDEX,
     VOLUME_INFORMATION, VOLUME_NAME, VolumeInfo, last_entry,

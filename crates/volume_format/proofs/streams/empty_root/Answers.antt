@@ -1,6 +1,6 @@
 use Rattle.std.proofs.Common.{◌≡◌, [], ◌∷◌, sym, subst, rules}
 use Rattle.record_model.specs.Nodes.{last_entry}
-use Rattle.index_root.specs.Roots.{HaveSpelling}
+use Rattle.index_node.specs.Roots.{HaveSpelling}
 use Rattle.volume_format.proofs.FittingStreams.{empty_fits}
 use Rattle.volume_format.proofs.streams.empty_root.Goals as goal
 

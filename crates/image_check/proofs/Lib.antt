@@ -1,3 +1,0 @@
-mod Disks
-mod States
-mod Steps

@@ -1,5 +1,0 @@
-use Rattle.image_check.proofs.States.{one, stands, answered}
-use Rattle.image_check.proofs.laws.check_of_image.Goals as goal
-
-pub returns : goal.returns
-returns c = record { one = one; stands = stands; answered = answered }

@@ -1,6 +1,0 @@
-ghost use Rattle.image_check.specs.States.{CheckOfImage};
-
-/// Law: an image stands for one tree at most, and for one just where a check of it answers one.
-pub fn check_of_image()
-    ensures { CheckOfImage }
-{}

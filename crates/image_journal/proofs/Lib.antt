@@ -1,4 +1,0 @@
-mod Begins
-mod Disks
-mod Steps
-mod Whole

@@ -1,0 +1,7 @@
+mod Begins
+mod Entries
+mod Links
+mod MountSteps
+mod Rules
+mod States
+mod Whole

@@ -1,0 +1,21 @@
+use Rattle.std.proofs.lemmas.Result.{err_from_is_err_and}
+use Rattle.volume_map.specs.Maps.{volume_in}
+use Rattle.image_open.proofs.Steps.{fails_first, goes_on}
+use Rattle.image_read.specs.declared.mounting.Mounted.{Mounted}
+use Rattle.image_read.specs.Checks.{volume_on}
+use Rattle.image_read.specs.Mounts.{volume_mounted, loaded_mounted}
+use Rattle.image_read.proofs.mounting.loaded_mounted.Goals as goal
+
+pub returns-in_err-map-clause-answer : goal.returns-in_err-map-clause-answer
+unfolding loaded_mounted
+returns-in_err-map-clause-answer g c =
+    let p = err_from_is_err_and c.from_residual.result c.from_residual.ensures.1 in
+    rw (p.1, p.2) (fails_first _ volume_in (λ (m : Mounted). m) _ (λ content. volume_on content c.args.geometry.now c.args.total) volume_mounted c.in_err-map.ensures.answer)
+
+pub returns-clause-answer : goal.returns-clause-answer
+unfolding loaded_mounted
+returns-clause-answer g c =
+    goes_on _ (λ (m : Mounted). m) (volume_in c.in_ok-map.map) c.volume_mounted.result (λ content. volume_on content c.args.geometry.now c.args.total) volume_mounted c.in_ok-map.ensures.answer (rw c.in_ok-map.ensures.kept.same at c.volume_mounted.ensures.answer)
+
+pub volume_mounted-requires-clause-parts : goal.volume_mounted-requires-clause-parts
+volume_mounted-requires-clause-parts g c = rw c.in_ok-map.ensures.kept.same c.in_ok-map.ensures.parts

@@ -1,5 +1,0 @@
-pub mod Alike
-pub mod Disks
-pub mod Lying
-pub mod Steps
-pub mod Stretches
