@@ -1,7 +1,7 @@
-# Images that the rows of commands run on: the tiny image, one with an index, a small volume that breaks no rule, and their parts.
+# Images that the rows of commands run on: the tiny image, a small volume that breaks no rule, and their parts.
 """The layouts are those of the Linux-NTFS documentation, "FILE Record", "Attribute Header" and the pages of the attributes, and of
-Microsoft's reference, "USN_RECORD_V2". Clusters have one sector; the file table stands at cluster 8. A file is given by its number and
-its sequence, and where only one number is given the sequence is the same."""
+Microsoft's reference, "USN_RECORD_V2". Clusters have one sector, or eight where that is said; the file table stands at sector 8. A file is
+given by its number and its sequence, and where only one number is given the sequence is the same."""
 import struct
 import sys
 from pathlib import Path
@@ -59,9 +59,9 @@ def named_data(number, name, value):
     return head + padded(units) + padded(value)
 
 
-def in_clusters(number, kind, name, first, clusters, real, pairs, is_sparse=False):
-    """A stream in clusters: its first VCN, how many there are, its size, which is initialised, and its mapping pairs."""
-    units, size = name.encode("utf-16-le"), SECTOR * clusters
+def in_clusters(number, kind, name, first, clusters, real, pairs, is_sparse=False, sectors=1):
+    """A stream in clusters: its first VCN, how many there are, its size, which is initialised, and its mapping pairs; and the sectors of one."""
+    units, size = name.encode("utf-16-le"), SECTOR * sectors * clusters
     total = struct.pack("<Q", size) if is_sparse else b""
     place = 0x40 + len(total) + len(padded(units))
     flags, names = 0x8000 if is_sparse else 0, 0x40 + len(total)
@@ -100,9 +100,6 @@ def directory(number, name, *entries):
 # ---- whole images
 
 TINY = tiny()
-_FILES = [entry(2, 2, 5, BOTH, "$LogFile"), entry(0, 1, 5, BOTH, "$MFT"), entry(5, 5, 5, BOTH, ".", True)]
-# The tiny image whose root has an index of the three names.
-INDEXED = with_records(TINY, (5, 5, DIRECTORY, [named(0, 5, BOTH, ".", True), index_root(1, *_FILES, LAST)]))
 
 # A record of the change journal for the file of record 26, made and closed, whose name is `f`: 64 bytes, the first of the journal.
 JOURNAL_RECORD = struct.pack("<IHHQQQQIIIIHHHxx", 64, 2, 0, 26 | 1 << 48, 25 | 1 << 48, 0, 1002, 0x80000100, 0, 0, 0x20, 2, 60, 0x66)
@@ -117,34 +114,54 @@ JOURNAL_LINK = entry(27, 1, 11, BOTH, "$UsnJrnl")
 LONG_LINK, SHORT_LINK = entry(26, 1, 24, WIN32, "Long"), entry(26, 1, 24, DOS, "LONG~1")
 
 
-def journal_file(size, *more):
-    """Record 27, whose $J has so many bytes in cluster 97; further attributes stand behind it."""
-    stream = in_clusters(2, 0x80, "$J", 0, 1, size, bytes([0x11, 1, 97, 0]), True)
+def journal_file(size, *more, cluster=97, sectors=1):
+    """Record 27, whose $J has so many bytes in this cluster; further attributes stand behind it."""
+    stream = in_clusters(2, 0x80, "$J", 0, 1, size, bytes([0x11, 1, cluster, 0]), True, sectors)
     return 27, 1, IN_USE, [information(), named(1, 11, BOTH, "$UsnJrnl"), stream, *more]
 
 
 JOURNAL_LIMITS = named_data(3, "$Max", bytes(32))
 
 
-def whole_volume():
-    """A volume of 128 clusters that breaks no rule, with a sector after it. In use are the records of the volume itself 0, 2, 3 and 6, which
-    have no names; the root; record 11, a directory with the change journal, record 27; a directory 24 with file 26, which has a long and a
-    short name; and file 25 in the root."""
-    made = TINY.ljust(129 * SECTOR, b"\0")
-    made = changed(made, (0x28, b"\x80"), (TABLE, bytes(32 * RECORD)), (72 * SECTOR, b"\xff" * 8192), (97 * SECTOR, JOURNAL_RECORD))
-    return with_records(
-        made,
-        (0, 1, IN_USE, [mapped(0, 64, bytes([0x11, 64, 8, 0])), plain(0xB0, 1, bytes([0x6D, 0x08, 0, 0x0F]))]),
-        (2, 2, IN_USE, [mapped(0, 16, bytes([0x11, 16, 72, 0]))]),
+def in_use(table, log, bitmap, data):
+    """The records of a volume that breaks no rule, but for that of its journal, by the data of the table, of the log and of file 25, and the bits
+    of the clusters. In use are the records of the volume itself 0, 2, 3 and 6, which have no names; the root; record 11, a directory with the
+    change journal; a directory 24 with file 26, which has a long and a short name; and file 25 in the root."""
+    return (
+        (0, 1, IN_USE, [table, plain(0xB0, 1, bytes([0x6D, 0x08, 0, 0x0F]))]),
+        (2, 2, IN_USE, [log]),
         (3, 3, IN_USE, [plain(0x70, 0, bytes([0] * 8 + [3, 1, 0, 0]))]),
-        (6, 6, IN_USE, [plain(0x80, 0, CLUSTERS)]),
+        (6, 6, IN_USE, [plain(0x80, 0, bitmap)]),
         directory(5, (5, BOTH, "."), EXTEND_LINK, ROOT_LINK, FOLDER_LINK, FILE_LINK),
         directory(11, (5, BOTH, "$Extend"), JOURNAL_LINK),
         directory(24, (5, BOTH, "d"), LONG_LINK, SHORT_LINK),
-        (25, 1, IN_USE, [information(), named(1, 5, BOTH, "f"), mapped(2, 1, bytes([0x11, 1, 96, 0]))]),
+        (25, 1, IN_USE, [information(), named(1, 5, BOTH, "f"), data]),
         (26, 1, IN_USE, [information(), named(1, 24, WIN32, "Long"), named(2, 24, DOS, "LONG~1"), plain(0x80, 3, b"hello")]),
-        journal_file(64, JOURNAL_LIMITS),
     )
 
 
+def with_journal(journal):
+    """An image without files whose volume has 128 sectors, with a sector after it; at this place the record of the journal."""
+    made = TINY.ljust(129 * SECTOR, b"\0")
+    return changed(made, (0x28, b"\x80"), (TABLE, bytes(32 * RECORD)), (72 * SECTOR, b"\xff" * 8192), (journal, JOURNAL_RECORD))
+
+
+def whole_volume():
+    """A volume of 128 clusters of one sector that breaks no rule."""
+    table, log = mapped(0, 64, bytes([0x11, 64, 8, 0])), mapped(0, 16, bytes([0x11, 16, 72, 0]))
+    records = in_use(table, log, CLUSTERS, mapped(2, 1, bytes([0x11, 1, 96, 0])))
+    return with_records(with_journal(97 * SECTOR), *records, journal_file(64, JOURNAL_LIMITS))
+
+
+def wide_volume(bitmap):
+    """The same files in 16 clusters of eight sectors, with these bits of the clusters."""
+    made = changed(with_journal(13 * 8 * SECTOR), (0x0D, b"\x08"), (0x30, b"\x01"), (0x38, b"\x07"), (0x40, b"\xf6"), (0x44, b"\x01"))
+    table, log = mapped(0, 8, bytes([0x11, 8, 1, 0]), 8), mapped(0, 2, bytes([0x11, 2, 9, 0]), 8)
+    records = in_use(table, log, bitmap, mapped(2, 1, bytes([0x11, 1, 12, 0]), 8))
+    return with_records(made, *records, journal_file(64, JOURNAL_LIMITS, cluster=13, sectors=8))
+
+
 WHOLE = whole_volume()
+# Of the wide volume the clusters 0 to 10, 12 and 13 are in use; the other one has the bit of cluster 12 clear.
+WIDE = wide_volume(bytes([0xFF, 0x37]))
+MISOWNED = wide_volume(bytes([0xFF, 0x27]))

@@ -2,7 +2,7 @@
 import struct
 
 from images import BOTH, DIRECTORY, DOS, IN_USE, PLAIN, RECORD, TABLE, TINY, WIN32, changed, list_entry, mapped, named, plain, with_records
-from row import IMAGE, TINY_TEXT, USAGE, Row, done, refused, run
+from row import IMAGE, TINY_TEXT, USAGE, Row, done, refused
 from tiny_image import record
 
 # Where record 5 stands.
@@ -200,37 +200,33 @@ def attributes_of_the_root_are_judged():
     yield refused("scan", with_root(DOT, whole), "6 BadRecord 5 4")
 
 
-def lists_and_clusters_are_not_handled_by_a_run():
-    """An attribute list and data in clusters serve for a scan, and not yet for a run, which refuses them after broken rules: here an
-    attribute of length 0 in record 7."""
+def lists_and_clusters_serve():
+    """An attribute list and data in clusters of the root; and an attribute of length 0 in record 7."""
     listed = with_root(plain(0x20, 1, b""), DOT)
     stored = with_root(DOT, mapped(1, 1, bytes([0x11, 1, 0x38, 0])))
     broken = changed(with_records(stored, (7, 7, IN_USE, [DOT])), (ROOT + 2048 + 0x3C, b"\0"))
     for image in (listed, stored):
         yield done("scan", image, TINY_TEXT)
-        yield run(image, b"", 3, "refused 17 Unbuilt 4\n")
-    yield run(broken, b"", 3, "refused 6 BadRecord 7 3\n")
+    yield refused("scan", broken, "6 BadRecord 7 3")
 
 
 def logs_and_tables_are_answered():
     """Bytes of the image: in the boot sector; the length and cluster of record 2's run, which leaves one page of FF or none; one of the log's
-    two pages; the same of record 0, and its real size. What answers a scan, with its status, and what answers a run."""
-    log, boots, tables, logs = "refused 11 NoRestart\n", "refused 17 Unbuilt 1\n", "refused 17 Unbuilt 2\n", "refused 17 Unbuilt 3\n"
-    for at, data, status, text, of_run in [
-        (0x40, [0xF6, 0], 0, TINY_TEXT, boots),
-        (0x30, [57, 0], 3, log, boots),
-        (6144 + 0xE9, [15, 40], 3, "refused 6 BadRecord 2 7\n", logs),
-        (6144 + 0xEA, [49, 0], 3, log, logs),
-        (6144 + 0xEA, [39, 0], 0, TINY_TEXT, logs),
-        (20480, [0, 0xFF], 0, TINY_TEXT, logs),
-        (28670, [0xFF, 0xFE], 0, TINY_TEXT, logs),
-        (4096 + 0xE1, [57, 8], 3, "refused 6 BadRecord 0 7\n", tables),
-        (4096 + 0xE2, [9, 0], 0, "links 0\n", tables),
-        (4096 + 0xD0, [4, 0x40], 0, TINY_TEXT, tables),
+    two pages; the same of record 0, and its real size. What answers a scan, with its status."""
+    log = "refused 11 NoRestart\n"
+    for at, data, status, text in [
+        (0x40, [0xF6, 0], 0, TINY_TEXT),
+        (0x30, [57, 0], 3, log),
+        (6144 + 0xE9, [15, 40], 3, "refused 6 BadRecord 2 7\n"),
+        (6144 + 0xEA, [49, 0], 3, log),
+        (6144 + 0xEA, [39, 0], 0, TINY_TEXT),
+        (20480, [0, 0xFF], 0, TINY_TEXT),
+        (28670, [0xFF, 0xFE], 0, TINY_TEXT),
+        (4096 + 0xE1, [57, 8], 3, "refused 6 BadRecord 0 7\n"),
+        (4096 + 0xE2, [9, 0], 0, "links 0\n"),
+        (4096 + 0xD0, [4, 0x40], 0, TINY_TEXT),
     ]:
-        image = changed(TINY, (at, bytes(data)))
-        yield Row(image, (IMAGE, "scan"), (status,), text)
-        yield run(image, b"", 3, of_run)
+        yield Row(changed(TINY, (at, bytes(data))), (IMAGE, "scan"), (status,), text)
 
 
 def log_of(first, clusters, pairs):
@@ -245,7 +241,6 @@ def the_log_lies_where_its_vcns_say():
     2^64 - 1, and those after it the VCNs from 0 on; or the only run begins at VCN 16."""
     wrapped = bytes([0x11, 4, 2, 0x11, 16, 38, 0])
     yield done("scan", log_of(2**64 - 4, 20, wrapped), TINY_TEXT)
-    yield run(log_of(2**64 - 4, 20, wrapped), b"", 3, "refused 17 Unbuilt 3\n")
     yield refused("scan", log_of(2**64 - 4, 20, bytes([0x11, 4, 40, 0x11, 16, 0x100 - 38, 0])), "11 NoRestart")
     yield refused("scan", log_of(16, 16, bytes([0x11, 16, 40, 0])), "11 NoRestart")
     yield done("scan", log_of(2**64 - 4, 21, bytes([0x11, 4, 2, 0x11, 8, 38, 0x11, 9, 8, 0])), TINY_TEXT)
@@ -318,7 +313,7 @@ TABLES = [
     the_lower_rule_is_answered,
     a_record_that_is_not_in_use_refuses_nothing,
     attributes_of_the_root_are_judged,
-    lists_and_clusters_are_not_handled_by_a_run,
+    lists_and_clusters_serve,
     logs_and_tables_are_answered,
     the_log_lies_where_its_vcns_say,
     the_file_table_is_refused,

@@ -1,7 +1,7 @@
 """What the lines of a refusal, of a script that is none and of a status mean, as tables.
 
 A refusal's line is `refused NUMBER NAME VALUES`. `meaning` and `look` may hold the values by their names in braces; `rules` says what each
-number means that the value `key` can have. 13 and 16 are the numbers of no refusal.
+number means that the value `key` can have.
 """
 from collections import namedtuple
 
@@ -137,6 +137,12 @@ REFUSALS = {
         "The log isn't clean and not this host's, or has an entry, a block or a lap that no log of this host has, at the LSN {LSN}.",
         "Which host used the volume last. Mounted and unmounted there, the log is clean, and then it is read here; work on a copy.",
     ),
+    13: Refusal(
+        "LogSmall",
+        "PAGES NEEDED",
+        "The log (`$LogFile`) has {PAGES} pages, and a command that writes needs {NEEDED}.",
+        "`istat IMAGE 2` shows its size. Commands that only read don't need a larger log.",
+    ),
     14: Refusal(
         "NoJournal",
         "WHY",
@@ -152,6 +158,12 @@ REFUSALS = {
         "For a file, `istat IMAGE {NUMBER}`; for a cluster, `ifind -d {NUMBER} IMAGE`. A scan asks none of these rules. Repair a copy alone.",
         "RULE",
         VOLUME_RULES,
+    ),
+    16: Refusal(
+        "HasJournal",
+        "",
+        "The volume has a change journal, so that none can be made.",
+        "`fls IMAGE 11` shows the names in `$Extend`. The journal that is there can be read.",
     ),
     17: Refusal(
         "Unbuilt",

@@ -29,8 +29,8 @@ def resident(kind, number, value, indexed):
     return head + padded(value)
 
 
-def mapped(number, clusters, pairs):
-    size = clusters * SECTOR
+def mapped(number, clusters, pairs, sectors=1):
+    size = clusters * sectors * SECTOR
     length = 0x40 + len(padded(pairs))
     head = struct.pack("<IIBBHHHQQHHIQQQ", DATA, length, 1, 0, 0x40, 0, number, 0, clusters - 1, 0x40, 0, 0, size, size, size)
     return head + padded(pairs)

@@ -12,11 +12,11 @@ struct Table(Call, &'static [Row]);
 // The call that fails, and then the status, the text and who passes the gate.
 struct Row(Fault, u8, &'static [u8], u64);
 
-const SCRIPT: &[u8] = b"1 list /\n1 stat /\n1 stat /$mft/x\n1 stat /q\n";
+const SCRIPT: &[u8] = b"1 list /\n1 stat /\n1 stat /F/x\n1 stat /q\n";
 
 // The write of a scan or a dump that fails, and what the ones before it wrote. Of a run, the
-// source's first and second read fail, then each read of the device, then each write: the commands
-// come before the text, and after the script and the volume.
+// source's first and second read fail, then the first read of the device, then each write: the
+// commands come before the text, and after the script and the volume.
 static PRINTED: [Table; 3] = [
     Table(
         Call(Image::Tiny, SCAN_WORDS, b""),
@@ -47,21 +47,16 @@ static PRINTED: [Table; 3] = [
         )],
     ),
     Table(
-        Call(Image::Indexed, RUN_WORDS, SCRIPT),
+        Call(Image::Wide, RUN_WORDS, SCRIPT),
         &[
             Row(Fault(Part::Source, 1), 5, b"", 0),
             Row(Fault(Part::Source, 2), 5, b"", 0),
             Row(Fault(Part::Device, 1), 8, b"", 0),
-            Row(Fault(Part::Device, 2), 8, b"", 0),
-            Row(Fault(Part::Device, 3), 8, b"", 0),
-            Row(Fault(Part::Device, 4), 8, b"", 0),
-            Row(Fault(Part::Device, 5), 8, b"", 0),
-            Row(Fault(Part::Device, 6), 8, b"", 0),
             Row(Fault(Part::Sink, 1), 7, b"", 11_121_314),
             Row(
                 Fault(Part::Sink, 2),
                 7,
-                b"1 1 1 0 names 3 $LogFile $MFT .\n",
+                b"1 1 1 64 names 4 $Extend . d f\n",
                 11_121_314,
             ),
         ],
@@ -84,7 +79,7 @@ static OTHER: [&[&str]; 7] = [
 const LOOKS: &[u8] = b"1 list /\n# nothing\n1 stat /q\n1 stat /\n";
 
 const LOOKS_TEXT: &[u8] =
-    b"1 1 1 0 names 3 $LogFile $MFT .\n1 2 2 0 not-found 1\n1 3 3 0 stat 5 5 directory 1 0 0 0 0 0 0\n";
+    b"1 1 1 64 names 4 $Extend . d f\n1 2 2 64 not-found 1\n1 3 3 64 stat 5 5 directory 1 0 0 0 0 0 0\n";
 
 const BROKEN: &[u8] = b"1 stat /\n1 stat\n";
 
@@ -96,27 +91,58 @@ const AT_1000: &[&str] = &["ntfshost", "tiny.img", "run", "--time=1000"];
 // passes where the device, the script or the volume fails.
 static GATES: [Table; 5] = [
     Table(
-        Call(Image::Indexed, AT_0, LOOKS),
+        Call(Image::Wide, AT_0, LOOKS),
         &[Row(NO_FAULT, 0, LOOKS_TEXT, 111_213)],
     ),
     Table(
-        Call(Image::Indexed, AT_1000, LOOKS),
+        Call(Image::Wide, AT_1000, LOOKS),
         &[Row(NO_FAULT, 0, LOOKS_TEXT, 111_213)],
     ),
     Table(
-        Call(Image::Indexed, RUN_WORDS, LOOKS),
+        Call(Image::Wide, RUN_WORDS, LOOKS),
         &[
             Row(Fault(Part::Sink, 1), 7, b"", 111_213),
             Row(Fault(Part::Device, 1), 8, b"", 0),
         ],
     ),
     Table(
-        Call(Image::Indexed, RUN_WORDS, BROKEN),
+        Call(Image::Wide, RUN_WORDS, BROKEN),
         &[Row(NO_FAULT, 4, b"script line 2 rule 6\n", 0)],
     ),
     Table(
         Call(Image::Tiny, RUN_WORDS, LOOKS),
-        &[Row(NO_FAULT, 3, b"refused 15 BadVolume 3 5\n", 0)],
+        &[Row(NO_FAULT, 3, b"refused 2 Geometry 13 1\n", 0)],
+    ),
+];
+
+const PATHS: &[u8] = b"1 stat /d/Long\n1 stat /D/LONG\n1 stat /d/long~1\n1 list /d\n1 stat /f\n";
+
+const PATHS_TEXT: &[u8] = b"1 1 1 64 stat 26 1 file 1 5 0 1 2 3 4
+1 2 2 64 stat 26 1 file 1 5 0 1 2 3 4
+1 3 3 64 stat 26 1 file 1 5 0 1 2 3 4
+1 4 4 64 names 1 Long
+1 5 5 64 stat 25 1 file 1 4096 1 1 2 3 4
+";
+
+// A path of two parts, in another case, and by a short name, which no listing shows; a volume that
+// breaks a rule; and the sectors of a cluster, which a run refuses in their place, before the
+// volume's sectors.
+static TREES: [Table; 4] = [
+    Table(
+        Call(Image::Wide, RUN_WORDS, PATHS),
+        &[Row(NO_FAULT, 0, PATHS_TEXT, 1_112_131_415)],
+    ),
+    Table(
+        Call(Image::Misowned, RUN_WORDS, LOOKS),
+        &[Row(NO_FAULT, 3, b"refused 15 BadVolume 6 12\n", 0)],
+    ),
+    Table(
+        Call(Image::Unsized, RUN_WORDS, LOOKS),
+        &[Row(NO_FAULT, 3, b"refused 2 Geometry 13 1\n", 0)],
+    ),
+    Table(
+        Call(Image::Unsized, SCAN_WORDS, b""),
+        &[Row(NO_FAULT, 3, b"refused 2 Geometry 40 0\n", 0)],
     ),
 ];
 
@@ -157,6 +183,14 @@ fn other_words_are_answered_by_the_usage_line(rt: HostRuntime) -> Result<(), Fai
 #[test]
 fn the_gate_stands_before_the_text_and_after_the_volume(rt: HostRuntime) -> Result<(), Fail> {
     for (i, table) in GATES.iter().enumerate() {
+        assert_eq!(rt; first_bad(&rt, table)?, None, "table {i}");
+    }
+    Ok(())
+}
+
+#[test]
+fn a_run_asks_the_checked_tree(rt: HostRuntime) -> Result<(), Fail> {
+    for (i, table) in TREES.iter().enumerate() {
         assert_eq!(rt; first_bad(&rt, table)?, None, "table {i}");
     }
     Ok(())

@@ -1,5 +1,6 @@
-//! The images of the rows: the tiny image, the same with an index, and a small volume that breaks
-//! no rule (Linux-NTFS documentation, "FILE Record", "Attribute Header" and "$INDEX_ROOT").
+//! The images of the rows: the tiny image, and a small volume that breaks no rule, in clusters of
+//! one sector and of eight (Linux-NTFS documentation, "FILE Record", "Attribute Header" and
+//! "$INDEX_ROOT").
 use std::alloc::{AllocError, Global};
 
 // Where the file table stands, and in the tiny image the copy of its first four records.
@@ -17,12 +18,12 @@ struct FileName(u8, u8, &'static [u8], u8);
 struct Link(u8, u8, FileName);
 
 // An attribute: a value in the record by its type; a name; an index of these entries; data in so
-// many clusters from this one on; or so many bytes as they stand.
+// many clusters from this one on, each of so many sectors; or so many bytes as they stand.
 enum Part {
     Value(u8, &'static [u8]),
     Name(FileName),
     Index(&'static [Link]),
-    Stored(u8, u8),
+    Stored(u8, u8, u8),
     Bytes(usize, &'static [Edit]),
 }
 
@@ -31,13 +32,16 @@ struct Head(u8, u8, u8);
 
 struct File(Head, &'static [Part]);
 
-/// An image that rows run on: the tiny image, the same whose root has an index, a volume that
-/// breaks no rule, or 4,537 sectors of zeros.
+/// An image that rows run on: the tiny image, the same without sectors by its boot sector, a volume
+/// that breaks no rule, one with clusters of eight sectors, this one with cluster 12 owned and clear,
+/// or 4,537 sectors of zeros.
 #[derive(Clone, Copy, Debug, PartialEq, Eq)]
 pub enum Image {
     Tiny,
-    Indexed,
+    Unsized,
     Whole,
+    Wide,
+    Misowned,
     Blank,
 }
 
@@ -45,9 +49,11 @@ impl Image {
     /// The bytes of the image. The error is want of memory.
     pub fn bytes(self, alloc: Global) -> Result<Vec<u8>, AllocError> {
         match self {
-            Image::Tiny => tiny(alloc, &ROOT),
-            Image::Indexed => tiny(alloc, &INDEXED_ROOT),
+            Image::Tiny => tiny(alloc),
+            Image::Unsized => unsized_tiny(alloc),
             Image::Whole => whole(alloc),
+            Image::Wide => wide(alloc, &WIDE_BITMAP),
+            Image::Misowned => wide(alloc, &CLEAR_BITMAP),
             Image::Blank => zeros(alloc, 4537),
         }
     }
@@ -62,6 +68,15 @@ static BOOT: [Edit; 7] = [
     Edit(0x40, &[2]),
     Edit(0x44, &[8]),
     Edit(0x1fe, &[0x55, 0xaa]),
+];
+
+// What differs where clusters have eight sectors: the file table at cluster 1, and its mirror at 7.
+static WIDE_BOOT: [Edit; 5] = [
+    Edit(0x0d, &[8]),
+    Edit(0x30, &[1]),
+    Edit(0x38, &[7]),
+    Edit(0x40, &[0xf6]),
+    Edit(0x44, &[1]),
 ];
 
 // The head of a file record, whose array of the update sequence stands at 30 and whose first
@@ -90,34 +105,25 @@ static STORED: [Edit; 4] = [
     Edit(0x20, &[0x40]),
 ];
 
-// `$MFT` and `$LogFile` of the tiny image, and its root without an index and with one.
+// `$MFT`, `$LogFile` and the root of the tiny image.
 static SYSTEM: [File; 2] = [
     File(
         Head(0, 1, 1),
-        &[Part::Name(FileName(5, 3, b"$MFT", 0)), Part::Stored(32, 8)],
+        &[
+            Part::Name(FileName(5, 3, b"$MFT", 0)),
+            Part::Stored(32, 8, 1),
+        ],
     ),
     File(
         Head(2, 2, 1),
         &[
             Part::Name(FileName(5, 3, b"$LogFile", 0)),
-            Part::Stored(16, 40),
+            Part::Stored(16, 40, 1),
         ],
     ),
 ];
 
 static ROOT: File = File(Head(5, 5, 3), &[Part::Name(FileName(5, 3, b".", 0x10))]);
-
-static INDEXED_ROOT: File = File(
-    Head(5, 5, 3),
-    &[
-        Part::Name(FileName(5, 3, b".", 0x10)),
-        Part::Index(&[
-            Link(2, 2, FileName(5, 3, b"$LogFile", 0)),
-            Link(0, 1, FileName(5, 3, b"$MFT", 0)),
-            Link(5, 5, FileName(5, 3, b".", 0x10)),
-        ]),
-    ],
-);
 
 // The bits of the clusters in use: 0 to 87, 96 and 97.
 const CLUSTERS: &[u8] = &[
@@ -131,18 +137,9 @@ const INFORMATION: &[u8] = &[
     0, 0, 0, 0, 0, 0, 0, 0,
 ];
 
-// The files of the volume that breaks no rule: those of the volume itself without names; the root;
-// `$Extend`; the directory `d`; the file `f` in the root; a file in `d` with a long and a short
-// name; and the change journal.
-static FILES: [File; 10] = [
-    File(
-        Head(0, 1, 1),
-        &[
-            Part::Stored(64, 8),
-            Part::Value(0xb0, &[0x6d, 0x08, 0, 0x0f]),
-        ],
-    ),
-    File(Head(2, 2, 1), &[Part::Stored(16, 72)]),
+// The files of the volume that breaks no rule, in clusters of any size: the volume's version; the
+// root; `$Extend`; the directory `d`; and a file in `d` with a long and a short name.
+static FILES: [File; 5] = [
     File(
         Head(3, 3, 1),
         &[Part::Value(0x70, &[0, 0, 0, 0, 0, 0, 0, 0, 3, 1, 0, 0])],
@@ -159,7 +156,6 @@ static FILES: [File; 10] = [
             ]),
         ],
     ),
-    File(Head(6, 6, 1), &[Part::Value(0x80, CLUSTERS)]),
     File(
         Head(11, 11, 3),
         &[
@@ -178,20 +174,34 @@ static FILES: [File; 10] = [
         ],
     ),
     File(
-        Head(25, 1, 1),
-        &[
-            Part::Value(0x10, INFORMATION),
-            Part::Name(FileName(5, 3, b"f", 0)),
-            Part::Stored(1, 96),
-        ],
-    ),
-    File(
         Head(26, 1, 1),
         &[
             Part::Value(0x10, INFORMATION),
             Part::Name(FileName(24, 1, b"Long", 0)),
             Part::Name(FileName(24, 2, b"LONG~1", 0)),
             Part::Value(0x80, b"hello"),
+        ],
+    ),
+];
+
+// The others in clusters of one sector: the table, the log, the bitmap, the file `f` in the root,
+// and the change journal.
+static STORED_FILES: [File; 5] = [
+    File(
+        Head(0, 1, 1),
+        &[
+            Part::Stored(64, 8, 1),
+            Part::Value(0xb0, &[0x6d, 0x08, 0, 0x0f]),
+        ],
+    ),
+    File(Head(2, 2, 1), &[Part::Stored(16, 72, 1)]),
+    File(Head(6, 6, 1), &[Part::Value(0x80, CLUSTERS)]),
+    File(
+        Head(25, 1, 1),
+        &[
+            Part::Value(0x10, INFORMATION),
+            Part::Name(FileName(5, 3, b"f", 0)),
+            Part::Stored(1, 96, 1),
         ],
     ),
     File(
@@ -205,6 +215,40 @@ static FILES: [File; 10] = [
     ),
 ];
 
+// And in clusters of eight, but for the bitmap.
+static WIDE_FILES: [File; 4] = [
+    File(
+        Head(0, 1, 1),
+        &[
+            Part::Stored(8, 1, 8),
+            Part::Value(0xb0, &[0x6d, 0x08, 0, 0x0f]),
+        ],
+    ),
+    File(Head(2, 2, 1), &[Part::Stored(2, 9, 8)]),
+    File(
+        Head(25, 1, 1),
+        &[
+            Part::Value(0x10, INFORMATION),
+            Part::Name(FileName(5, 3, b"f", 0)),
+            Part::Stored(1, 12, 8),
+        ],
+    ),
+    File(
+        Head(27, 1, 1),
+        &[
+            Part::Value(0x10, INFORMATION),
+            Part::Name(FileName(11, 3, b"$UsnJrnl", 0)),
+            Part::Bytes(0x58, WIDE_RECORDS),
+            Part::Bytes(0x40, LIMITS),
+        ],
+    ),
+];
+
+// The bits of the 16 clusters in use, 0 to 10, 12 and 13; and without 12.
+static WIDE_BITMAP: File = File(Head(6, 6, 1), &[Part::Value(0x80, &[255, 0x37])]);
+
+static CLEAR_BITMAP: File = File(Head(6, 6, 1), &[Part::Value(0x80, &[255, 0x27])]);
+
 // `$J`, sparse, with 64 bytes in cluster 97; and `$Max` with 32 zeros.
 const RECORDS: &[Edit] = &[
     Edit(0x00, &[0x80, 0, 0, 0, 0x58]),
@@ -217,6 +261,20 @@ const RECORDS: &[Edit] = &[
     Edit(0x40, &[0, 2]),
     Edit(0x48, b"$\0J"),
     Edit(0x50, &[0x11, 1, 97]),
+];
+
+// The same in cluster 13 of eight sectors.
+const WIDE_RECORDS: &[Edit] = &[
+    Edit(0x00, &[0x80, 0, 0, 0, 0x58]),
+    Edit(0x08, &[1, 2, 0x48]),
+    Edit(0x0d, &[0x80, 2]),
+    Edit(0x20, &[0x50]),
+    Edit(0x28, &[0, 0x10]),
+    Edit(0x30, &[64]),
+    Edit(0x38, &[64]),
+    Edit(0x40, &[0, 0x10]),
+    Edit(0x48, b"$\0J"),
+    Edit(0x50, &[0x11, 1, 13]),
 ];
 
 const LIMITS: &[Edit] = &[
@@ -319,12 +377,14 @@ fn put_index(image: &mut [u8], at: usize, id: u8, links: &[Link]) -> usize {
     end
 }
 
-fn put_stored(image: &mut [u8], at: usize, id: u8, count: u8, first: u8) -> usize {
+fn put_stored(image: &mut [u8], at: usize, id: u8, run: (u8, u8, u8)) -> usize {
+    let (count, first, per_cluster) = run;
+    let size = 512 * usize::from(per_cluster) * usize::from(count);
     put_all(image, at, &STORED);
     put(image, at.saturating_add(0x0e), &[id]);
     put(image, at.saturating_add(0x18), &[count.saturating_sub(1)]);
     for place in [0x28, 0x30, 0x38] {
-        put_number(image, at.saturating_add(place), 512 * usize::from(count));
+        put_number(image, at.saturating_add(place), size);
     }
     put(image, at.saturating_add(0x40), &[0x11, count, first]);
     at.saturating_add(0x48)
@@ -346,7 +406,7 @@ fn put_part(image: &mut [u8], at: usize, id: u8, part: &Part) -> usize {
             end
         }
         Part::Index(links) => put_index(image, at, id, links),
-        Part::Stored(count, first) => put_stored(image, at, id, *count, *first),
+        Part::Stored(count, first, per) => put_stored(image, at, id, (*count, *first, *per)),
         Part::Bytes(size, edits) => {
             put_all(image, at, edits);
             at.saturating_add(*size)
@@ -403,23 +463,50 @@ fn volume(alloc: Global, sectors: u16, log: usize) -> Result<Vec<u8>, AllocError
 
 // 65 sectors, of which 8 to 39 are 16 file records, 40 to 55 a log, and 56 to 63 copies of the
 // first four records.
-fn tiny(alloc: Global, root: &File) -> Result<Vec<u8>, AllocError> {
+fn tiny(alloc: Global) -> Result<Vec<u8>, AllocError> {
     let mut image = volume(alloc, 65, 20480)?;
     for file in &SYSTEM {
         put_file(&mut image, TABLE, file);
         put_file(&mut image, MIRROR, file);
     }
-    put_file(&mut image, TABLE, root);
+    put_file(&mut image, TABLE, &ROOT);
     Ok(image)
 }
 
-// 129 sectors, with a table of 32 records, the log in the clusters from 72 on, the data of `f` in
-// cluster 96 and the journal in cluster 97.
-fn whole(alloc: Global) -> Result<Vec<u8>, AllocError> {
+// The same, with no sectors by its boot sector.
+fn unsized_tiny(alloc: Global) -> Result<Vec<u8>, AllocError> {
+    let mut image = tiny(alloc)?;
+    put(&mut image, 0x28, &[0]);
+    Ok(image)
+}
+
+// 129 sectors, with a table of 32 records, the log in the sectors from 72 on, the data of `f` in
+// sector 96, and the journal in another one.
+fn filled(alloc: Global, journal: usize) -> Result<Vec<u8>, AllocError> {
     let mut image = volume(alloc, 129, 72 * 512)?;
     for file in &FILES {
         put_file(&mut image, TABLE, file);
     }
-    put_all(&mut image, 97 * 512, &JOURNAL);
+    put_all(&mut image, journal, &JOURNAL);
+    Ok(image)
+}
+
+// Clusters of one sector; the journal stands in cluster 97.
+fn whole(alloc: Global) -> Result<Vec<u8>, AllocError> {
+    let mut image = filled(alloc, 97 * 512)?;
+    for file in &STORED_FILES {
+        put_file(&mut image, TABLE, file);
+    }
+    Ok(image)
+}
+
+// Clusters of eight sectors; the journal stands in cluster 13.
+fn wide(alloc: Global, bitmap: &File) -> Result<Vec<u8>, AllocError> {
+    let mut image = filled(alloc, 13 * 4096)?;
+    put_all(&mut image, 0, &WIDE_BOOT);
+    for file in &WIDE_FILES {
+        put_file(&mut image, TABLE, file);
+    }
+    put_file(&mut image, TABLE, bitmap);
     Ok(image)
 }

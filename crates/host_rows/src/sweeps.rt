@@ -1,7 +1,7 @@
 //! Commands of which each call of the device fails by its number, up to one that is never reached.
 use crate::images::Image;
 use crate::runs::{
-    CHECK_TEXT, CHECK_WORDS, Call, FORMAT_WORDS, Fault, Part, SCAN_WORDS, TINY_TEXT, run,
+    CHECK_TEXT, CHECK_WORDS, Call, FORMAT_WORDS, Fault, Part, RUN_WORDS, SCAN_WORDS, TINY_TEXT, run,
 };
 use std::process::Abort;
 use std::sync::Wait;
@@ -12,9 +12,15 @@ use std::thread::Threads;
 // and below the second.
 struct Sweep(Call, &'static [u8], u64, u64);
 
-static READ: [Sweep; 2] = [
+static READ: [Sweep; 3] = [
     Sweep(Call(Image::Tiny, SCAN_WORDS, b""), TINY_TEXT, 0, 100),
     Sweep(Call(Image::Whole, CHECK_WORDS, b""), CHECK_TEXT, 0, 100),
+    Sweep(
+        Call(Image::Wide, RUN_WORDS, b"1 list /\n"),
+        b"1 1 1 64 names 4 $Extend . d f\n",
+        0,
+        100,
+    ),
 ];
 
 static FORMATTED: Sweep = Sweep(

@@ -1,10 +1,9 @@
 //! The roots of an index, as they are written, and entries that have no spelling.
 ghost use Rattle.std.specs.Prelude.{◌≡◌, true, IfOk};
-ghost use Rattle.index_root.specs.Roots.{HaveSpelling};
+ghost use Rattle.index_node.specs.Roots.{HaveSpelling};
 
 use host_base::{Bytes, FileRef};
-use index_node::read_root;
-use index_root::{Entry, EntryList, have_spelling, write_root};
+use index_node::{Entry, EntryList, have_spelling, read_root, write_root};
 use std::alloc::{AllocError, Global};
 use std::test::Fail;
 

@@ -9,6 +9,7 @@ use Rattle.host_base.specs.declared.file_ref.FileRef.{FileRef}
 use Rattle.file_tree.specs.declared.node.Node.{Node}
 use Rattle.file_tree.specs.declared.link.Link.{Link}
 use Rattle.file_tree.specs.declared.tree.Tree.{Tree}
+use Rattle.file_tree.specs.declared.journal.Journal.{Journal}
 use Rattle.tree_model.specs.declared.script.Op.{Op}
 use Rattle.tree_model.specs.declared.script.Op.TheVariants as op
 use Rattle.tree_model.specs.declared.script.What.{What}
@@ -18,7 +19,7 @@ use Rattle.tree_model.specs.declared.reply.Reply.{Reply}
 use Rattle.tree_model.specs.declared.reply.Reply.TheVariants.{Stat, Names, BadName, NotFound, NotDirectory, Fault, Memory}
 use Rattle.tree_model.specs.Steps.{Replies, IsStep, LeavesBy, refusal}
 use Rattle.run_model.specs.declared.turn.Turn.{Turn}
-use Rattle.run_model.specs.Runs.{RunStart, IsTurn, own, turn_commands, is_turn_command, takes_turn, moment_of_last, last_faults}
+use Rattle.run_model.specs.Runs.{RunStart, IsTurn, own, turn_commands, is_turn_command, takes_turn, moment_of_last, last_faults, next_of}
 use Rattle.run_model.proofs.Segments.{segment_push}
 use Rattle.ntfs_host.specs.SerialRuns.{tree_with, IsTurnOf, Follows, IsRunSoFar}
 
@@ -106,19 +107,19 @@ next_command script i d turns t o lt what client number asked each =
     rw each (at_place (is_turn_command t.client) script i d lt passes ∙ ap (λ (x : Command). Some x) (parts c o t.client t.number t.op what client number asked))
 
 -- a turn of that command
-next_turn : (upper : List ℕ) (nodes : List Node) (links : List Link) (script : List Command) (time moment faults i : ℕ) (d : Command) (turns : List Turn) (t : Turn) (o : Op) (spare : List FileRef) (count room : ℕ)
-    → i < length script → (get_or script i d).what ≡ Operation o
-    → IsRunSoFar upper nodes links script time moment faults i turns → IsTurnOf upper nodes links moment faults (length turns + 1) (get_or script i d) o t
-    → IsTurn (fixed_of upper script time faults) turns t (tree_with nodes links spare count room) (tree_with nodes links spare count room)
-next_turn upper nodes links script time moment faults i d turns t o spare count room lt what so_far it = record {
+next_turn : (upper : List ℕ) (nodes : List Node) (links : List Link) (next : ℕ) (script : List Command) (time moment faults i : ℕ) (d : Command) (turns : List Turn) (t : Turn) (o : Op) (journal : Option Journal) (spare : List FileRef) (count room : ℕ)
+    → next_of journal ≡ next → i < length script → (get_or script i d).what ≡ Operation o
+    → IsRunSoFar upper nodes links next script time moment faults i turns → IsTurnOf upper nodes links next moment faults (length turns + 1) (get_or script i d) o t
+    → IsTurn (fixed_of upper script time faults) turns t (tree_with nodes links journal spare count room) (tree_with nodes links journal spare count room)
+next_turn upper nodes links next script time moment faults i d turns t o journal spare count room is lt what so_far it = record {
   serial = it.place;
   command = next_command script i d turns t o lt what it.client it.number it.asked (so_far.each t.client);
-  usn = it.usn;
+  usn = it.usn ∙ sym is;
   moment = omega (arith, so_far.moments, it.time);
   since = omega (arith, so_far.fault t.client, it.before);
   later = omega (arith, it.before, it.after);
   fault = λ e. absurd (it.no_fault e);
-  step = steps upper t.op (time + t.serial) t.reply (tree_with nodes links spare count room) (λ other. rw it.asked (it.answered other)) it.no_fault;
+  step = steps upper t.op (time + t.serial) t.reply (tree_with nodes links journal spare count room) (λ other. rw it.asked (it.answered other)) it.no_fault;
 }
 
 -- one turn more for its client
@@ -145,21 +146,21 @@ each_kept script i d turns name client lt what each =
     each ∙ omega arith ∙ ap (λ (b : Bool). length (filter (is_turn_command client) (take i script)) + cond b 1 0) (sym (takes_none client (get_or script i d) name what))
     ∙ sym (length-filter_more (is_turn_command client) script i d lt)
 
-follows_by : (upper : List ℕ) (nodes : List Node) (links : List Link) (script : List Command) (time moment faults i : ℕ) (d : Command) (turns new : List Turn) (w : What)
-    → i < length script → (get_or script i d).what ≡ w → IsRunSoFar upper nodes links script time moment faults i turns
-    → Follows upper nodes links moment faults (get_or script i d) w turns new → IsRunSoFar upper nodes links script time moment faults (i + 1) new
-follows_by upper nodes links script time moment faults i d turns new (Operation o) lt what so_far follows =
+follows_by : (upper : List ℕ) (nodes : List Node) (links : List Link) (next : ℕ) (script : List Command) (time moment faults i : ℕ) (d : Command) (turns new : List Turn) (w : What)
+    → i < length script → (get_or script i d).what ≡ w → IsRunSoFar upper nodes links next script time moment faults i turns
+    → Follows upper nodes links next moment faults (get_or script i d) w turns new → IsRunSoFar upper nodes links next script time moment faults (i + 1) new
+follows_by upper nodes links next script time moment faults i d turns new (Operation o) lt what so_far follows =
     let t = follows.0 in
     let it = follows.1 in
     rw follows.2 (record {
-      run = λ spare count room. segment_push (IsTurn (fixed_of upper script time faults)) [] turns t _ _ _ (so_far.run spare count room) (next_turn upper nodes links script time moment faults i d turns t o spare count room lt what so_far it);
+      run = λ journal is spare count room. segment_push (IsTurn (fixed_of upper script time faults)) [] turns t _ _ _ (so_far.run journal is spare count room) (next_turn upper nodes links next script time moment faults i d turns t o journal spare count room is lt what so_far it);
       each = λ client. each_push script i d turns t o client lt what it.client (so_far.each client);
       moments = rw (last_moment_push 0 turns t) (omega (arith, it.time));
       fault = λ client. fault_push faults client turns t (so_far.fault client) it.after;
       counted = All-push (λ (u : Turn). u.faults_after ≤ faults) turns t so_far.counted (omega (arith, it.after));
       no_fault = All-push (λ (u : Turn). u.reply ≢ Fault) turns t so_far.no_fault it.no_fault;
     })
-follows_by upper nodes links script time moment faults i d turns new (Find name) lt what so_far follows =
+follows_by upper nodes links next script time moment faults i d turns new (Find name) lt what so_far follows =
     rw follows (record {
       run = so_far.run;
       each = λ client. each_kept script i d turns name client lt what (so_far.each client);
@@ -170,17 +171,17 @@ follows_by upper nodes links script time moment faults i d turns new (Find name)
     })
 
 -- one command more
-pub one_more : (upper : List ℕ) (nodes : List Node) (links : List Link) (script : List Command) (time moment faults i : ℕ) (c : Command) (turns new : List Turn)
-    → i < length script → c ≡ get_or script i c → IsRunSoFar upper nodes links script time moment faults i turns
-    → Follows upper nodes links moment faults c c.what turns new → IsRunSoFar upper nodes links script time moment faults (i + 1) new
-one_more upper nodes links script time moment faults i c turns new lt is so_far follows =
-    follows_by upper nodes links script time moment faults i c turns new (get_or script i c).what lt refl so_far (subst (λ (x : Command). Follows upper nodes links moment faults x x.what turns new) is follows)
+pub one_more : (upper : List ℕ) (nodes : List Node) (links : List Link) (next : ℕ) (script : List Command) (time moment faults i : ℕ) (c : Command) (turns new : List Turn)
+    → i < length script → c ≡ get_or script i c → IsRunSoFar upper nodes links next script time moment faults i turns
+    → Follows upper nodes links next moment faults c c.what turns new → IsRunSoFar upper nodes links next script time moment faults (i + 1) new
+one_more upper nodes links next script time moment faults i c turns new lt is so_far follows =
+    follows_by upper nodes links next script time moment faults i c turns new (get_or script i c).what lt refl so_far (subst (λ (x : Command). Follows upper nodes links next moment faults x x.what turns new) is follows)
 
 -- no command yet
-pub none_yet : (upper : List ℕ) (nodes : List Node) (links : List Link) (script : List Command) (time moment faults : ℕ) → IsRunSoFar upper nodes links script time moment faults 0 []
+pub none_yet : (upper : List ℕ) (nodes : List Node) (links : List Link) (next : ℕ) (script : List Command) (time moment faults : ℕ) → IsRunSoFar upper nodes links next script time moment faults 0 []
 unfolding own turn_commands
-none_yet upper nodes links script time moment faults = record {
-  run = λ spare count room. refl;
+none_yet upper nodes links next script time moment faults = record {
+  run = λ journal is spare count room. refl;
   each = λ client. refl;
   moments = omega arith;
   fault = λ client. omega arith;

@@ -10,15 +10,15 @@ use Rattle.volume_format.specs.Layouts.{layout_of, device_writes}
 use Rattle.volume_format.specs.Images.{regions, formatted}
 use Rattle.volume_format.specs.Stopping.{PutsFront, KeepsOthers}
 use Rattle.volume_format.specs.Crashing.{IsSettledNow, KeepsLeft}
-use Rattle.image_scan.specs.declared.refusal.Refusal.{Refusal}
-use Rattle.image_scan.specs.declared.refusal.Refusal.TheVariants.{VolumeLarge, Short, Unbuilt}
-use Rattle.image_scan.specs.declared.refusal.MountFault.{MountFault}
-use Rattle.image_scan.specs.declared.refusal.MountFault.TheVariants as errors
-use Rattle.image_scan.specs.Errors.{refused_as}
-use Rattle.image_scan.specs.Scans.{scan_of}
+use Rattle.image_open.specs.declared.refusal.Refusal.{Refusal}
+use Rattle.image_open.specs.declared.refusal.Refusal.TheVariants.{VolumeLarge, Short, Unbuilt}
+use Rattle.image_open.specs.declared.refusal.MountFault.{MountFault}
+use Rattle.image_open.specs.declared.refusal.MountFault.TheVariants as errors
+use Rattle.image_open.specs.Errors.{refused_as}
+use Rattle.image_read.specs.Scans.{scan_of}
 use Rattle.image_dump.specs.Texts.{scan_text, dump_text, check_text, journal_text}
-use Rattle.image_check.specs.Checks.{check_of}
-use Rattle.image_journal.specs.Records.{journal_of}
+use Rattle.image_read.specs.Checks.{check_of}
+use Rattle.image_read.specs.Records.{journal_of}
 use Rattle.ntfs_host.specs.declared.command.Quiet.{Quiet}
 use Rattle.ntfs_host.specs.declared.command.Quiet.TheVariants.{Scan, Dump, Check, Journal, Format}
 use Rattle.ntfs_host.specs.Text.{formatted_line}

@@ -2,8 +2,8 @@
 use Rattle.std.specs.Prelude.{ℕ, List, [], ◌∷◌, ◌++◌, codes, Result, Ok, Err}
 use Rattle.std.specs.Fmt.{decimal}
 use Rattle.volume_format.specs.declared.fault.Formatted.{Formatted}
-use Rattle.image_scan.specs.declared.refusal.Refusal.{Refusal}
-use Rattle.image_scan.specs.declared.refusal.Refusal.TheVariants.{NotNtfs, Geometry, VolumeLarge, Short, BadFixup, BadRecord, MftList, MftLarge, Version, LogVersion, NoRestart, ForeignLog, NoJournal, BadVolume, Unbuilt}
+use Rattle.image_open.specs.declared.refusal.Refusal.{Refusal}
+use Rattle.image_open.specs.declared.refusal.Refusal.TheVariants.{NotNtfs, Geometry, VolumeLarge, Short, BadFixup, BadRecord, MftList, MftLarge, Version, LogVersion, NoRestart, ForeignLog, LogSmall, NoJournal, BadVolume, HasJournal, Unbuilt}
 use Rattle.image_dump.specs.Texts.{line}
 
 -- the line of a refusal: its number, its name and its values
@@ -20,8 +20,10 @@ refusal_line (Version major minor) = codes "refused 9 Version " ++ (decimal majo
 refusal_line (LogVersion major minor) = codes "refused 10 LogVersion " ++ (decimal major ++ (32 ∷ (decimal minor ++ 10 ∷ [])))
 refusal_line NoRestart = codes "refused 11 NoRestart\n"
 refusal_line (ForeignLog lsn) = codes "refused 12 ForeignLog " ++ decimal lsn ++ 10 ∷ []
+refusal_line (LogSmall pages needed) = codes "refused 13 LogSmall " ++ (decimal pages ++ (32 ∷ (decimal needed ++ 10 ∷ [])))
 refusal_line (NoJournal why) = codes "refused 14 NoJournal " ++ decimal why ++ 10 ∷ []
 refusal_line (BadVolume rule number) = codes "refused 15 BadVolume " ++ (decimal rule ++ (32 ∷ (decimal number ++ 10 ∷ [])))
+refusal_line HasJournal = codes "refused 16 HasJournal\n"
 refusal_line (Unbuilt rule) = codes "refused 17 Unbuilt " ++ decimal rule ++ 10 ∷ []
 
 -- formatted CLUSTERS ROOM

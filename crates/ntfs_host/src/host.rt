@@ -3,9 +3,8 @@ ghost use Rattle.std.specs.Prelude.{◌≡◌, ◌≢◌, ◌<◌, ◌⊎◌, No
 ghost use Rattle.std.specs.Io.KnownBytes.{Appends};
 ghost use Rattle.host_base.specs.Causes.{Rose, HasFailed, AppendsPart, last_moment};
 ghost use Rattle.script_text.specs.Scripts.{script_of};
-ghost use Rattle.upcase_order.specs.Tables.{standard_table};
 ghost use Rattle.ntfs_host.specs.Answers.{answer_of, IsReading, LeavesDevice, LeavesFront, LeavesRest, BeginsBy, SettlesBy, KeepsLeftBy, KeepsLeftUncalled};
-ghost use Rattle.small_image.specs.Mounts.{mounted_of};
+ghost use Rattle.image_read.specs.Mounts.{mounted_of};
 ghost use Rattle.ntfs_host.specs.Runs.{PrintsScript, PrintsScriptPart, IsRunStatus};
 ghost use Rattle.ntfs_host.specs.Scripts.{script_line, IsAccepted, IsReadWhole, LosesAtMost};
 ghost use Rattle.ntfs_host.specs.Text.{printed};
@@ -20,7 +19,7 @@ use crate::script_run::run_command;
 use crate::status::{DEVICE_FAULT, DONE, MEMORY, REFUSED, SINK_FAULT, USAGE, status_of};
 use command_line::{Command, LineFault, read_line};
 use host_base::{Gate, Sink, Source, write_all};
-use image_scan::MountFault;
+use image_open::MountFault;
 use sector_device::Device;
 use std::alloc::{AllocError, Global};
 use std::sync::Wait;
@@ -133,9 +132,11 @@ fn answer_into<K: Sink, D: Device>(
 /// long and the short ones. Both refuse what a scan refuses; then a version other than 3.1; and
 /// then a volume that breaks one of the nine rules under which it stands for a tree, by the first
 /// that is broken and the least number at which it is. They read what a scan reads; then the
-/// bitmaps, the table of upper-case units, each index and the change journal, each once. Their time
-/// is linear in what they read and near linear in the runs of all streams, which they sort; their
-/// memory grows with the file table and the bitmaps, and has room for the text twice.
+/// bitmaps, the table of upper-case units and the change journal, each once; each block of an index
+/// twice, for its names and for whether it is torn; and the records of the file table, and those of
+/// its mirror, for whether one is torn. Their time is linear in what they read and near linear in
+/// the runs of all streams, which they sort; their memory grows with the file table and the
+/// bitmaps, and has room for the text twice.
 ///
 /// `Journal` prints of each record of the change journal `USN N S P Q REASON ATTRS TIME NAME`, with
 /// the file's number and sequence and its directory's, the reason and the attributes in eight
@@ -275,6 +276,13 @@ fn write_usage<K: Sink>(sink: &mut K) -> u8
 /// runs the script that the source has left, from the time of `--time` on. `enable` and `gen` are
 /// no commands yet. `gate.pass` is called before each command of a script. The status is that of
 /// `Outcome`.
+///
+/// A run asks the tree that a check makes of the volume. It takes volumes with eight sectors a
+/// cluster: other sectors a cluster are refused by the boot sector's field at 13, in this field's
+/// place, and then it refuses what a check refuses. It reads what a check reads, once more the
+/// first sector, and the table of upper-case units, by which names are in order. Beside what a
+/// check takes it has the tree in memory, with maps of its nodes and names, in time near linear in
+/// these, and the text; a command asks these maps once or twice for each part of its path.
 #[tactic(auto, using(crate::proofs::Worded::quiet_is_not_run, crate::proofs::Losses::loses_none))]
 pub fn ntfs_host<R: Threads + Wait + Sync, S: Source, K: Sink, D: Device + Send, G: Gate + Sync>(
     rt: &R,
@@ -313,12 +321,12 @@ pub fn ntfs_host<R: Threads + Wait + Sync, S: Source, K: Sink, D: Device + Send,
     ensures run_whole { IsRun words.now → (result.status ≡ 4) ⊎ (result.status ≡ 7) → IsReadWhole (S.left source.old) (S.left source.new) }
     ensures run_sink { IsRun words.now → (sink.new ≡ sink.old) ⊎ IsReadWhole (S.left source.old) (S.left source.new) }
     ensures run_device { IsRun words.now → (result.device ≡ device) ⊎ IsAccepted (S.left source.old) (S.left source.new) }
-    ensures run_done { IfSome (run_in words.now) (λ time. result.status ≡ 0 → IfSome (S.left source.old) (λ bytes. IsOk (script_of bytes) × IfSome (D.gives device) (λ disk. IsOk (mounted_of standard_table disk) × PrintsScript (K.taken sink.old) (K.taken sink.new) disk time (D.fault_count result.device) (script_of bytes)))) }
-    ensures run_refused { IfSome (run_in words.now) (λ time. result.status ≡ 3 → IfSome (S.left source.old) (λ bytes. IsOk (script_of bytes) × IfSome (D.gives device) (λ disk. IsErr (mounted_of standard_table disk) × PrintsScript (K.taken sink.old) (K.taken sink.new) disk time (D.fault_count result.device) (script_of bytes)))) }
+    ensures run_done { IfSome (run_in words.now) (λ time. result.status ≡ 0 → IfSome (S.left source.old) (λ bytes. IsOk (script_of bytes) × IfSome (D.gives device) (λ disk. IsOk (mounted_of disk) × PrintsScript (K.taken sink.old) (K.taken sink.new) disk time (D.fault_count result.device) (script_of bytes)))) }
+    ensures run_refused { IfSome (run_in words.now) (λ time. result.status ≡ 3 → IfSome (S.left source.old) (λ bytes. IsOk (script_of bytes) × IfSome (D.gives device) (λ disk. IsErr (mounted_of disk) × PrintsScript (K.taken sink.old) (K.taken sink.new) disk time (D.fault_count result.device) (script_of bytes)))) }
     ensures no_script { result.status ≡ 4 → IfSome (S.left source.old) (λ bytes. IsErrAnd (script_of bytes) (λ fault. Appends (K.taken sink.old) (K.taken sink.new) (script_line fault))) }
     ensures run_memory { IfSome (run_in words.now) (λ time. result.status ≡ 6 → IfSome (S.left source.old) (λ bytes. IfSome (D.gives device) (λ disk. (K.taken sink.new ≡ K.taken sink.old) ⊎ PrintsScriptPart (K.taken sink.old) (K.taken sink.new) disk time (D.fault_count result.device) (script_of bytes)))) }
     ensures run_part { IfSome (run_in words.now) (λ time. result.status ≡ 7 → IfSome (S.left source.old) (λ bytes. IfSome (D.gives device) (λ disk. PrintsScriptPart (K.taken sink.old) (K.taken sink.new) disk time (D.fault_count result.device) (script_of bytes)))) }
-    ensures run_complete { IsRun words.now → IsSomeAnd (S.left source.old) (λ bytes. IsOk (script_of bytes)) → IsSomeAnd (D.gives device) (λ disk. IsOk (mounted_of standard_table disk)) → ¬ Rose (S.faults source.old) (S.faults source.new) → ¬ Rose (K.faults sink.old) (K.faults sink.new) → ¬ HasFailed (D.fault_count device) (D.fault_count result.device) (D.moment_of result.device) → (result.status ≡ 0) ⊎ (result.status ≡ 6) }
+    ensures run_complete { IsRun words.now → IsSomeAnd (S.left source.old) (λ bytes. IsOk (script_of bytes)) → IsSomeAnd (D.gives device) (λ disk. IsOk (mounted_of disk)) → ¬ Rose (S.faults source.old) (S.faults source.new) → ¬ Rose (K.faults sink.old) (K.faults sink.new) → ¬ HasFailed (D.fault_count device) (D.fault_count result.device) (D.moment_of result.device) → (result.status ≡ 0) ⊎ (result.status ≡ 6) }
 
     // Faults have their cause, none is passed over or answered by another status, and where the
     // source or the device failed nothing is written.

@@ -5,12 +5,12 @@
 //! journal, or of a run of the script, on what a read of the device gives, or the line of a format,
 //! after which a read gives the new volume; at 3 the line of the first refusal that applies; and
 //! each other status has its cause. The words are those of `command_line`. The text of a scan is a
-//! function of the long names of the volume (`image_scan`), those of a dump and a check are
-//! functions of the tree that it stands for (`image_check`), and that of a journal is one of its
-//! records (`image_journal`); they take each volume whose boot sector is in the profile, wherever
-//! its file table lies. A format writes the image that `volume_format` defines. A run takes volumes
-//! with clusters of one sector, a file table of one run and no attribute lists. The layouts are
-//! those of the Linux-NTFS documentation, "$Boot", "$MFT" and "FILE Record".
+//! function of the long names of the volume, those of a dump and a check are functions of the tree
+//! that it stands for, and that of a journal is one of its records (`image_read`); they take each
+//! volume whose boot sector is in the profile, wherever its file table lies. A format writes the
+//! image that `volume_format` defines. A run asks the checked tree of a volume with eight sectors a
+//! cluster, held in memory. The layouts are those of the Linux-NTFS documentation, "$Boot", "$MFT"
+//! and "FILE Record".
 #![tactic(auto)]
 
 mod answers;

@@ -9,7 +9,7 @@ ghost use Rattle.ntfs_host.specs.Text.{refusal_line};
 use crate::text::{refusal_line, script_line};
 use crate::write_error::WriteError;
 use host_base::{Sink, write_all};
-use image_scan::Refusal;
+use image_open::Refusal;
 use script_text::ScriptFault;
 use std::alloc::Global;
 

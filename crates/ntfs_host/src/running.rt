@@ -10,16 +10,18 @@ use std::sync::Wait;
 use std::thread::Threads;
 use tree_model::{Command, Lookup, Op, Script, What, answer};
 
-// The turn of an operation: its reply, and the counts of the device, which it doesn't call.
+// The turn of an operation: its reply, the journal's next USN, and the counts of the device, which
+// it doesn't call.
 fn turn_of<L: Lookup, D: Device>(
     alloc: Global,
     tree: &L,
+    next: u64,
     device: &D,
     serial: u64,
     command: &Command,
     op: &Op,
 ) -> Result<Turn, Memory>
-    ensures { IfOk result (λ turn. IsTurnOf (L.upper tree.now) (L.nodes tree.now) (L.links tree.now) (D.moment_of device.now) (D.fault_count device.now) serial command.now op.now turn) }
+    ensures { IfOk result (λ turn. IsTurnOf (L.upper tree.now) (L.nodes tree.now) (L.links tree.now) next (D.moment_of device.now) (D.fault_count device.now) serial command.now op.now turn) }
 {
     let op = op.clone()?;
     let reply = answer(alloc, tree, &op);
@@ -28,7 +30,7 @@ fn turn_of<L: Lookup, D: Device>(
         client: command.client,
         number: command.number,
         serial,
-        usn: 0,
+        usn: next,
         moment: device.moment(),
         faults_before: faults,
         faults_after: faults,
@@ -41,22 +43,24 @@ fn turn_of<L: Lookup, D: Device>(
 fn take_turn<L: Lookup, D: Device>(
     alloc: Global,
     tree: &L,
+    next: u64,
     device: &D,
     command: &Command,
     turns: &mut Vec<Turn>,
 ) -> Result<(), Memory>
-    ensures { OnOk result (Follows (L.upper tree.now) (L.nodes tree.now) (L.links tree.now) (D.moment_of device.now) (D.fault_count device.now) command.now command.now.what turns.old.items turns.new.items) }
+    ensures { OnOk result (Follows (L.upper tree.now) (L.nodes tree.now) (L.links tree.now) next (D.moment_of device.now) (D.fault_count device.now) command.now command.now.what turns.old.items turns.new.items) }
 {
     let What::Op(op) = &command.what else {
         return Ok(());
     };
     let serial = turns.len() as u64 + 1;
-    let turn = turn_of(alloc, tree, device, serial, command, op)?;
+    let turn = turn_of(alloc, tree, next, device, serial, command, op)?;
     turns.push(turn).map_err(|_| Memory)
 }
 
 /// The turns of a script's commands, one after the other in its order, on a tree that none of them
-/// changes. The turn with the serial k is at the time `time + k`, in units of 100 ns since
+/// changes, on a volume whose change journal's next record goes to the USN `next`, 0 where there is
+/// none. The turn with the serial k is at the time `time + k`, in units of 100 ns since
 /// 1601-01-01; no reply tells it, since no command sets a time. `gate.pass` is called before each
 /// command. A command that wants memory has that as its reply; the error is want of memory for the
 /// turns themselves. It takes one answer for each command.
@@ -64,17 +68,18 @@ pub fn serial_run<R: Threads + Wait, L: Lookup, D: Device, G: Gate>(
     rt: &R,
     alloc: Global,
     tree: &L,
+    next: u64,
     script: &Script,
     time: u64,
     device: &D,
     gate: &G,
 ) -> Result<Vec<Turn>, Memory>
-    ensures { IfOk result (λ turns. IsRunOf (L.upper tree.now) (L.nodes tree.now) (L.links tree.now) script.now time (D.fault_count device.now) turns.items) }
+    ensures { IfOk result (λ turns. IsRunOf (L.upper tree.now) (L.nodes tree.now) (L.links tree.now) next script.now time (D.fault_count device.now) turns.items) }
 {
     let mut turns: Vec<Turn> = Vec::new(alloc);
     for command in script.as_slice() {
         gate.pass(rt, command.client, command.number);
-        take_turn(alloc, tree, device, command, &mut turns)?;
+        take_turn(alloc, tree, next, device, command, &mut turns)?;
     }
     Ok(turns)
 }

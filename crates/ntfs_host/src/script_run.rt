@@ -1,11 +1,11 @@
 //! The run of a script on a volume.
-ghost use Rattle.std.specs.Prelude.{◌≡◌, ◌≢◌, ◌⊎◌, ◌≤◌, IfSome, IsOk, IsErr, IsErrAnd, IfOk, string_bytes, [], Ok};
+ghost use Rattle.std.specs.Prelude.{◌≡◌, ◌≢◌, ◌⊎◌, ◌<◌, ◌≤◌, IfSome, IsOk, IsErr, IsErrAnd, IfOk, string_bytes, [], Ok};
 ghost use Rattle.std.specs.Io.KnownBytes.{Appends};
-ghost use Rattle.host_base.specs.Causes.{Rose, HasFailed, AppendsPart};
+ghost use Rattle.host_base.specs.Causes.{Rose, HasFailed, AppendsPart, last_moment};
 ghost use Rattle.script_text.specs.Scripts.{script_of};
+ghost use Rattle.run_model.specs.Runs.{next_of};
 ghost use Rattle.run_model.specs.Texts.{IsRunText};
-ghost use Rattle.upcase_order.specs.Tables.{standard_table};
-ghost use Rattle.small_image.specs.Mounts.{mounted_of};
+ghost use Rattle.image_read.specs.Mounts.{mounted_of};
 ghost use Rattle.ntfs_host.specs.Scripts.{script_line, IsAccepted, IsReadWhole, LosesAtMost};
 ghost use Rattle.ntfs_host.specs.Runs.{IsPrintedRun, PrintsVolume, PrintsVolumePart, PrintsScript, PrintsScriptPart, IsRunStatus};
 ghost use Rattle.ntfs_host.specs.Statuses.{IsQuietStatus};
@@ -17,18 +17,17 @@ use crate::scripts::{ScriptError, read_script};
 use crate::status::{
     DEVICE_FAULT, DONE, MEMORY, NO_SCRIPT, REFUSED, SINK_FAULT, SOURCE_FAULT, status_of,
 };
-use file_record::FileRec;
+use file_tree::Journal;
 use host_base::{Gate, Memory, Sink, Source};
-use image_scan::MountFault;
-use record_tree::RecordTree;
+use image_open::MountFault;
+use image_read::{Mounted, mount_image};
 use run_model::Turn;
 use sector_device::Device;
-use small_image::mount;
 use std::alloc::Global;
 use std::sync::Wait;
 use std::thread::Threads;
+use tree_index::TreeIndex;
 use tree_model::Script;
-use upcase_order::Upcase;
 
 // The printed text of turns.
 fn text_of(alloc: Global, turns: &[Turn]) -> Result<String, Memory>
@@ -39,22 +38,32 @@ fn text_of(alloc: Global, turns: &[Turn]) -> Result<String, Memory>
     Ok(text)
 }
 
-// The printed text of the run of a script on the tree of these records.
+// Where the journal's next record goes, 0 without a journal.
+fn next_of(journal: &Option<Journal>) -> u64
+    ensures { result ≡ next_of journal.now }
+{
+    match journal {
+        Some(journal) => journal.next,
+        None => 0,
+    }
+}
+
+// The printed text of the run of a script on the tree of a mounted volume.
 fn run_text<R: Threads + Wait, D: Device, G: Gate>(
     rt: &R,
     alloc: Global,
-    upper: &[u16],
-    records: &[Option<FileRec>],
+    volume: Mounted,
     script: &Script,
     time: u64,
     device: &D,
     gate: &G,
 ) -> Result<String, Memory>
-    requires { upper.now ≡ standard_table }
-    ensures { IfOk result (λ text. IsPrintedRun records.now script.now time (D.fault_count device.now) (string_bytes text)) }
+    ensures { IfOk result (λ text. IsPrintedRun volume script.now time (D.fault_count device.now) (string_bytes text)) }
 {
-    let tree = RecordTree::new(alloc, upper.to_vec(alloc)?, records)?;
-    let turns = serial_run(rt, alloc, &tree, script, time, device, gate)?;
+    let Mounted { upper, tree } = volume;
+    let next = next_of(&tree.journal);
+    let tree = TreeIndex::new(alloc, upper.as_slice().to_vec(alloc)?, tree)?;
+    let turns = serial_run(rt, alloc, &tree, next, script, time, device, gate)?;
     text_of(alloc, &turns)
 }
 
@@ -62,24 +71,22 @@ fn run_text<R: Threads + Wait, D: Device, G: Gate>(
 fn print_run<R: Threads + Wait, K: Sink, D: Device, G: Gate>(
     rt: &R,
     alloc: Global,
-    upper: &[u16],
-    records: &[Option<FileRec>],
+    volume: Mounted,
     script: &Script,
     time: u64,
     sink: &mut K,
     device: &D,
     gate: &G,
 ) -> u8
-    requires { upper.now ≡ standard_table }
     ensures status { (result ≡ 0) ⊎ (result ≡ 6) ⊎ (result ≡ 7) }
-    ensures done { result ≡ 0 → PrintsVolume (K.taken sink.old) (K.taken sink.new) (Ok records.now) script.now time (D.fault_count device.now) }
+    ensures done { result ≡ 0 → PrintsVolume (K.taken sink.old) (K.taken sink.new) (Ok volume) script.now time (D.fault_count device.now) }
     ensures memory { result ≡ 6 → K.taken sink.new ≡ K.taken sink.old }
-    ensures part { result ≡ 7 → PrintsVolumePart (K.taken sink.old) (K.taken sink.new) (Ok records.now) script.now time (D.fault_count device.now) }
+    ensures part { result ≡ 7 → PrintsVolumePart (K.taken sink.old) (K.taken sink.new) (Ok volume) script.now time (D.fault_count device.now) }
     ensures failed { result ≡ 7 → Rose (K.faults sink.old) (K.faults sink.new) }
     ensures counted { result ≢ 7 → K.faults sink.new ≡ K.faults sink.old }
     ensures later { K.faults sink.old ≤ K.faults sink.new }
 {
-    let text = match run_text(rt, alloc, upper, records, script, time, device, gate) {
+    let text = match run_text(rt, alloc, volume, script, time, device, gate) {
         Ok(text) => text,
         Err(Memory) => return MEMORY,
     };
@@ -100,27 +107,22 @@ fn run_mounted<R: Threads + Wait, K: Sink, D: Device, G: Gate>(
     gate: &G,
 ) -> u8
     ensures status { IsQuietStatus result }
-    ensures done { result ≡ 0 → IfSome (D.gives device.old) (λ disk. IsOk (mounted_of standard_table disk) × PrintsVolume (K.taken sink.old) (K.taken sink.new) (mounted_of standard_table disk) script.now time (D.fault_count device.new)) }
-    ensures refused { result ≡ 3 → IfSome (D.gives device.old) (λ disk. IsErr (mounted_of standard_table disk) × PrintsVolume (K.taken sink.old) (K.taken sink.new) (mounted_of standard_table disk) script.now time (D.fault_count device.new)) }
-    ensures memory { result ≡ 6 → IfSome (D.gives device.old) (λ disk. (K.taken sink.new ≡ K.taken sink.old) ⊎ PrintsVolumePart (K.taken sink.old) (K.taken sink.new) (mounted_of standard_table disk) script.now time (D.fault_count device.new)) }
-    ensures part { result ≡ 7 → IfSome (D.gives device.old) (λ disk. PrintsVolumePart (K.taken sink.old) (K.taken sink.new) (mounted_of standard_table disk) script.now time (D.fault_count device.new)) }
+    ensures done { result ≡ 0 → IfSome (D.gives device.old) (λ disk. IsOk (mounted_of disk) × PrintsVolume (K.taken sink.old) (K.taken sink.new) (mounted_of disk) script.now time (D.fault_count device.new)) }
+    ensures refused { result ≡ 3 → IfSome (D.gives device.old) (λ disk. IsErr (mounted_of disk) × PrintsVolume (K.taken sink.old) (K.taken sink.new) (mounted_of disk) script.now time (D.fault_count device.new)) }
+    ensures memory { result ≡ 6 → IfSome (D.gives device.old) (λ disk. (K.taken sink.new ≡ K.taken sink.old) ⊎ PrintsVolumePart (K.taken sink.old) (K.taken sink.new) (mounted_of disk) script.now time (D.fault_count device.new)) }
+    ensures part { result ≡ 7 → IfSome (D.gives device.old) (λ disk. PrintsVolumePart (K.taken sink.old) (K.taken sink.new) (mounted_of disk) script.now time (D.fault_count device.new)) }
     ensures sink_failed { result ≡ 7 → Rose (K.faults sink.old) (K.faults sink.new) }
     ensures sink_counted { result ≢ 7 → K.faults sink.new ≡ K.faults sink.old }
     ensures device_failed { result ≡ 8 → HasFailed (D.fault_count device.old) (D.fault_count device.new) (D.moment_of device.new) }
-    ensures device_counted { result ≢ 8 → D.fault_count device.new ≡ D.fault_count device.old }
+    ensures device_counted { D.moment_of device.old < last_moment → result ≢ 8 → D.fault_count device.new ≡ D.fault_count device.old }
     ensures silent { result ≡ 8 → K.taken sink.new ≡ K.taken sink.old }
     ensures gives { D.gives device.new ≡ D.gives device.old }
     ensures only_read { D.changes_of device.new ≡ D.changes_of device.old }
     ensures sectors { D.sector_count device.new ≡ D.sector_count device.old }
     ensures later { D.fault_count device.old ≤ D.fault_count device.new }
 {
-    let standard = match Upcase::standard(alloc) {
-        Ok(standard) => standard,
-        Err(Memory) => return MEMORY,
-    };
-    let upper = standard.as_slice();
-    match mount(alloc, upper, device) {
-        Ok(records) => print_run(rt, alloc, upper, &records, script, time, sink, device, gate),
+    match mount_image(alloc, device) {
+        Ok(volume) => print_run(rt, alloc, volume, script, time, sink, device, gate),
         Err(MountFault::Refused(refusal)) => status_of(
             write_refusal(alloc, sink, refusal),
             REFUSED,
@@ -133,9 +135,13 @@ fn run_mounted<R: Threads + Wait, K: Sink, D: Device, G: Gate>(
 /// Reads the script of the source and runs it on the volume of the device; its text, or the line of
 /// what refuses the script or the volume, goes to the sink. The answer is the status.
 ///
-/// The whole source is read first, then the volume is mounted, then the commands have their turns,
-/// from the time `time` on, in units of 100 ns since 1601-01-01, and then the text is written, a
-/// line at a time. So a refusal or a failure of the device comes only of a script that is accepted,
+/// The whole source is read first, then the volume is mounted, then the commands have their turns
+/// on its tree, which is held in memory, from the time `time` on, in units of 100 ns since
+/// 1601-01-01, and then the text is written, a line at a time. The volume is one of eight sectors a
+/// cluster that a check doesn't refuse, and names are in order by its own table of upper-case units.
+/// Mounting it reads what a check reads, and costs as much; the tree is then held for all commands,
+/// with maps of its nodes and names, in time near linear in these, and each command asks these maps.
+/// So a refusal or a failure of the device comes only of a script that is accepted,
 /// without one the device isn't called, and the sink isn't before the source was read to its end.
 /// The device is only read.
 pub fn run_command<R: Threads + Wait, S: Source, K: Sink, D: Device, G: Gate>(
@@ -154,8 +160,8 @@ pub fn run_command<R: Threads + Wait, S: Source, K: Sink, D: Device, G: Gate>(
     ensures device_after { (device.new ≡ device.old) ⊎ IsAccepted (S.left source.old) (S.left source.new) }
     ensures most_read { LosesAtMost 16777217 (S.left source.old) (S.left source.new) }
     ensures untouched { (result ≡ 4) ⊎ (result ≡ 5) → device.new ≡ device.old }
-    ensures done { result ≡ 0 → IfSome (S.left source.old) (λ bytes. IsOk (script_of bytes) × IfSome (D.gives device.old) (λ disk. IsOk (mounted_of standard_table disk) × PrintsScript (K.taken sink.old) (K.taken sink.new) disk time (D.fault_count device.new) (script_of bytes))) }
-    ensures refused { result ≡ 3 → IfSome (S.left source.old) (λ bytes. IsOk (script_of bytes) × IfSome (D.gives device.old) (λ disk. IsErr (mounted_of standard_table disk) × PrintsScript (K.taken sink.old) (K.taken sink.new) disk time (D.fault_count device.new) (script_of bytes))) }
+    ensures done { result ≡ 0 → IfSome (S.left source.old) (λ bytes. IsOk (script_of bytes) × IfSome (D.gives device.old) (λ disk. IsOk (mounted_of disk) × PrintsScript (K.taken sink.old) (K.taken sink.new) disk time (D.fault_count device.new) (script_of bytes))) }
+    ensures refused { result ≡ 3 → IfSome (S.left source.old) (λ bytes. IsOk (script_of bytes) × IfSome (D.gives device.old) (λ disk. IsErr (mounted_of disk) × PrintsScript (K.taken sink.old) (K.taken sink.new) disk time (D.fault_count device.new) (script_of bytes))) }
     ensures no_script { result ≡ 4 → IfSome (S.left source.old) (λ bytes. IsErrAnd (script_of bytes) (λ fault. Appends (K.taken sink.old) (K.taken sink.new) (script_line fault))) }
     ensures source_failed { result ≡ 5 → Rose (S.faults source.old) (S.faults source.new) }
     ensures source_counted { result ≢ 5 → S.faults source.new ≡ S.faults source.old }
@@ -164,7 +170,7 @@ pub fn run_command<R: Threads + Wait, S: Source, K: Sink, D: Device, G: Gate>(
     ensures sink_failed { result ≡ 7 → Rose (K.faults sink.old) (K.faults sink.new) }
     ensures sink_counted { result ≢ 7 → K.faults sink.new ≡ K.faults sink.old }
     ensures device_failed { result ≡ 8 → HasFailed (D.fault_count device.old) (D.fault_count device.new) (D.moment_of device.new) }
-    ensures device_counted { result ≢ 8 → D.fault_count device.new ≡ D.fault_count device.old }
+    ensures device_counted { D.moment_of device.old < last_moment → result ≢ 8 → D.fault_count device.new ≡ D.fault_count device.old }
     ensures silent { (result ≡ 5) ⊎ (result ≡ 8) → K.taken sink.new ≡ K.taken sink.old }
     ensures gives { D.gives device.new ≡ D.gives device.old }
     ensures only_read { D.changes_of device.new ≡ D.changes_of device.old }

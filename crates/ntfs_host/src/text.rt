@@ -3,7 +3,7 @@ ghost use Rattle.std.specs.Prelude.{◌≡◌, IfOk, string_bytes};
 ghost use Rattle.ntfs_host.specs.Scripts.{script_line};
 ghost use Rattle.ntfs_host.specs.Text.{refusal_line, formatted_line};
 
-use image_scan::Refusal;
+use image_open::Refusal;
 use script_text::ScriptFault;
 use std::alloc::{AllocError, Global};
 use volume_format::Formatted;
@@ -38,10 +38,14 @@ pub fn refusal_line(alloc: Global, refusal: Refusal) -> Result<String, AllocErro
         }
         Refusal::NoRestart => String::from_str(alloc, "refused 11 NoRestart\n"),
         Refusal::ForeignLog { lsn } => format!(in alloc; "refused 12 ForeignLog {lsn}\n"),
+        Refusal::LogSmall { pages, needed } => {
+            format!(in alloc; "refused 13 LogSmall {pages} {needed}\n")
+        }
         Refusal::NoJournal { why } => format!(in alloc; "refused 14 NoJournal {why}\n"),
         Refusal::BadVolume { rule, number } => {
             format!(in alloc; "refused 15 BadVolume {rule} {number}\n")
         }
+        Refusal::HasJournal => String::from_str(alloc, "refused 16 HasJournal\n"),
         Refusal::Unbuilt { rule } => format!(in alloc; "refused 17 Unbuilt {rule}\n"),
     }
 }

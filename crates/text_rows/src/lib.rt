@@ -1,6 +1,6 @@
 //! Rows of inputs and answers of texts: scripts and command lines that are read, what the plain
-//! step answers to a script's commands, and what is printed of a run and of an image. The crate
-//! has tests and what they share, and no more.
+//! step and a tree with maps answer to a script's commands, and what is printed of a run and of an
+//! image. The crate has tests and what they share, and no more.
 #![tactic(auto)]
 
 #[cfg(test)]

@@ -1,9 +1,10 @@
-//! What the plain step answers on a small tree, which stays as it was.
+//! What the plain step answers on a small tree, which stays as it was; and the same by its maps.
 use std::alloc::Global;
 use std::test::Fail;
+use tree_index::TreeIndex;
 use tree_model::{
     Bytes, FileRef, FileRefList, Kind, Link, LinkList, Name, NameList, Node, NodeList, Op, Path,
-    Reply, Tree, Units, step,
+    Reply, Tree, Units, answer, step,
 };
 use upcase_order::Upcase;
 
@@ -19,21 +20,23 @@ enum Answer {
 }
 
 // A file is asked for where a file answers, and a directory's names elsewhere.
-static ROWS: [Row; 3] = [
+static ROWS: [Row; 5] = [
     Row(&["B~1"], 1, Answer::File(24, 1, 7)),
     Row(&[], 2, Answer::Names("Ab")),
     Row(&["a", "x"], 3, Answer::NotDirectory(1)),
+    Row(&["a"], 4, Answer::File(25, 1, 7)),
+    Row(&["b~1"], 5, Answer::File(24, 1, 7)),
 ];
 
-fn node(alloc: Global, number: u64, kind: Kind) -> Node {
+fn node(alloc: Global, number: u64, kind: Kind, size: u64) -> Node {
     Node {
         number,
         seq: 1,
         kind,
         why: None,
         held: false,
-        size: 7,
-        valid: 7,
+        size,
+        valid: size,
         clusters: 0,
         bytes: Bytes::new(alloc),
         flags: 0,
@@ -54,11 +57,17 @@ fn link(alloc: Global, number: u64, name: &str, space: u8) -> Result<Link, Fail>
     })
 }
 
-// A root with two files, one of them with a short name too.
+// A root with two files, one of them with a short name too; behind them stands a number again, by
+// which none is found.
 fn tree(alloc: Global) -> Result<Tree, Fail> {
     let mut nodes = NodeList::new(alloc);
-    for (number, kind) in [(5, Kind::Directory), (24, Kind::File), (25, Kind::Fixed)] {
-        nodes.push(node(alloc, number, kind))?;
+    for (number, kind, size) in [
+        (5, Kind::Directory, 7),
+        (24, Kind::File, 7),
+        (25, Kind::Fixed, 7),
+        (24, Kind::Fixed, 9),
+    ] {
+        nodes.push(node(alloc, number, kind, size))?;
     }
     let mut links = LinkList::new(alloc);
     for (number, name, space) in [(24, "b", 1), (24, "B~1", 2), (25, "A", 0)] {
@@ -119,12 +128,15 @@ fn is_reply(alloc: Global, reply: &Reply, answer: &Answer) -> Result<bool, Fail>
 fn is_as_wanted(alloc: Global, upper: &Upcase, row: &Row) -> Result<bool, Fail> {
     let tree = tree(alloc)?;
     let stamp = u64::from(row.1);
-    let (after, reply) = step(alloc, &tree, upper.as_slice(), &op(alloc, row)?, stamp)?;
-    Ok(after.count == 64 && is_reply(alloc, &reply, &row.2)?)
+    let op = op(alloc, row)?;
+    let (after, reply) = step(alloc, &tree, upper.as_slice(), &op, stamp)?;
+    let is_same = after.count == 64 && is_reply(alloc, &reply, &row.2)?;
+    let index = TreeIndex::new(alloc, upper.as_slice().to_vec(alloc)?, after)?;
+    Ok(is_same && is_reply(alloc, &answer(alloc, &index, &op), &row.2)?)
 }
 
 #[test]
-fn the_plain_step_answers(rt: HostRuntime) -> Result<(), Fail> {
+fn the_plain_step_and_the_maps_answer(rt: HostRuntime) -> Result<(), Fail> {
     let alloc = rt.alloc();
     let upper = Upcase::standard(alloc)?;
     for (i, row) in ROWS.iter().enumerate() {

@@ -2,10 +2,9 @@ use Rattle.std.proofs.Common.{Global, Ok}
 use Rattle.std.specs.Prelude.{String, string_bytes}
 use Rattle.std.proofs.lemmas.Result.{err_from_is_err_and}
 use Rattle.image_dump.specs.Texts.{journal_text}
-use Rattle.image_journal.specs.declared.reading.ReadJournal.{ReadJournal}
-use Rattle.image_journal.specs.Records.{journal_of}
-use Rattle.ntfs_host.proofs.Answering.{text_is}
-use Rattle.small_image.proofs.Steps.{fails_first}
+use Rattle.image_read.specs.declared.reading.ReadJournal.{ReadJournal}
+use Rattle.image_read.specs.Records.{journal_of}
+use Rattle.ntfs_host.proofs.Answering.{fails_first, text_is}
 use Rattle.ntfs_host.proofs.answers.journal_answer.Goals as goal
 
 pub returns-in_err-journal-clause-answer : goal.returns-in_err-journal-clause-answer

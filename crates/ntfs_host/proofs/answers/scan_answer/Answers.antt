@@ -2,10 +2,9 @@ use Rattle.std.proofs.Common.{Vec, Global, Ok, ◌∙◌, ap}
 use Rattle.std.specs.Prelude.{String, string_bytes}
 use Rattle.std.proofs.lemmas.Result.{err_from_is_err_and}
 use Rattle.file_tree.specs.declared.link.Link.{Link}
-use Rattle.image_scan.specs.Scans.{scan_of}
+use Rattle.image_read.specs.Scans.{scan_of}
 use Rattle.image_dump.specs.Texts.{scan_text}
-use Rattle.ntfs_host.proofs.Answering.{text_is}
-use Rattle.small_image.proofs.Steps.{fails_first}
+use Rattle.ntfs_host.proofs.Answering.{fails_first, text_is}
 use Rattle.ntfs_host.proofs.answers.scan_answer.Goals as goal
 
 pub returns-in_err-links-clause-answer : goal.returns-in_err-links-clause-answer

@@ -2,7 +2,7 @@ use Rattle.ntfs_host.proofs.RunSteps.{one_more, none_yet}
 use Rattle.ntfs_host.proofs.running.serial_run.Goals as goal
 
 pub loop-command-init : goal.loop-command-init
-loop-command-init g c = rw c.new-turns.ensures.items (none_yet _ _ _ _ _ _ _)
+loop-command-init g c = rw c.new-turns.ensures.items (none_yet _ _ _ _ _ _ _ _)
 
 pub loop-command-preserved : goal.loop-command-preserved
-loop-command-preserved g c = one_more _ _ _ _ _ _ _ c.loop-command.command-index c.command-item.result c.loop-command.turns.items c.take_turn.new.turns.items c.loop-command-test.true c.command-item.is c.loop-command.invariant c.in_ok-take_turn.ensures
+loop-command-preserved g c = one_more _ _ _ _ _ _ _ _ c.loop-command.command-index c.command-item.result c.loop-command.turns.items c.take_turn.new.turns.items c.loop-command-test.true c.command-item.is c.loop-command.invariant c.in_ok-take_turn.ensures

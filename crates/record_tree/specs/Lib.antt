@@ -1,3 +1,0 @@
-pub mod Holding
-pub mod Places
-pub mod Lookups

@@ -1,5 +1,0 @@
-pub mod Chunks
-pub mod Noting
-pub mod Standing
-pub mod Steps
-pub mod LoadSteps
