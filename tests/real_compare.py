@@ -2,10 +2,12 @@
 
 Each volume that is scanned is checked too: the numbers of nodes and links must be those that the dump prints, and the free clusters
 those of `ntfsinfo`. Of the dump the sequence, the number of links and the four times of a record, and the size and the initialised size
-of its unnamed data, must be those of `istat`; records are taken by samples where there are many.
+of its unnamed data, must be those of `istat`; records are taken by samples where there are many. Where a cluster has eight sectors,
+scripts list the directories and ask for the nodes.
 """
 from real_peers import free_clusters, peer_names, peer_node, runs_of
 from real_printed import program_names, program_tree
+from real_scripts import compare_scripts
 
 # From 1601 to 1970, in units of 100 ns.
 EPOCH = 116444736000000000
@@ -65,6 +67,8 @@ def compare_names(count, what, image, cluster):
     ] if some]
     count.say(what, faults, f"{len(own)} names, the file table in {runs_of(image, 0, cluster)} runs")
     compare_tree(count, what, image)
+    if cluster == 4096:
+        compare_scripts(count, what, image, peer)
 
 
 def compare_refusal(count, what, image, line):
