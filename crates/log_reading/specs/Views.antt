@@ -18,14 +18,6 @@ NeverForeign (ForeignLog lsn) = ⊥
 NeverForeign Fault = ⊤
 NeverForeign Memory = ⊤
 
--- it is no refusal but of an entry
-abbrev pub IsOfEntry : RecoveryFault → Type 0
-IsOfEntry (LogVersion major minor) = ⊥
-IsOfEntry NoRestart = ⊥
-IsOfEntry (ForeignLog lsn) = ⊤
-IsOfEntry Fault = ⊤
-IsOfEntry Memory = ⊤
-
 -- where an error of a call comes from
 abbrev pub recovery_cause : RecoveryFault → Cause RecoveryFault
 recovery_cause (LogVersion major minor) = refused (LogVersion major minor)

@@ -1,5 +1,5 @@
 -- What each record in use of a file table stands for by itself: a file, its names, its standard information.
-use Rattle.std.specs.Prelude.{ℕ, ◌/◌, ◌%◌, Bool, ◌&&◌, ◌||◌, ◌==◌, if◌then◌else◌, List, [], length, find, Option, Some, None, Result, Ok, Err}
+use Rattle.std.specs.Prelude.{ℕ, ◌/◌, ◌%◌, Bool, ◌&&◌, ◌==◌, if◌then◌else◌, List, [], find, Option, Some, None, Result, Ok, Err}
 use Rattle.std.specs.List.{list_any, filter_map}
 use Rattle.host_base.specs.declared.file_ref.FileRef.{FileRef}
 use Rattle.record_model.specs.declared.attribute.OwnForm.{OwnForm}
@@ -10,7 +10,7 @@ use Rattle.record_model.specs.declared.values.FileNameValue.{FileNameValue}
 use Rattle.record_model.specs.declared.values.ValueFault.{ValueFault}
 use Rattle.record_model.specs.StdValues.{std_info_of, file_name_of}
 use Rattle.record_model.specs.Records.{Record}
-use Rattle.record_model.specs.Constants.{standard_information, attribute_list, file_name, data_type, reparse_point}
+use Rattle.record_model.specs.Constants.{standard_information, file_name}
 use Rattle.file_tree.specs.declared.link.Link.{Link}
 use Rattle.file_tree.specs.declared.node.Why.{Why}
 use Rattle.file_tree.specs.declared.node.Why.TheVariants.{List as has_list, Reparse, Encrypted, Compressed, Sparse}
@@ -88,26 +88,6 @@ attr_info (Some a) = form_info a.form
 unfoldable pub info_of : Record → StdInfo
 info_of r = attr_info (find (λ (a : Attr). a.head.kind == standard_information) r.attrs)
 
-abbrev pub is_unnamed_data : Attr → Bool
-is_unnamed_data a = a.head.kind == data_type && length a.name == 0
-
--- the unnamed data of a record
-unfoldable pub data_of : Record → Option Attr
-data_of r = find is_unnamed_data r.attrs
-
-abbrev pub attr_flags : Option Attr → ℕ
-attr_flags None = 0
-attr_flags (Some a) = a.head.flags
-
-abbrev pub form_bytes : OwnForm → List ℕ
-form_bytes (Resident value indexed) = value
-form_bytes (Mapped sizes pairs) = []
-
--- the bytes that stand in the record; those in clusters aren't handled yet
-abbrev pub attr_bytes : Option Attr → List ℕ
-attr_bytes None = []
-attr_bytes (Some a) = form_bytes a.form
-
 -- ---- what keeps a file from being read or changed
 
 -- the flags of the unnamed data: 4000 encrypted, 0001 compressed, 8000 sparse
@@ -124,14 +104,3 @@ is_sparse flags = flags / 0x8000 % 2 == 1
 unfoldable pub why_by : Bool → Bool → ℕ → Option Why
 why_by listed reparse flags =
     if listed then Some has_list else if reparse then Some Reparse else if is_encrypted flags then Some Encrypted else if is_compressed flags then Some Compressed else if is_sparse flags then Some Sparse else None
-
-unfoldable pub why_of : Record → Option Why
-why_of r = why_by (has_type attribute_list r) (has_type reparse_point r) (attr_flags (data_of r))
-
--- its bytes aren't read
-unfoldable pub is_opaque : Record → Bool
-is_opaque r = has_type reparse_point r || is_encrypted (attr_flags (data_of r)) || is_compressed (attr_flags (data_of r))
-
--- its bytes aren't changed
-unfoldable pub is_fixed : Record → Bool
-is_fixed r = has_type attribute_list r || is_sparse (attr_flags (data_of r))

@@ -5,4 +5,3 @@ pub mod Trees
 pub mod Rules
 pub mod Streams
 pub mod Loads
-pub mod Laws

@@ -1,5 +1,5 @@
 -- The records in use of a volume's file table, with the attributes that their lists name, or what refuses them.
-use Rattle.std.specs.Prelude.{ℕ, zero, suc, ◌+◌, ◌*◌, ◌/◌, ◌%◌, ◌^◌, Bool, true, false, not, ◌&&◌, ◌||◌, ◌==◌, nat_le, nat_lt, nat_eq, if◌then◌else◌, List, [], ◌∷◌, ◌++◌, length, map, filter, find, slice_index_or, Option, Some, None, Result, Ok, Err}
+use Rattle.std.specs.Prelude.{ℕ, zero, suc, ◌+◌, ◌*◌, ◌/◌, ◌%◌, ◌^◌, Bool, true, false, not, ◌&&◌, ◌||◌, ◌==◌, nat_le, nat_eq, if◌then◌else◌, List, [], ◌∷◌, ◌++◌, map, filter, find, slice_index_or, Option, Some, None, Result, Ok, Err}
 use Rattle.std.specs.List.{list_all, list_any, flat_map, range_with_len}
 use Rattle.std.specs.Cmp.Lexicographic.{pointwise}
 use Rattle.host_base.specs.Answers.{◌>>=◌, needs}
@@ -25,7 +25,7 @@ use Rattle.state_model.specs.declared.geometry.MapRefusal.TheVariants.{BadFixup,
 use Rattle.state_model.specs.declared.stream.Extents.{Extents}
 use Rattle.state_model.specs.declared.stream.Stream.{Stream}
 use Rattle.state_model.specs.declared.stream.Stream.TheVariants.{Held, Placed}
-use Rattle.state_model.specs.Files.{Table, file_at, reference, is_base_record, is_directory_record, has_type}
+use Rattle.state_model.specs.Files.{Table, file_at, reference, is_directory_record, has_type}
 use Rattle.state_model.specs.Streams.{first_vcn, stream_of, stream_bytes, block_at, has_cut_block}
 
 -- ---- one record

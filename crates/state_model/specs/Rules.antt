@@ -1,20 +1,17 @@
 -- The rules under which a file table stands for a tree, each a test at the number of a record.
-use Rattle.std.specs.Prelude.{◌≡◌, ℕ, zero, suc, ◌+◌, Bool, true, false, not, ◌&&◌, ◌||◌, ◌==◌, nat_le, nat_eq, if◌then◌else◌, List, [], ◌∷◌, length, count_by, find, Option, Some, None, Result, Ok, Err}
+use Rattle.std.specs.Prelude.{ℕ, zero, suc, ◌+◌, Bool, true, false, not, ◌&&◌, ◌||◌, ◌==◌, nat_le, nat_eq, List, [], ◌∷◌, length, count_by, find, Option, Some, None}
 use Rattle.std.specs.List.{list_all, list_any, range_with_len}
 use Rattle.std.specs.Cmp.Lexicographic.{pointwise}
 use Rattle.host_base.specs.declared.file_ref.FileRef.{FileRef}
 use Rattle.host_base.specs.FileRefs.{same_reference}
-use Rattle.record_model.specs.declared.entry.Entry.{Entry}
 use Rattle.record_model.specs.Records.{Record}
 use Rattle.record_model.specs.Constants.{standard_information}
 use Rattle.file_tree.specs.declared.link.Link.{Link}
-use Rattle.file_tree.specs.declared.tree.Tree.{Tree}
 use Rattle.file_tree.specs.Names.{comes_before}
 use Rattle.file_tree.specs.Trees.{win32_space, is_short, is_long}
 use Rattle.state_model.specs.declared.broken.Broken.{Broken}
-use Rattle.state_model.specs.Files.{Table, file_at, links_at, record_links, reference, is_directory_record, has_type}
-use Rattle.state_model.specs.Indexes.{index_of, entry_links}
-use Rattle.state_model.specs.Trees.{leads, first_user_record, tree_of}
+use Rattle.state_model.specs.Files.{Table, file_at, links_at, record_links, is_directory_record, has_type}
+use Rattle.state_model.specs.Trees.{leads, first_user_record}
 
 abbrev pub implies : Bool → Bool → Bool
 implies a b = not a || b
@@ -99,27 +96,12 @@ is_name_in p directory l = same_reference l.parent directory && list_any (same_l
 unfoldable pub is_index : List ℕ → Table → ℕ → FileRef → List Link → Bool
 is_index upper p count directory links = is_rising upper links && list_all (is_name_in p directory) links && length links == names_in p directory count
 
-abbrev pub are_index : List ℕ → Table → ℕ → FileRef → Result (List Entry) ℕ → Bool
-are_index upper p count directory (Ok entries) = is_index upper p count directory (entry_links entries)
-are_index upper p count directory (Err rule) = false
-
-unfoldable pub keeps_3 : List ℕ → Table → ℕ → ℕ → Bool
-keeps_3 upper p count n = at_file (λ r. implies (is_directory_record r) (are_index upper p count (reference n r) (index_of r))) (file_at p n)
-
 -- ---- rule 8: each directory's way up
 
 unfoldable pub keeps_8 : Table → ℕ → ℕ → Bool
 keeps_8 p count n = at_file (λ r. implies (is_directory_record r) (leads p count n)) (file_at p n)
 
--- ---- all rules that are tried
-
-unfoldable pub keeps : List ℕ → Table → ℕ → ℕ → ℕ → Bool
-keeps upper p count rule n =
-    if rule == 1 then keeps_1 p n
-    else if rule == 2 then keeps_2 p n
-    else if rule == 3 then keeps_3 upper p count n
-    else if rule == 8 then keeps_8 p count n
-    else true
+-- ---- what is broken first
 
 abbrev pub broken_or : ℕ → Option ℕ → Option Broken → Option Broken
 broken_or rule (Some n) next = Some (record { rule = rule; number = n })
@@ -128,21 +110,3 @@ broken_or rule None next = next
 -- the least number below the count at which the test fails
 unfoldable pub first_failing : (ℕ → Bool) → ℕ → Option ℕ
 first_failing test count = find (λ n. not (test n)) (range_with_len 0 count)
-
--- the first of these rules that is broken, with its least number
-abbrev pub first_broken : List ℕ → Table → ℕ → List ℕ → Option Broken
-first_broken upper p count [] = None
-first_broken upper p count (rule ∷ rules) = broken_or rule (first_failing (keeps upper p count rule) count) (first_broken upper p count rules)
-
--- the rules that are tried so far
-abbrev pub tried_rules : List ℕ
-tried_rules = 1 ∷ 2 ∷ 3 ∷ 8 ∷ []
-
-unfoldable pub broken_rule : List ℕ → Table → ℕ → Option Broken
-broken_rule upper p count = first_broken upper p count tried_rules
-
--- The table stands for the tree: no rule that is tried is broken, and the tree is that of its records, with these spare
--- numbers and free clusters.
-pub record Holds (upper : List ℕ) (p : Table) (count : ℕ) (spare : List FileRef) (room : ℕ) (t : Tree) : Type 0 where
-  pub kept : broken_rule upper p count ≡ None
-  pub tree : t ≡ tree_of p count spare room

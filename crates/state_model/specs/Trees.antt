@@ -1,16 +1,10 @@
 -- The tree that a file table stands for.
-use Rattle.std.specs.Prelude.{ℕ, zero, suc, Bool, false, not, ◌&&◌, ◌||◌, ◌==◌, nat_lt, if◌then◌else◌, List, [], ◌∷◌, length, Option, Some, None}
-use Rattle.std.specs.List.{range_with_len, list_any, filter_map, flat_map}
-use Rattle.host_base.specs.declared.file_ref.FileRef.{FileRef}
+use Rattle.std.specs.Prelude.{ℕ, zero, suc, Bool, false, not, ◌&&◌, ◌||◌, ◌==◌, nat_lt, List, [], ◌∷◌, length, Option, Some, None}
+use Rattle.std.specs.List.{range_with_len, list_any, flat_map}
 use Rattle.record_model.specs.Records.{Record}
-use Rattle.record_model.specs.Constants.{object_id}
 use Rattle.file_tree.specs.declared.link.Link.{Link}
-use Rattle.file_tree.specs.declared.node.Kind.{Kind}
-use Rattle.file_tree.specs.declared.node.Kind.TheVariants.{Directory, File, Fixed, Opaque, System}
-use Rattle.file_tree.specs.declared.node.Node.{Node}
-use Rattle.file_tree.specs.declared.tree.Tree.{Tree}
 use Rattle.file_tree.specs.Walks.{root}
-use Rattle.state_model.specs.Files.{Table, file_at, links_at, record_links, is_directory_record, has_type, info_of, data_of, attr_bytes, why_of, is_opaque, is_fixed}
+use Rattle.state_model.specs.Files.{Table, links_at, record_links}
 
 -- ---- the way up
 
@@ -46,65 +40,11 @@ is_in_system p (suc most) n = not (n == root) && (nat_lt n first_user_record || 
 unfoldable pub is_system : Table → ℕ → ℕ → List Link → Bool
 is_system p count n links = nat_lt n first_user_record || list_any (λ (l : Link). is_in_system p count l.parent.number) links
 
-unfoldable pub kind_of : Table → ℕ → ℕ → Record → Kind
-kind_of p count n r =
-    if is_directory_record r then Directory
-    else if is_system p count n (record_links n r) then System
-    else if is_opaque r then Opaque
-    else if is_fixed r then Fixed
-    else File
-
--- directories and files of the volume itself show no bytes
-abbrev pub shown : Kind → List ℕ → List ℕ
-shown Directory bytes = []
-shown File bytes = bytes
-shown Fixed bytes = bytes
-shown Opaque bytes = bytes
-shown System bytes = []
-
--- a node of this kind, with these bytes
-unfoldable pub node_with : ℕ → Record → Kind → List ℕ → Node
-node_with n r kind bytes = record {
-  number = n;
-  seq = r.head.seq;
-  kind = kind;
-  why = why_of r;
-  held = has_type object_id r;
-  size = length bytes;
-  valid = length bytes;
-  clusters = 0;
-  bytes = bytes;
-  flags = (info_of r).flags;
-  created = (info_of r).created;
-  modified = (info_of r).modified;
-  changed = (info_of r).changed;
-  read_at = (info_of r).read_at;
-}
-
-unfoldable pub node_of : Table → ℕ → ℕ → Record → Node
-node_of p count n r = node_with n r (kind_of p count n r) (shown (kind_of p count n r) (attr_bytes (data_of r)))
-
 -- a record of the volume itself that has no name is no node
 abbrev pub is_nameless : ℕ → Record → Bool
 is_nameless n r = nat_lt n first_user_record && length (record_links n r) == 0
 
-abbrev pub node_if : Table → ℕ → ℕ → Option Record → Option Node
-node_if p count n None = None
-node_if p count n (Some r) = if is_nameless n r then None else Some (node_of p count n r)
-
--- the node of a record, if it has one
-unfoldable pub node_in : Table → ℕ → ℕ → Option Node
-node_in p count n = node_if p count n (file_at p n)
-
 -- ---- the tree
-
-unfoldable pub nodes_of : Table → ℕ → List Node
-nodes_of p count = filter_map (node_in p count) (range_with_len 0 count)
 
 unfoldable pub all_links : Table → ℕ → List Link
 all_links p count = flat_map (links_at p) (range_with_len 0 count)
-
--- The tree of a table of so many records, with these spare numbers and so many free clusters. Of a journal nothing is
--- handled yet: a volume whose journal has clusters is refused before.
-unfoldable pub tree_of : Table → ℕ → List FileRef → ℕ → Tree
-tree_of p count spare room = record { nodes = nodes_of p count; links = all_links p count; spare = spare; count = count; journal = None; room = room }

@@ -1,18 +1,15 @@
 //! What the file records of a volume stand for: the tree, and the rules under which they do.
 //!
-//! The contract: the laws of these definitions, as functions with no body. Records, names and
-//! indexes are those of the Linux-NTFS documentation, "FILE Record", "$FILE_NAME" and
+//! These are definitions, cited by the crates above. Records, names and indexes are those of the Linux-NTFS documentation, "FILE Record", "$FILE_NAME" and
 //! "$INDEX_ROOT".
 #![tactic(auto)]
 
 mod broken;
 mod cluster_size;
 mod geometry;
-mod laws;
 mod stream;
 
 pub use broken::Broken;
 pub use cluster_size::ClusterSize;
 pub use geometry::{Geometry, MapRefusal};
-pub use laws::nodes_of_records;
 pub use stream::{Extents, Stream};
