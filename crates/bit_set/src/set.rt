@@ -1,4 +1,4 @@
-ghost use Rattle.std.specs.Prelude.{◌≡◌, ℕ, ◌+◌, ◌<◌, ◌≤◌, ◌≢◌, not, true, false, if◌then◌else◌, List, length, count_by, IfOk, IfSome, MatchOption};
+ghost use Rattle.std.specs.Prelude.{◌≡◌, ℕ, ◌+◌, ◌<◌, ◌≤◌, ◌≢◌, not, true, false, if◌then◌else◌, List, length, count_by, IfOk, MatchOption};
 ghost use Rattle.bit_set.specs.Bits.{bit, IsClearRun, IsFirstRun, IsFirstRunIn, IsLongestRun, IsLongestRunIn, IsLowestClear, IsFound, PutsRun};
 ghost use Rattle.bit_set.specs.Words.{bits_of_bytes};
 
@@ -177,9 +177,11 @@ impl BitSet {
         self.longest_in(0, self.bits())
     }
 
-    // The lowest clear bit from `from` on, if it is among the next bits, as it mostly is.
+    // The lowest clear bit from `from` on, if it is among the next 1,024 bits, as it mostly is.
     fn lowest_near(&self, from: u64) -> Option<u64>
-        ensures { IfSome result (λ at. IsLowestClear self.now from at) }
+        ensures { MatchOption result
+            ((i : ℕ) → from ≤ i → i < from + 1024 → i < length self.now → bit self.now i ≡ true)
+            (λ at. IsLowestClear self.now from at) }
     {
         let end = self.bits.min(from.saturating_add(BLOCK_BITS));
         if end <= from {
