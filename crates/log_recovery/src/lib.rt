@@ -25,7 +25,7 @@ mod walks;
 mod whole;
 mod writing;
 
-pub use found::{RecoveredBlock, RecoveredBlocks, Shadow};
+pub use found::{RecoveredBlock, RecoveredBlocks, RecoveredBody, Shadow};
 pub use log_reading::RecoveryFault;
 pub use places::{Places, places_of};
 pub use recovering::recover_entries;

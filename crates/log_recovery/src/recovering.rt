@@ -139,10 +139,10 @@ fn recover_placed<V: View>(
 ///
 /// It takes time near-linear in the number of entries and in their bytes, and linear in the sizes
 /// of the blocks with an update, whatever the log says: an entry is looked at a few times for each
-/// of at most 72 blocks. Memory is linear in the number of entries and in the bodies that it
-/// answers. Each of these has room for 4,096 bytes, so a log that was made for it, with an update
-/// of one byte for each block, takes about 40 times its own bytes. The view is asked once for each
-/// block with an update that isn't shadowed.
+/// of at most 72 blocks. Memory is linear in the number of entries and in the bytes of the bodies
+/// that it answers. A file record or an index block among these is covered whole by the log's own
+/// bytes; of a sector one byte may be, so a log that was made for it takes some ten times its own
+/// bytes. The view is asked once for each block with an update that isn't shadowed.
 pub fn recover_entries<V: View>(
     alloc: Global,
     view: &mut V,

@@ -233,8 +233,8 @@ pub fn recover_log<V: View>(
 /// - [`RecoveryFault::Fault`]: the view failed. The other error is want of memory.
 ///
 /// Time is linear in the log's pages on the device and in its runs for each, and near-linear in the
-/// bytes of its entries, whoever wrote them. Memory is linear in the entries and in the bodies, each
-/// of which has room for 4,096 bytes.
+/// bytes of its entries, whoever wrote them. Memory is linear in the entries and in the bytes of the
+/// bodies.
 pub fn recover_view<V: View>(
     alloc: Global,
     view: &mut V,
