@@ -70,7 +70,12 @@ fn open_log<V: View>(
 {
     let file = log_record(alloc, view, &geometry, body)?;
     let place = log_place(alloc, &geometry, total, sectors, &file)?;
-    let found = found_at(alloc, view, &place, &[BOOT_PLACE, boot_block(&geometry, LOG_RECORD)])?;
+    let found = found_at(
+        alloc,
+        view,
+        &place,
+        &[BOOT_PLACE, boot_block(&geometry, LOG_RECORD)],
+    )?;
     Ok(OpeningToWrite {
         geometry,
         total,
