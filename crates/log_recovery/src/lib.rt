@@ -26,7 +26,7 @@ mod whole;
 mod writing;
 
 pub use found::{RecoveredBlock, RecoveredBlocks, RecoveredBody, Shadow};
-pub use log_reading::RecoveryFault;
+pub use log_reading::{LogRefusal, RecoveryFault};
 pub use places::{Places, places_of};
 pub use recovering::recover_entries;
 pub use view::RecoveredView;

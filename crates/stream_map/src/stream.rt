@@ -66,12 +66,12 @@ fn joined(alloc: Global, attributes: &[&Attr]) -> Result<Option<Stream>, Memory>
 }
 
 /// The stream with this type and name (in UTF-16 units) among a record's attributes, if there is
-/// one (Linux-NTFS documentation, "Attribute Header"): the value of its first attribute, where that is
-/// resident, else the runs of all its attributes by rising first VCN, with the sizes of the first. A
-/// attribute whose mapping pairs are at fault has no runs. The error is want of memory.
+/// one (Linux-NTFS documentation, "Attribute Header"): the value of its first attribute, where that
+/// is resident, else the runs of all its attributes by rising first VCN, with the sizes of the
+/// first. An attribute whose mapping pairs are at fault has no runs. The error is want of memory.
 ///
-/// Linear in the attributes and the runs where the attributes stand by rising first VCN; each attribute
-/// that does not takes one pass over the attributes before it.
+/// Linear in the attributes and the runs where the attributes stand by rising first VCN; each
+/// attribute that does not takes one pass over the attributes before it.
 #[tactic(auto, unfolding(state_model::specs::Streams::stream_of))]
 pub fn stream_of(
     alloc: Global,
@@ -86,7 +86,8 @@ pub fn stream_of(
     joined(alloc, &attributes)
 }
 
-/// The real size of a stream in bytes: that of its value, or the one that its first attribute states.
+/// The real size of a stream in bytes: that of its value, or the one that its first attribute
+/// states.
 pub fn real_size(stream: &Stream) -> u64
     ensures { result ≡ real_size stream.now }
 {

@@ -50,8 +50,8 @@ fn form_clusters(alloc: Global, form: &OwnForm) -> Result<u128, Memory>
     }
 }
 
-// Whether attributes have clusters, at least one each, the first from VCN 0 on, and each other one from
-// the end of the one before it.
+// Whether attributes have clusters, at least one each, the first from VCN 0 on, and each other one
+// from the end of the one before it.
 #[tactic(auto, unfolding(state_model::specs::Streams::attribute_runs))]
 fn follow(alloc: Global, attributes: &[&Attr]) -> Result<bool, Memory>
     ensures { IfOk result (λ all. all ≡ follow 0 (behind attributes.now)) }
@@ -77,10 +77,11 @@ fn are_joined(alloc: Global, attributes: &[&Attr]) -> Result<bool, Memory>
     }
 }
 
-/// Whether the stream with this type and name (in UTF-16 units) among attributes is one attribute that
-/// begins at VCN 0, or attributes with clusters that have each VCN once (Linux-NTFS documentation,
-/// "Attribute Header"). The error is want of memory. Linear in the attributes and the runs where the attributes
-/// stand by rising first VCN; each attribute that does not takes one pass over the attributes before it.
+/// Whether the stream with this type and name (in UTF-16 units) among attributes is one attribute
+/// that begins at VCN 0, or attributes with clusters that have each VCN once (Linux-NTFS
+/// documentation, "Attribute Header"). The error is want of memory. Linear in the attributes and
+/// the runs where the attributes stand by rising first VCN; each attribute that does not takes one
+/// pass over the attributes before it.
 pub fn is_joined(alloc: Global, kind: u32, name: &[u16], attrs: &[Attr]) -> Result<bool, Memory>
     ensures { IfOk result (λ joined. joined ≡ are_joined (attributes_of kind name.now attrs.now)) }
 {

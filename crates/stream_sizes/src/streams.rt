@@ -48,11 +48,11 @@ fn keeps_shape(
 /// - no file record of `$MFT` or `$MFTMirr`, and no block of a directory's `$I30`, is torn, where
 ///   it lies in one run and begins below its stream's initialised size.
 ///
-/// `body` is room for a body. Linear in the attributes and the runs where the attributes of each stream
-/// stand one behind the other, for each stream; else one such pass for each attribute. The blocks
-/// of `$MFT`, `$MFTMirr` and a directory alone are read, each once and in order, along the runs;
-/// and only where the sizes are lawful, so that they are no more than the stream's clusters have
-/// room for.
+/// `body` is room for a body. Linear in the attributes and the runs where the attributes of each
+/// stream stand one behind the other, for each stream; else one such pass for each attribute. The
+/// blocks of `$MFT`, `$MFTMirr` and a directory alone are read, each once and in order, along the
+/// runs; and only where the sizes are lawful, so that they are no more than the stream's clusters
+/// have room for.
 ///
 /// - [`SizesFault::View`]: the view failed, and counts it.
 /// - [`SizesFault::Memory`]: there is no memory left.

@@ -7,13 +7,14 @@ use Rattle.journal_model.specs.declared.fault.UsnFault.{UsnFault}
 use Rattle.journal_model.specs.declared.fault.UsnFault.TheVariants as entries
 use Rattle.usn_journal.specs.declared.fault.PageFault.{PageFault}
 use Rattle.usn_journal.specs.declared.fault.PageFault.TheVariants as pages
+use Rattle.usn_journal.specs.declared.fault.PullRefusal.{PullRefusal}
+use Rattle.usn_journal.specs.declared.fault.PullRefusal.TheVariants.{Trimmed, Ahead, Broken}
 use Rattle.usn_journal.specs.declared.fault.PullFault.{PullFault}
 use Rattle.usn_journal.specs.declared.fault.PullFault.TheVariants as faults
 
--- a position is refused
-abbrev pub pull_cause : PullFault → Cause PullFault
-pull_cause (faults.Trimmed first) = refused (faults.Trimmed first)
-pull_cause (faults.Ahead next) = refused (faults.Ahead next)
+-- where an error of a pull comes from
+abbrev pub pull_cause : PullFault → Cause PullRefusal
+pull_cause (faults.Refused refusal) = refused refusal
 pull_cause faults.View = failed
 pull_cause faults.Memory = no_memory
 
@@ -31,8 +32,9 @@ journal_cause pages.Memory = no_memory
 
 -- an error other than those of a position outside the journal
 abbrev pub IsInside : PullFault → Type 0
-IsInside (faults.Trimmed first) = ⊥
-IsInside (faults.Ahead next) = ⊥
+IsInside (faults.Refused (Trimmed first)) = ⊥
+IsInside (faults.Refused (Ahead next)) = ⊥
+IsInside (faults.Refused (Broken at)) = ⊤
 IsInside faults.View = ⊤
 IsInside faults.Memory = ⊤
 
@@ -47,8 +49,8 @@ of_record (entries.Cut at) = pages.Broken at
 of_record (entries.Shape at) = pages.Broken at
 of_record entries.Memory = pages.Memory
 
--- what a page's fault becomes for a whole journal, which has no record at fault
+-- what a page's fault becomes for a pull
 abbrev pub of_page : PageFault → PullFault
-of_page (pages.Broken at) = faults.Memory
+of_page (pages.Broken at) = faults.Refused (Broken at)
 of_page pages.View = faults.View
 of_page pages.Memory = faults.Memory

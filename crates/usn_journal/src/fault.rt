@@ -3,15 +3,27 @@ use journal_model::UsnFault;
 use std::alloc::AllocError;
 use thiserror::Error;
 
-/// Why a journal gives no records from a position on.
+/// What refuses a position in a journal, or the journal.
 #[derive(Clone, Copy, Debug, PartialEq, Eq, Error)]
-pub enum PullFault {
+pub enum PullRefusal {
     /// The position lies before the journal, which begins at this byte.
     #[error("the journal begins at {first}")]
     Trimmed { first: u64 },
     /// The position lies after the journal, whose next record goes to this byte.
     #[error("the journal ends at {next}")]
     Ahead { next: u64 },
+    /// The record at this offset is at fault. It never comes where the journal's records are known
+    /// to be whole.
+    #[error("the record at {at} is at fault")]
+    Broken { at: u64 },
+}
+
+/// Why a journal gives no records from a position on.
+#[derive(Clone, Copy, Debug, PartialEq, Eq, Error)]
+pub enum PullFault {
+    /// The position is refused, or the journal.
+    #[error("refused: {0}")]
+    Refused(PullRefusal),
     /// The view failed.
     #[error("the view failed")]
     View,
@@ -22,7 +34,8 @@ pub enum PullFault {
 /// Why the pages of a journal give no records.
 #[derive(Clone, Copy, Debug, PartialEq, Eq)]
 pub enum PageFault {
-    /// The record at this offset is at fault. It never comes where the journal's records are whole.
+    /// The record at this offset is at fault. It never comes where the journal's records are known
+    /// to be whole.
     Broken { at: u64 },
     /// The view failed.
     View,
@@ -38,6 +51,17 @@ impl From<AllocError> for PullFault {
 
     fn from(_error: AllocError) -> Self {
         PullFault::Memory
+    }
+}
+
+impl From<PullRefusal> for PullFault {
+    ghost use Rattle.std.specs.Prelude.{◌≡◌};
+    ghost use Rattle.usn_journal.specs.declared.fault.PullFault.TheVariants.{Refused as is_refused};
+
+    ghost from_gives = { λ refusal fault. fault ≡ is_refused refusal };
+
+    fn from(refusal: PullRefusal) -> Self {
+        PullFault::Refused(refusal)
     }
 }
 
@@ -89,8 +113,7 @@ impl From<PageFault> for PullFault {
 
     fn from(fault: PageFault) -> Self {
         match fault {
-            // A whole journal has no such record.
-            PageFault::Broken { .. } => PullFault::Memory,
+            PageFault::Broken { at } => PullFault::Refused(PullRefusal::Broken { at }),
             PageFault::View => PullFault::View,
             PageFault::Memory => PullFault::Memory,
         }

@@ -10,5 +10,5 @@ mod fault;
 mod pages;
 mod pulling;
 
-pub use fault::PullFault;
-pub use pulling::{Pulled, read_from};
+pub use fault::{PageFault, PullFault, PullRefusal};
+pub use pulling::{Pulled, pull_inside, read_from};

@@ -77,9 +77,9 @@ fn with_journal<V: View>(
 
 /// The tree of a loaded volume that keeps the rules before the ninth, without the bytes of its
 /// nodes and the records of its journal; or the ninth rule, where its journal is at fault. `names`
-/// are the names of its files, `climber` climbs over these, `upper` is its table of upper-case units,
-/// and `body` is room for a body. It takes time and memory linear in the records, and reads the
-/// journal once.
+/// are the names of its files, `climber` climbs over these, `upper` is its table of upper-case
+/// units, and `body` is room for a body. It takes time and memory linear in the records, and reads
+/// the journal once.
 pub fn report<V: View>(
     alloc: Global,
     view: &mut V,

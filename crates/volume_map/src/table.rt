@@ -53,8 +53,9 @@ fn read_own_slot<V: View>(
     Ok(own_slot_of(alloc, body)?)
 }
 
-// Where the record of that number lies, by the place that the boot sector gives the table.
-fn boot_block(geometry: &Geometry, number: u64) -> Block
+/// Where the record of that number lies, by the place that the boot sector gives the table, whose
+/// records stand one behind the other there (Linux-NTFS documentation, "$Boot", "$MFT").
+pub fn boot_block(geometry: &Geometry, number: u64) -> Block
     requires place { geometry.now.mft * geometry.now.per_cluster < 2 ^ 62 }
     requires number { number < most_records }
     ensures value { result ≡ boot_block geometry.now number }
