@@ -1,10 +1,10 @@
-ghost use Rattle.std.specs.Prelude.{◌≡◌, ◌≢◌, ◌<◌, ◌^◌, ◌+◌, IfOk, length};
+ghost use Rattle.std.specs.Prelude.{◌≡◌, true, ◌≢◌, ◌<◌, ◌^◌, ◌+◌, IfOk, length};
 ghost use Rattle.std.specs.List.{list_any};
 ghost use Rattle.host_base.specs.Answers.{Gives};
 ghost use Rattle.file_tree.specs.Trees.{is_directory, is_directory_kind};
 ghost use Rattle.tree_model.specs.Walks.{entered, reached, reached_directory};
 ghost use Rattle.file_tree.specs.Walks.{is_bad_part, has_bad_part};
-ghost use Rattle.tree_model.specs.Steps.{stat_of, reply_cause, Lists, Replies, IsStep};
+ghost use Rattle.tree_model.specs.Steps.{is_look, stat_of, reply_cause, Lists, Replies, IsStep};
 
 use crate::looking::Lookup;
 use crate::path::Path;
@@ -171,12 +171,14 @@ fn list<L: Lookup>(alloc: Global, tree: &L, path: &Path) -> Reply
 /// what it asks for; or `Memory` for want of memory. It asks the tree two questions for each
 /// part of the path, and one or two more.
 pub fn answer<L: Lookup>(alloc: Global, tree: &L, op: &Op) -> Reply
+    requires looks { is_look op.now ≡ true }
     ensures value { result ≢ Reply.Memory → Replies (L.upper tree.now) (L.nodes tree.now) (L.links tree.now) op.now result }
     ensures fault { result ≢ Reply.Fault }
 {
     match op {
         Op::Stat { path } => stat(alloc, tree, path),
         Op::List { path } => list(alloc, tree, path),
+        _ => unreachable!(),
     }
 }
 
@@ -193,6 +195,7 @@ pub fn step(
 ) -> Result<(Tree, Reply), Memory>
     requires table { length upper.now ≡ 65536 }
     requires early { stamp < 2 ^ 63 }
+    requires looks { is_look op.now ≡ true }
     ensures value { IfOk result (λ step. IsStep upper.now op.now stamp step.1 tree.now step.0) }
     ensures given { IfOk result (λ step. (step.1 ≢ Reply.Memory) × (step.1 ≢ Reply.Fault)) }
 {
