@@ -7,9 +7,9 @@ use Rattle.disk_model.specs.Content.{Content}
 use Rattle.file_tree.specs.declared.journal.Usn.{Usn}
 use Rattle.state_model.specs.declared.stream.Extents.{Extents}
 use Rattle.volume_model.specs.Volumes.{Volume, upper_of}
-use Rattle.volume_journal.specs.Places.{journal_place}
+use Rattle.usn_journal.specs.Places.{journal_place}
 use Rattle.volume_state.specs.Journals.{journal_first, journal_entries}
-use Rattle.usn_journal.specs.declared.fault.PageFault.{PageFault}
+use Rattle.usn_journal.specs.declared.pull_fault.PageFault.{PageFault}
 use Rattle.usn_journal.specs.declared.pulling.Pulled.{Pulled}
 use Rattle.usn_journal.specs.Pulls.{from_on, read_entries, pulled_in}
 use Rattle.image_open.specs.declared.refusal.Refusal.TheVariants.{NoJournal}

@@ -2,10 +2,10 @@
 use Rattle.state_model.specs.declared.broken.Broken.{Broken}
 use Rattle.volume_check.specs.declared.fault.CheckFault.{CheckFault}
 use Rattle.volume_check.specs.declared.fault.CheckFault.TheVariants as faults
-use Rattle.volume_journal.specs.declared.place.PlaceFault.{PlaceFault}
-use Rattle.volume_journal.specs.declared.place.PlaceFault.TheVariants as places
-use Rattle.usn_journal.specs.declared.fault.PageFault.{PageFault}
-use Rattle.usn_journal.specs.declared.fault.PageFault.TheVariants as pages
+use Rattle.usn_journal.specs.declared.place.PlaceFault.{PlaceFault}
+use Rattle.usn_journal.specs.declared.place.PlaceFault.TheVariants as places
+use Rattle.usn_journal.specs.declared.pull_fault.PageFault.{PageFault}
+use Rattle.usn_journal.specs.declared.pull_fault.PageFault.TheVariants as pages
 use Rattle.image_open.specs.declared.refusal.Refusal.{Refusal}
 use Rattle.image_open.specs.declared.refusal.Refusal.TheVariants.{BadVolume, NoJournal}
 use Rattle.image_open.specs.declared.refusal.MountFault.{MountFault}

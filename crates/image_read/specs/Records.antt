@@ -5,7 +5,7 @@ use Rattle.disk_model.specs.Content.{Content}
 use Rattle.state_model.specs.declared.stream.Extents.{Extents}
 use Rattle.volume_model.specs.Volumes.{Volume, upper_of}
 use Rattle.volume_state.specs.Journals.{journal_first, journal_entries}
-use Rattle.volume_journal.specs.Places.{journal_place}
+use Rattle.usn_journal.specs.Places.{journal_place}
 use Rattle.usn_journal.specs.Pulls.{read_entries}
 use Rattle.image_open.specs.declared.refusal.Refusal.{Refusal}
 use Rattle.image_open.specs.declared.refusal.Refusal.TheVariants.{NoJournal}

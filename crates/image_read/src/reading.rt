@@ -8,7 +8,7 @@ ghost use Rattle.volume_map.specs.Maps.{IsMap, IsMapOf, volume_in};
 ghost use Rattle.block_view.specs.Views.{AsksView};
 ghost use Rattle.volume_model.specs.Volumes.{upper_of};
 ghost use Rattle.volume_state.specs.Journals.{journal_first, journal_entries};
-ghost use Rattle.volume_journal.specs.Places.{journal_place};
+ghost use Rattle.usn_journal.specs.Places.{journal_place};
 ghost use Rattle.image_open.specs.Errors.{scan_cause};
 ghost use Rattle.image_read.specs.Records.{place_on, records_in, records_by, placed_records, volume_records, journal_of};
 
@@ -22,7 +22,7 @@ use image_open::{MountFault, Refusal, with_volume};
 use sector_device::Device;
 use state_model::{ClusterSize, Extents};
 use std::alloc::Global;
-use volume_journal::first_byte;
+use usn_journal::first_byte;
 use volume_map::VolumeMap;
 
 /// The records of a volume's change journal.

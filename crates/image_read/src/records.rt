@@ -8,7 +8,7 @@ ghost use Rattle.stream_map.specs.Runs.{AreSmall};
 ghost use Rattle.volume_map.specs.Maps.{IsMap, volume_in};
 ghost use Rattle.block_view.specs.Views.{AsksView};
 ghost use Rattle.volume_state.specs.Journals.{journal_first, journal_entries};
-ghost use Rattle.volume_journal.specs.Places.{journal_place};
+ghost use Rattle.usn_journal.specs.Places.{journal_place};
 ghost use Rattle.usn_journal.specs.Pulls.{read_entries};
 ghost use Rattle.image_open.specs.Errors.{scan_cause, refused_as};
 ghost use Rattle.image_open.specs.declared.refusal.Refusal.TheVariants.{NoJournal};
@@ -24,8 +24,7 @@ use state_model::{ClusterSize, Extents};
 use std::alloc::Global;
 use system_files::upper_table;
 use upcase_order::Upcase;
-use usn_journal::{PageFault, pull_inside};
-use volume_journal::{PlaceFault, journal_place};
+use usn_journal::{PageFault, PlaceFault, journal_place, pull_inside};
 use volume_map::VolumeMap;
 
 // The most records that are asked for at once.

@@ -7,8 +7,8 @@ use Rattle.state_model.specs.declared.stream.Extents.{Extents}
 use Rattle.journal_model.specs.UsnRecords.{usn_size}
 use Rattle.volume_state.specs.Journals.{journal_first, journal_entries}
 use Rattle.usn_journal.specs.declared.pulling.Pulled.{Pulled}
-use Rattle.usn_journal.specs.declared.fault.PullRefusal.{PullRefusal}
-use Rattle.usn_journal.specs.declared.fault.PullRefusal.TheVariants.{Trimmed, Ahead}
+use Rattle.usn_journal.specs.declared.pull_fault.PullRefusal.{PullRefusal}
+use Rattle.usn_journal.specs.declared.pull_fault.PullRefusal.TheVariants.{Trimmed, Ahead}
 
 -- where a record ends, which begins at its USN
 abbrev pub usn_end : Usn → ℕ

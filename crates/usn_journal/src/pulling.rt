@@ -6,12 +6,12 @@ ghost use Rattle.block_view.specs.Views.{AsksView};
 ghost use Rattle.std.specs.Option.{option_copied};
 ghost use Rattle.volume_model.specs.Sizes.{is_hole};
 ghost use Rattle.volume_state.specs.Journals.{run_place, journal_first, journal_entries};
-ghost use Rattle.usn_journal.specs.Errors.{journal_cause, page_cause, pull_cause, IsInside};
-ghost use Rattle.usn_journal.specs.declared.fault.PullRefusal.TheVariants.{Trimmed, Ahead};
+ghost use Rattle.usn_journal.specs.PullErrors.{journal_cause, page_cause, pull_cause, IsInside};
+ghost use Rattle.usn_journal.specs.declared.pull_fault.PullRefusal.TheVariants.{Trimmed, Ahead};
 ghost use Rattle.usn_journal.specs.Pulls.{usn_end, end_of, read_entries, pulled_in, pulled_of};
 
-use crate::fault::{PageFault, PullFault, PullRefusal};
 use crate::pages::read_pages;
+use crate::pull_fault::{PageFault, PullFault, PullRefusal};
 use block_view::View;
 use disk_model::Body;
 use file_tree::{Usn, UsnList};

@@ -4,10 +4,10 @@ use Rattle.host_base.specs.Answers.{Cause, refused, no_memory, failed}
 use Rattle.state_model.specs.declared.broken.Broken.{Broken}
 use Rattle.directory_index.specs.declared.fault.IndexFault.{IndexFault}
 use Rattle.directory_index.specs.declared.fault.IndexFault.TheVariants as indexes
-use Rattle.stream_sizes.specs.declared.fault.SizesFault.{SizesFault}
-use Rattle.stream_sizes.specs.declared.fault.SizesFault.TheVariants as sizes
-use Rattle.volume_journal.specs.declared.fault.JournalFault.{JournalFault}
-use Rattle.volume_journal.specs.declared.fault.JournalFault.TheVariants as journals
+use Rattle.stream_rules.specs.declared.fault.SizesFault.{SizesFault}
+use Rattle.stream_rules.specs.declared.fault.SizesFault.TheVariants as sizes
+use Rattle.usn_journal.specs.declared.journal_fault.JournalFault.{JournalFault}
+use Rattle.usn_journal.specs.declared.journal_fault.JournalFault.TheVariants as journals
 use Rattle.volume_map.specs.declared.fault.MapFault.{MapFault}
 use Rattle.volume_map.specs.declared.fault.MapFault.TheVariants as maps
 use Rattle.volume_check.specs.declared.fault.CheckFault.{CheckFault}

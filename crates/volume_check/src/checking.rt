@@ -5,10 +5,10 @@ ghost use Rattle.volume_map.specs.Maps.{volume_in, IsMap, IsMapOf};
 ghost use Rattle.block_view.specs.Views.{AsksView};
 ghost use Rattle.volume_state.specs.Trees.{checked};
 ghost use Rattle.volume_check.specs.Errors.{check_cause};
-ghost use Rattle.volume_check.specs.Parts.{AreParts, AreNames};
+ghost use Rattle.volume_check.specs.Parts.{AreParts};
+ghost use Rattle.volume_tree.specs.Names.{AreNames};
 
 use crate::fault::CheckFault;
-use crate::names::{Names, names_of};
 use crate::report::report;
 use crate::rules::from_1;
 use block_view::View;
@@ -19,6 +19,7 @@ use std::alloc::Global;
 use system_files::upper_table;
 use upcase_order::Upcase;
 use volume_map::VolumeMap;
+use volume_tree::{Names, names_of};
 
 // The same, by the volume's table of upper-case units.
 fn check_ordered<V: View>(

@@ -2,9 +2,9 @@ use directory_index::IndexFault;
 use host_base::Memory;
 use state_model::Broken;
 use std::alloc::AllocError;
-use stream_sizes::SizesFault;
+use stream_rules::SizesFault;
 use thiserror::Error;
-use volume_journal::JournalFault;
+use usn_journal::JournalFault;
 use volume_map::MapFault;
 
 /// Why a check found no tree.
