@@ -3,7 +3,8 @@ ghost use Rattle.std.specs.List.{flat_map};
 ghost use Rattle.record_model.specs.Pairs.{runs_of};
 ghost use Rattle.state_model.specs.Streams.{runs_or, form_runs, attribute_runs, joined, stream_of, real_size};
 ghost use Rattle.stream_map.specs.Attributes.{behind};
-ghost use Rattle.stream_map.specs.Runs.{HasSmallRuns};
+ghost use Rattle.state_model.specs.Loads.{no_extents};
+ghost use Rattle.stream_map.specs.Runs.{AreSmall, HasSmallRuns};
 
 use super::attributes::attributes_of;
 use host_base::Memory;
@@ -84,6 +85,19 @@ pub fn stream_of(
 {
     let attributes = attributes_of(alloc, kind, name, attrs)?;
     joined(alloc, &attributes)
+}
+
+/// No clusters, and no bytes; this takes no memory.
+pub fn no_extents(alloc: Global) -> Extents
+    ensures value { result ≡ no_extents }
+    ensures small { AreSmall result.runs }
+{
+    Extents {
+        runs: Runs::new(alloc),
+        allocated: 0,
+        real: 0,
+        initialised: 0,
+    }
 }
 
 /// The real size of a stream in bytes: that of its value, or the one that its first attribute
