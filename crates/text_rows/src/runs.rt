@@ -93,7 +93,7 @@ fn one_hit(alloc: Global) -> Result<Reply, Fail> {
 fn turns_of(alloc: Global, replies: Vec<Reply>) -> Result<Vec<Turn>, Fail> {
     let mut turns = Vec::new(alloc);
     for (at, reply) in replies.into_iter().enumerate() {
-        let number = at as u32;
+        let number = (at % 100) as u32;
         turns.push(turn(alloc, 1, number, u64::from(number), reply))?;
     }
     Ok(turns)
