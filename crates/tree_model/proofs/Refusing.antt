@@ -1,6 +1,6 @@
 -- A walk that ends early is refused.
 use Rattle.std.proofs.Common.{◌≡◌, ap, refl}
-use Rattle.std.specs.Prelude.{◌≢◌, Some, Result}
+use Rattle.std.specs.Prelude.{◌≢◌, Some, Result, Err}
 use Rattle.host_base.specs.Answers.{Explains}
 use Rattle.file_tree.specs.declared.node.Node.{Node}
 use Rattle.tree_model.specs.declared.reply.Reply.{Reply}
@@ -12,3 +12,9 @@ pub refused_by_cause : (reply : Reply) (meant : Result Node Reply) → Explains 
 refused_by_cause Fault meant is other = absurd is
 refused_by_cause Memory meant is other = absurd (other refl)
 refused_by_cause reply meant is other = ap refused_by is
+
+-- so the walk ended with it
+pub walk_ends : (reply : Reply) (meant : Result Node Reply) → Explains (reply_cause reply) meant → reply ≢ Memory → meant ≡ Err reply
+walk_ends Fault meant is other = absurd is
+walk_ends Memory meant is other = absurd (other refl)
+walk_ends reply meant is other = is

@@ -4,8 +4,13 @@
 //! that applies, else as done. The tree itself is that of `file_tree`.
 #![tactic(auto)]
 
+mod file_bytes;
+mod file_effects;
+mod file_rows;
+mod filing;
 mod laws;
 mod looking;
+mod needs;
 mod path;
 mod plain;
 mod reply;

@@ -16,8 +16,8 @@ use host_base::Memory;
 use std::alloc::{AllocError, Global};
 use utf16_name::{Units, check};
 
-// The root's number.
-const ROOT: u64 = 5;
+/// The root's number.
+pub const ROOT: u64 = 5;
 
 impl From<AllocError> for Reply {
     ghost use Rattle.std.specs.Prelude.{◌≡◌};
@@ -30,7 +30,8 @@ impl From<AllocError> for Reply {
     }
 }
 
-fn is_directory_kind(kind: Kind) -> bool
+/// Whether it is the kind of a directory.
+pub fn is_directory_kind(kind: Kind) -> bool
     ensures { result ≡ is_directory_kind kind }
 {
     kind == Kind::Directory
@@ -67,9 +68,9 @@ fn entered<L: Lookup>(
     }
 }
 
-// The node that a path names.
+/// The node that a path names, or what ends the walk.
 #[tactic(auto, unfolding(crate::specs::Walks::reached, crate::specs::Walks::walk))]
-fn reached<'a, L: Lookup>(alloc: Global, tree: &'a L, path: &[Units]) -> Result<&'a Node, Reply>
+pub fn reached<'a, L: Lookup>(alloc: Global, tree: &'a L, path: &[Units]) -> Result<&'a Node, Reply>
     ensures { Gives (λ node. node.now) reply_cause result (reached (L.upper tree.now) (L.nodes tree.now) (L.links tree.now) path.now) }
 {
     let mut number = ROOT;
@@ -102,9 +103,9 @@ fn reached_directory<'a, L: Lookup>(
     Ok(node)
 }
 
-// Whether a part of the path is no name.
+/// Whether a part of the path is no name.
 #[tactic(auto, unfolding(file_tree::specs::Walks::has_bad_part))]
-fn has_bad_part(path: &[Units]) -> bool
+pub fn has_bad_part(path: &[Units]) -> bool
     ensures { result ≡ has_bad_part path.now }
 {
     path.iter().any(|part| check(part.as_slice()).is_some())
