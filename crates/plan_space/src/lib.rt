@@ -1,13 +1,16 @@
-// A library with one function.
+//! The choice of clusters for a stream that grows, in a bitmap or over one that stays as it is.
+//!
+//! The contract: the runs that are chosen are those of the definition, and their bits are set; or
+//! fewer bits are clear than are wanted, and none is set. Clusters and their bits are those of the
+//! Linux-NTFS documentation, "Data runs" and "File - $Bitmap".
 #![tactic(auto)]
 
-ghost use Rattle.std.specs.Prelude.{◌≡◌};
-ghost use Rattle.plan_space.specs.Echo.{echo_of};
+mod choosing;
+mod fault;
+mod free_bits;
 
-// The `ensures` clause is the contract: what `echo` returns is `echo_of` of its argument, a definition
-// in `specs/Echo.antt`, which a caller's clause can cite too.
-pub fn echo(x: usize) -> usize
-    ensures { result ≡ echo_of x }
-{
-    x
-}
+pub use bit_set::BitSet;
+pub use choosing::choose;
+pub use fault::SpaceFault;
+pub use free_bits::FreeBits;
+pub use record_model::{Run, Runs};

@@ -56,11 +56,12 @@ chosen bits (Some last) n =
     then chosen_anywhere n bits 0 n
     else run_at 0 (suc last) (behind last n bits) ∷ chosen_anywhere n (with_run (suc last) (behind last n bits) bits) (behind last n bits) (n - behind last n bits)
 
--- the bits where the clusters of these runs are set; a sparse run has none
+-- the bits where so many clusters of a volume from this one on are set; a sparse run has none
+abbrev pub with_clusters : Option ℕ → ℕ → List Bool → List Bool
+with_clusters None len bits = bits
+with_clusters (Some first) len bits = with_run first len bits
+
+-- the bits where the clusters of these runs are set
 unfoldable pub with_runs : List Run → List Bool → List Bool
 with_runs [] bits = bits
-with_runs (r ∷ runs) bits = with_runs runs (on_volume r.lcn)
-  where
-    on_volume : Option ℕ → List Bool
-    on_volume None = bits
-    on_volume (Some first) = with_run first r.len bits
+with_runs (r ∷ runs) bits = with_runs runs (with_clusters r.lcn r.len bits)
