@@ -8,9 +8,11 @@
 mod choosing;
 mod fault;
 mod free_bits;
+mod taken;
 
 pub use bit_set::BitSet;
 pub use choosing::choose;
 pub use fault::SpaceFault;
 pub use free_bits::FreeBits;
 pub use record_model::{Run, Runs};
+pub use taken::Taken;
