@@ -1,0 +1,13 @@
+ghost use Rattle.ring_laws.specs.Laws.{PagesAreBytes, PagesAreNumbered};
+
+/// Law: the pages of a session are numbered: each stands in the ring behind the one before it, and
+/// pages that are less than a round apart have places of their own.
+pub fn pages_are_numbered()
+    ensures { PagesAreNumbered }
+{}
+
+/// Law: a page of the log is the bytes of eight sectors in a row, apart from those of all other
+/// pages, so what is written elsewhere leaves it.
+pub fn pages_are_bytes()
+    ensures { PagesAreBytes }
+{}
