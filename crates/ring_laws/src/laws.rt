@@ -1,4 +1,4 @@
-ghost use Rattle.ring_laws.specs.Laws.{PagesAreBytes, PagesAreNumbered};
+ghost use Rattle.ring_laws.specs.Laws.{PagesAreBytes, PagesAreNumbered, RingStands};
 
 /// Law: the pages of a session are numbered: each stands in the ring behind the one before it, and
 /// pages that are less than a round apart have places of their own.
@@ -10,4 +10,11 @@ pub fn pages_are_numbered()
 /// pages, so what is written elsewhere leaves it.
 pub fn pages_are_bytes()
     ensures { PagesAreBytes }
+{}
+
+/// Law: what is done with a ring leaves a ring that the disk holds: its start, entries that are
+/// appended, a page's write that answered Ok or failed, syncs, pages that are freed, and whatever is
+/// done in other sectors.
+pub fn ring_stands()
+    ensures { RingStands }
 {}
