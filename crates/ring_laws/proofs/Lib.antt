@@ -4,3 +4,4 @@ pub mod Mixing
 pub mod RingFacts
 pub mod RingWrites
 pub mod RingCalls
+pub mod RingReads

@@ -1,4 +1,4 @@
-ghost use Rattle.ring_laws.specs.Laws.{PagesAreBytes, PagesAreNumbered, RingStands};
+ghost use Rattle.ring_laws.specs.Laws.{PagesAreBytes, PagesAreNumbered, RingIsRead, RingStands};
 
 /// Law: the pages of a session are numbered: each stands in the ring behind the one before it, and
 /// pages that are less than a round apart have places of their own.
@@ -17,4 +17,11 @@ pub fn pages_are_bytes()
 /// done in other sectors.
 pub fn ring_stands()
     ensures { RingStands }
+{}
+
+/// Law: whatever a crash leaves, recovery reads of the ring the entries of a front of its pages,
+/// which has all durable ones and none that wasn't written, and no entry of another shape; and no
+/// lap is said above the ring's.
+pub fn ring_is_read()
+    ensures { RingIsRead }
 {}
