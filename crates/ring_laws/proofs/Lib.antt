@@ -5,3 +5,6 @@ pub mod RingFacts
 pub mod RingWrites
 pub mod RingCalls
 pub mod RingReads
+pub mod RestartFacts
+pub mod RestartWrites
+pub mod RestartCalls

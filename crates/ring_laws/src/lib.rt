@@ -11,4 +11,4 @@
 
 mod laws;
 
-pub use laws::{pages_are_bytes, pages_are_numbered, ring_is_read, ring_stands};
+pub use laws::{pages_are_bytes, pages_are_numbered, restarts_stand, ring_is_read, ring_stands};
