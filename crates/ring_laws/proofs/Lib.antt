@@ -8,3 +8,4 @@ pub mod RingReads
 pub mod RestartFacts
 pub mod RestartWrites
 pub mod RestartCalls
+pub mod StoreImages
