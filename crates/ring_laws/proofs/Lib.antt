@@ -9,3 +9,4 @@ pub mod RestartFacts
 pub mod RestartWrites
 pub mod RestartCalls
 pub mod StoreImages
+pub mod StoreEvents

@@ -1,5 +1,5 @@
 ghost use Rattle.ring_laws.specs.Laws.{PagesAreBytes, PagesAreNumbered, RestartsStand, RingIsRead, RingStands};
-ghost use Rattle.ring_laws.specs.StoreLogs.{LogsAreLeft};
+ghost use Rattle.ring_laws.specs.StoreLogs.{LogsAreLeft, LogsFollow};
 
 /// Law: the pages of a session are numbered: each stands in the ring behind the one before it, and
 /// pages that are less than a round apart have places of their own.
@@ -39,4 +39,11 @@ pub fn restarts_stand()
 /// that it chooses.
 pub fn logs_are_left()
     ensures { LogsAreLeft }
+{}
+
+/// Law: each event of a store's log leaves a log of the store that the disk holds: its start,
+/// entries that are appended, a page's or a restart page's write that answered Ok or failed, syncs
+/// and what they free, a checkpoint's beginning, and whatever is done in other sectors.
+pub fn logs_follow()
+    ensures { LogsFollow }
 {}

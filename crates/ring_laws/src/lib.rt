@@ -12,5 +12,6 @@
 mod laws;
 
 pub use laws::{
-    logs_are_left, pages_are_bytes, pages_are_numbered, restarts_stand, ring_is_read, ring_stands,
+    logs_are_left, logs_follow, pages_are_bytes, pages_are_numbered, restarts_stand, ring_is_read,
+    ring_stands,
 };
