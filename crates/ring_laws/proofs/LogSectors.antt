@@ -13,9 +13,6 @@ use Rattle.sector_device.specs.Disks.{Disk, is_within, put, IsBetween}
 use Rattle.store_model.specs.Geometry.{SectorBytes}
 use Rattle.ring_laws.specs.PageBytes.{page_sector, raw_page, AreAlike}
 
-some_same : (a b : ℕ) → ◌≡◌ {A = Option ℕ} (Some a) (Some b) → a ≡ b
-some_same a b e = cc
-
 -- ---- where pages lie
 
 module _ (place : LogPlace) (ring : IsRingPlace place) where

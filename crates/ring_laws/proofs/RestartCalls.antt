@@ -18,21 +18,12 @@ use Rattle.store_model.proofs.Rings.{restarts-step}
 use Rattle.ring_laws.specs.PageBytes.{page_sector, raw_page, CanLeavePage, IsStill, IsSizedPage, AreAlike}
 use Rattle.ring_laws.specs.RestartPages.{RestartFields, IsBelow, said_restart, ShowsRestart, IsRestartBegun, HoldsRestarts, found_places, found_restarts, with_next, restart_synced, ChoosesRestart}
 use Rattle.ring_laws.proofs.Mixing.{length-page, page_sector_in}
-use Rattle.ring_laws.proofs.RingFacts.{alike_holds, alike_page, alike_image, alike_still}
+use Rattle.ring_laws.proofs.RingFacts.{alike_holds, alike_page, alike_image, alike_still, some_none, some_same, true_false}
 use Rattle.ring_laws.proofs.RingCalls.{still_value, still_image, settled_value, settled_page, sized_value}
 use Rattle.ring_laws.proofs.RestartFacts.{other_place, one_of_two, place_below, place_again, newest_held, picks_first, picks_second, chosen_of_two}
 
-some_word : (a b : ℕ) → ◌≡◌ {A = Option ℕ} (Some a) (Some b) → a ≡ b
-some_word a b e = cc
-
-some_none : (a : ℕ) → ◌≡◌ {A = Option ℕ} (Some a) None → ⊥
-some_none a e = cc
-
 none_restart : (r : Restart) → ◌≡◌ {A = Option Restart} (Some r) None → ⊥
 none_restart r e = cc
-
-true_false : true ≢ false
-true_false e = cc
 
 -- ---- a session finds them
 
@@ -60,7 +51,7 @@ module _ (place : LogPlace) (disk : Disk) (next : ℕ) (fields : RestartFields) 
 
   shows_sure : ShowsRestart fields sure (raw_page place (seen disk) (restart_place sure)) (Some sure)
   shows_sure = record {
-    is = λ n e le. ap (λ (k : ℕ). said_restart (raw_page place (seen disk) k)) sure_is ∙ own ∙ ap fields (some_word sure n e);
+    is = λ n e le. ap (λ (k : ℕ). said_restart (raw_page place (seen disk) k)) sure_is ∙ own ∙ ap fields (some_same sure n e);
     below = λ old. absurd (let lt : sure < sure = old sure refl in omega (arith, lt));
   }
 
@@ -170,13 +161,13 @@ module _ (place : LogPlace) (q : Restarts) (check : Option ℕ) (fields : Restar
 
     next_shows : ShowsRestart fields (suc q.sure) (raw_page place (seen disk) (restart_place (suc q.sure))) (Some (suc q.sure))
     next_shows = record {
-      is = λ n e le. next_says ∙ ap fields (some_word (suc q.sure) n e);
+      is = λ n e le. next_says ∙ ap fields (some_same (suc q.sure) n e);
       below = λ old. absurd (let lt : suc q.sure < suc q.sure = old (suc q.sure) refl in omega (arith, lt));
     }
 
     sure_shows : ShowsRestart fields (suc q.sure) (raw_page place (seen disk) (restart_place q.sure)) (Some q.sure)
     sure_shows = record {
-      is = λ n e le. absurd (omega (arith, some_word q.sure n e, le));
+      is = λ n e le. absurd (omega (arith, some_same q.sure n e, le));
       below = λ old. subst (λ (o : Option Restart). IsBelow o (fields (suc q.sure))) (sym sure_says) (h.rises begun_now);
     }
 
@@ -191,7 +182,7 @@ module _ (place : LogPlace) (q : Restarts) (check : Option ℕ) (fields : Restar
     lone_next : (x : Option ℕ) → PlaceMayHold (synced_places q.places) (restart_place (suc (suc q.sure))) x → x ≢ Some (suc q.sure)
     lone_next x holds e =
         let at : x ≡ newest_of (restart_place q.sure) = synced_value (restart_place (suc (suc q.sure))) x holds ∙ ap newest_of (place_again q.sure) in
-        omega (arith, some_word q.sure (suc q.sure) (sym newest_sure ∙ sym at ∙ e))
+        omega (arith, some_same q.sure (suc q.sure) (sym newest_sure ∙ sym at ∙ e))
 
     late_synced : HoldsRestarts place (record q { sure = suc q.sure; begun = false; done = false; places = synced_places q.places }) check fields (settled disk)
     late_synced = record {
@@ -338,7 +329,7 @@ module _ (place : LogPlace) (q : Restarts) (check : Option ℕ) (fields : Restar
     which (Some j) is = elim (h.restarts.next j (numbers there) (number_of there).1 is) [
       | inl le ↦
           let less : j < q.sure = omega (arith, le, lone_at) in
-          inl (is_sure (Some j) is (ap (λ (n : ℕ). Some n) (let e : max q.sure j ≡ q.sure = omega (arith, le) in e)) (λ n e. omega (arith, less, some_word j n e)))
+          inl (is_sure (Some j) is (ap (λ (n : ℕ). Some n) (let e : max q.sure j ≡ q.sure = omega (arith, le) in e)) (λ n e. omega (arith, less, some_same j n e)))
       | inr begun ↦
           let says_there : said_restart (raw_page place image there) ≡ fields (suc q.sure) = ((number_of there).2 (place_below (suc q.sure))).is (suc q.sure) (is ∙ ap (λ (n : ℕ). Some n) begun.1) (omega arith) in
           inr (
@@ -398,7 +389,7 @@ module _ (place : LogPlace) (q : Restarts) (fields : RestartFields) (disk : Disk
   -- no page is the next one yet
   few_numbers : (k : ℕ) (x : Option ℕ) (n : ℕ) → k < 2 → PlaceMayHold q.places k x → x ≡ Some n → n ≤ q.sure
   few_numbers k x n few holds is = elim (one_of_two q.sure k few) [
-    | inl here ↦ omega (arith, some_word n q.sure (sym is ∙ h.restarts.stays x (subst (λ (j : ℕ). PlaceMayHold q.places j x) here holds)))
+    | inl here ↦ omega (arith, some_same n q.sure (sym is ∙ h.restarts.stays x (subst (λ (j : ℕ). PlaceMayHold q.places j x) here holds)))
     | inr there ↦ elim (h.restarts.next n x (subst (λ (j : ℕ). PlaceMayHold q.places j x) there holds) is) [
       | inl le ↦ le
       | inr begun ↦ absurd (true_false (sym begun.0 ∙ not_begun))
@@ -439,7 +430,7 @@ module _ (place : LogPlace) (q : Restarts) (fields : RestartFields) (disk : Disk
     emptied = λ none. h.emptied (sym told_sure ∙ none);
     begun = λ w is. (
       early,
-      subst (λ (v : ℕ). IsRestartBegun place q told disk v) (let e : word ≡ w = some_word word w is in e) (record {
+      subst (λ (v : ℕ). IsRestartBegun place q told disk v) (let e : word ≡ w = some_same word w is in e) (record {
         next = next;
         said = told_next;
         fits = fits;

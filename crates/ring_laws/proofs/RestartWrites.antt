@@ -21,20 +21,11 @@ use Rattle.ring_laws.specs.RestartPages.{RestartFields, IsBelow, said_restart, S
 use Rattle.ring_laws.specs.Laws.{restart_put, HoldsRestartsAfter}
 use Rattle.ring_laws.proofs.LogSectors.{kept_by_page}
 use Rattle.ring_laws.proofs.Mixing.{sector_of_bytes, page_is, ends_by, mixed}
-use Rattle.ring_laws.proofs.RingFacts.{alike_holds, alike_page, alike_image, alike_still, seen_left, with_page, with_own, with_other}
+use Rattle.ring_laws.proofs.RingFacts.{alike_holds, alike_page, alike_image, alike_still, seen_left, with_page, with_own, with_other, some_none, some_same, true_false}
 use Rattle.ring_laws.proofs.RestartFacts.{other_place, place_below, not_whole, restart_fixups, restart_fails, restart_is_written}
-
-some_word : (a b : ℕ) → ◌≡◌ {A = Option ℕ} (Some a) (Some b) → a ≡ b
-some_word a b e = cc
-
-some_none : (a : ℕ) → ◌≡◌ {A = Option ℕ} (Some a) None → ⊥
-some_none a e = cc
 
 some_restart : (a b : Restart) → ◌≡◌ {A = Option Restart} (Some a) (Some b) → a ≡ b
 some_restart a b e = cc
-
-true_false : true ≢ false
-true_false e = cc
 
 module _ (place : LogPlace) (q : Restarts) (fields : RestartFields) (disk now : Disk) (word : ℕ) (h : HoldsRestarts place q (Some word) fields disk) where
   abbrev pub k0 : ℕ
@@ -69,7 +60,7 @@ module _ (place : LogPlace) (q : Restarts) (fields : RestartFields) (disk now : 
   -- the new page shows its number
   pub new_shows : (raw : List ℕ) → raw ≡ new → ShowsRestart fields q.sure raw (Some (suc q.sure))
   new_shows raw is = record {
-    is = λ n e le. ap said_restart is ∙ new_says ∙ ap fields (some_word (suc q.sure) n e);
+    is = λ n e le. ap said_restart is ∙ new_says ∙ ap fields (some_same (suc q.sure) n e);
     below = λ old. absurd (let lt : suc q.sure < q.sure = old (suc q.sure) refl in omega (arith, lt));
   }
 
@@ -153,7 +144,7 @@ module _ (place : LogPlace) (q : Restarts) (fields : RestartFields) (disk now : 
       lone_now y (inr m) = by (subst (λ (vs : List (Option ℕ)). Contains vs y) (with_own q.places k0 (suc q.sure) x) m)
         where
           none_one : (y : Option ℕ) → (y ≡ Some (suc q.sure)) ⊎ (y ≡ None) → y ≢ Some q.sure
-          none_one y (inl is) e = omega (arith, some_word (suc q.sure) q.sure (sym is ∙ e))
+          none_one y (inl is) e = omega (arith, some_same (suc q.sure) q.sure (sym is ∙ e))
           none_one y (inr is) e = some_none q.sure (sym e ∙ is)
 
           by : Contains (x ∷ (None ∷ (Some (suc q.sure) ∷ q.places.written k0))) y → y ≢ Some q.sure
@@ -200,7 +191,7 @@ module _ (place : LogPlace) (q : Restarts) (fields : RestartFields) (disk now : 
         emptied = emptied_now it.0 it.1 it.2;
         begun = λ w is. (
           early,
-          subst (λ (v : ℕ). IsRestartBegun place (restart_sent q (after it.0 it.1 it.2)) fields now v) (some_word word w is) (record {
+          subst (λ (v : ℕ). IsRestartBegun place (restart_sent q (after it.0 it.1 it.2)) fields now v) (some_same word w is) (record {
             next = b.next;
             said = b.said;
             fits = b.fits;

@@ -1,5 +1,5 @@
 -- A ring begins, and stays a ring of the disk whatever is done but for the writes of pages.
-use Rattle.std.proofs.Common.{◌≡◌, ◌≢◌, ◌⊎◌, ℕ, suc, ◌+◌, ◌-◌, ◌%◌, ◌<◌, ◌≤◌, true, false, List, [], length, drop, get_or, Option, Some, None, refl, sym, ap, ◌∙◌, subst, inl, inr, arith}
+use Rattle.std.proofs.Common.{◌≡◌, ◌⊎◌, ℕ, suc, ◌+◌, ◌-◌, ◌%◌, ◌<◌, ◌≤◌, true, false, List, [], length, drop, get_or, Option, Some, None, refl, sym, ap, ◌∙◌, subst, inl, inr, arith}
 use Rattle.std.specs.Prelude.{Contains}
 use Rattle.std.proofs.lemmas.Bool.{cases_Bool, cases_lt}
 use Rattle.std.proofs.lemmas.List.{get_or-drop}
@@ -25,7 +25,7 @@ use Rattle.ring_laws.specs.RingPages.{ShowsPage, entries_of_page, IsBegun, Holds
 use Rattle.ring_laws.proofs.Numbering.{has_places, in_ring, first_number}
 use Rattle.ring_laws.proofs.LogSectors.{raw_same}
 use Rattle.ring_laws.proofs.Mixing.{length-page, page_sector_in}
-use Rattle.ring_laws.proofs.RingFacts.{has_ring, log_small, alike_holds, alike_page, alike_image, alike_still, seen_left, first_sector, first_says, there_page}
+use Rattle.ring_laws.proofs.RingFacts.{true_false, some_none, has_ring, log_small, alike_holds, alike_page, alike_image, alike_still, seen_left, first_sector, first_says, there_page}
 
 -- ---- pages of which nothing is unsynced
 
@@ -99,12 +99,6 @@ module _ (s : LogSession) (disk : Disk) (lies : IsRingPlace s.place) (sized : Is
     begun = λ w is. absurd (some_none w (sym is));
     unbegun = λ is. omega arith;
   }
-    where
-      some_none : (j : ℕ) → ◌≡◌ {A = Option ℕ} (Some j) None → ⊥
-      some_none j e = cc
-
-      true_false : true ≢ false
-      true_false e = cc
 
 module _ (s : LogSession) (r : Ring) (check : Option ℕ) (pages : List (List Entry)) (disk : Disk) (h : HoldsRing s r check pages disk) where
   -- a page that is whole was written

@@ -1,5 +1,5 @@
 -- What the steps of a ring are proved by.
-use Rattle.std.proofs.Common.{◌≡◌, ◌≢◌, ◌⊎◌, ℕ, zero, suc, ◌+◌, ◌*◌, ◌/◌, ◌^◌, ◌<◌, ◌≤◌, max, Bool, true, cond, nat_eq, List, [], ◌∷◌, take, drop, Option, Some, None, refl, sym, ap, ◌∙◌, subst, inl, inr, arith}
+use Rattle.std.proofs.Common.{◌≡◌, ◌≢◌, ◌⊎◌, ℕ, zero, suc, ◌+◌, ◌*◌, ◌/◌, ◌^◌, ◌<◌, ◌≤◌, max, Bool, true, false, cond, nat_eq, List, [], ◌∷◌, take, drop, Option, Some, None, refl, sym, ap, ◌∙◌, subst, inl, inr, arith}
 use Rattle.std.specs.Prelude.{Contains, if◌then◌else◌, ◌==◌}
 use Rattle.std.specs.List.{starts_with}
 use Rattle.std.specs.Cmp.Lexicographic.{pointwise}
@@ -25,6 +25,17 @@ use Rattle.ring_laws.specs.PageBytes.{page_sector, raw_page, CanLeavePage, IsSti
 use Rattle.ring_laws.specs.RingPages.{page_written, page_sent}
 use Rattle.ring_laws.proofs.Numbering.{lsns_rise}
 use Rattle.ring_laws.proofs.LogSectors.{raw_same}
+
+-- ---- what can't be
+
+pub true_false : true ≢ false
+true_false e = cc
+
+pub some_none : (a : ℕ) → ◌≡◌ {A = Option ℕ} (Some a) None → ⊥
+some_none a e = cc
+
+pub some_same : (a b : ℕ) → ◌≡◌ {A = Option ℕ} (Some a) (Some b) → a ≡ b
+some_same a b e = cc
 
 -- ---- logs
 

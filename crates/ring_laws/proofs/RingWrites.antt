@@ -26,13 +26,7 @@ use Rattle.ring_laws.specs.Laws.{page_put, HoldsAfter}
 use Rattle.ring_laws.proofs.Numbering.{has_places, in_ring, says_lap}
 use Rattle.ring_laws.proofs.LogSectors.{kept_by_page}
 use Rattle.ring_laws.proofs.Mixing.{sector_of_bytes, page_is, ends_by, fixups_hold, mixed}
-use Rattle.ring_laws.proofs.RingFacts.{has_ring, log_small, laps_climb, one_number, alike_holds, alike_page, alike_image, alike_still, seen_left, first_sector, first_says, with_page, with_own, with_other, third_fails, third_is_written}
-
-some_word : (a b : ℕ) → ◌≡◌ {A = Option ℕ} (Some a) (Some b) → a ≡ b
-some_word a b e = cc
-
-true_false : true ≢ false
-true_false e = cc
+use Rattle.ring_laws.proofs.RingFacts.{has_ring, log_small, laps_climb, one_number, alike_holds, alike_page, alike_image, alike_still, seen_left, first_sector, first_says, with_page, with_own, with_other, third_fails, third_is_written, some_same, true_false}
 
 module _ (s : LogSession) (r : Ring) (pages : List (List Entry)) (disk now : Disk) (word : ℕ) (h : HoldsRing s r (Some word) pages disk) (between : IsBetween disk (page_put s r pages word disk) now) where
   abbrev entries : List Entry
@@ -209,7 +203,7 @@ module _ (s : LogSession) (r : Ring) (pages : List (List Entry)) (disk now : Dis
 
   new_lap : (lsn : ℕ) → said_lsn new ≡ Some lsn → lap_of s.place.pages lsn ≡ lap_of_page s r.done
   new_lap lsn said =
-      let is : lsn ≡ end_lsn (lsn_of_page s r.done) entries = some_word lsn (end_lsn (lsn_of_page s r.done) entries) (sym said ∙ again.says) in
+      let is : lsn ≡ end_lsn (lsn_of_page s r.done) entries = some_same lsn (end_lsn (lsn_of_page s r.done) entries) (sym said ∙ again.says) in
       ap (lap_of s.place.pages) is ∙ b.made.last ∙ says_lap s (has_ring s.place h.lies) (log_small s.place h.lies) r.done
 
   pub said_now : (k : ℕ) (value : List ℕ) (lsn : ℕ) → IsInRing s.place k → MayHold now (page_sector s.place k) value → said_lsn value ≡ Some lsn → lap_of s.place.pages lsn ≤ lap_of_page s (max r.sent (suc r.done))
@@ -246,7 +240,7 @@ module _ (s : LogSession) (r : Ring) (pages : List (List Entry)) (disk now : Dis
       gives = gives_now;
       still = still_now;
       said = said_now;
-      begun = λ w is. subst (λ (v : ℕ). IsBegun s (page_sent r after) entries now v) (some_word word w is) (record {
+      begun = λ w is. subst (λ (v : ℕ). IsBegun s (page_sent r after) entries now v) (some_same word w is) (record {
         old = b.old;
         old_size = b.old_size;
         picked = b.picked;

@@ -1,5 +1,5 @@
 -- What each event of the log of a store leaves is a log of it that the disk holds.
-use Rattle.std.proofs.Common.{◌≡◌, ◌≢◌, ℕ, zero, suc, ◌+◌, ◌-◌, ◌<◌, ◌≤◌, max, Bool, true, false, List, [], ◌∷◌, ◌++◌, length, take, drop, get_or, Option, Some, None, refl, sym, ap, ◌∙◌, subst, inl, inr, length-append, arith}
+use Rattle.std.proofs.Common.{◌≡◌, ℕ, zero, suc, ◌+◌, ◌-◌, ◌<◌, ◌≤◌, max, Bool, true, false, List, [], ◌∷◌, ◌++◌, length, take, drop, get_or, Option, Some, None, refl, sym, ap, ◌∙◌, subst, inl, inr, length-append, arith}
 use Rattle.std.specs.Prelude.{if◌then◌else◌}
 use Rattle.std.proofs.lemmas.Bool.{cases_lt, eq-eqb, ne_eqb}
 use Rattle.log_model.specs.declared.entry.Entry.{Entry}
@@ -26,7 +26,7 @@ use Rattle.ring_laws.specs.Laws.{page_put, restart_put}
 use Rattle.ring_laws.specs.StoreLogs.{NamesPages, entries_to, LogNumbers, HoldsLog, LogBecomes, KeepsLog, stays_to}
 use Rattle.ring_laws.proofs.LogSectors.{kept_by_page}
 use Rattle.ring_laws.proofs.Numbering.{in_ring}
-use Rattle.ring_laws.proofs.RingFacts.{has_ring}
+use Rattle.ring_laws.proofs.RingFacts.{has_ring, true_false}
 use Rattle.ring_laws.proofs.RestartFacts.{place_below}
 use Rattle.ring_laws.proofs.RingWrites.{length-new, page_is_written, page_fails}
 use Rattle.ring_laws.proofs.RingCalls.{grows, syncs, frees, kept_by_others, picks}
@@ -119,9 +119,6 @@ holds s l after disk log synced done sent place begun renamed replaced b c ring 
   place = λ e. b.place_is ∙ c.notes (sym b.begun_is ∙ e);
   renamed = λ e. b.begun_is ∙ c.renames (sym b.renamed_is ∙ e);
 }
-
-true_false : true ≢ false
-true_false e = cc
 
 same_restart : (a b : Restart) → ◌≡◌ {A = Option Restart} (Some a) (Some b) → a ≡ b
 same_restart a b e = cc

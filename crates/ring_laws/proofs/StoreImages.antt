@@ -15,19 +15,17 @@ use Rattle.ring_laws.specs.PageBytes.{raw_page}
 use Rattle.ring_laws.specs.RestartPages.{ChoosesRestart}
 use Rattle.ring_laws.specs.Laws.{ReadsNumbers}
 use Rattle.ring_laws.specs.StoreLogs.{LogNumbers, HoldsLog, LogIsLeft}
+use Rattle.ring_laws.proofs.RingFacts.{some_same}
 use Rattle.ring_laws.proofs.RingReads.{reads_numbers}
 use Rattle.ring_laws.proofs.RestartCalls.{chooses}
-
-one_page : (a b : ℕ) → ◌≡◌ {A = Option ℕ} (Some a) (Some b) → a ≡ b
-one_page a b e = cc
 
 module _ (place : ℕ → ℕ) (r : Ring) (q : Restarts) (noted : ℕ) (pages : List (List Entry)) (image restarts : ℕ → Option ℕ) where
   old_list : (l : List Entry) → ReadsList place r q noted pages image restarts l → chosen_page restarts ≡ Some q.sure → l ≡ read_from place r pages image r.oldest
   old_list l (from_oldest e) is = refl
-  old_list l (from_noted begun e) is = absurd (omega (arith, one_page q.sure (suc q.sure) (sym is ∙ e)))
+  old_list l (from_noted begun e) is = absurd (omega (arith, some_same q.sure (suc q.sure) (sym is ∙ e)))
 
   new_list : (l : List Entry) → ReadsList place r q noted pages image restarts l → chosen_page restarts ≡ Some (suc q.sure) → l ≡ read_from place r pages image noted
-  new_list l (from_oldest e) is = absurd (omega (arith, one_page (suc q.sure) q.sure (sym is ∙ e)))
+  new_list l (from_oldest e) is = absurd (omega (arith, some_same (suc q.sure) q.sure (sym is ∙ e)))
   new_list l (from_noted begun e) is = refl
 
 module _ (s : LogSession) (l : LogNumbers) (store : Store) (disk : Disk) (h : HoldsLog s l store disk) (image : SectorBytes) (left : CanLeave disk image) (sectors : SectorBytes) (may : CanLeave store.disk sectors) where
