@@ -23,6 +23,7 @@ use Rattle.ring_laws.specs.RestartPages.{RestartFields, IsBelow, said_restart, H
 
 -- ---- numbers
 
+-- The pages of a session stand in the ring one behind the other, in places of their own, and their LSNs rise and say it.
 pub record PagesAreNumbered : Type 0 where
   -- pages that are less than a round apart have places of their own
   pub places : (s : LogSession) → HasPlaces (ring_size s) (place_of_page s)
@@ -40,6 +41,7 @@ pub record PagesAreNumbered : Type 0 where
 
 -- ---- bytes
 
+-- A page of the log is the bytes of eight sectors in a row, which are those of no other page.
 pub record PagesAreBytes : Type 0 where
   -- the page is the one that is read of the log
   pub read : (place : LogPlace) (at : SectorBytes) (k : ℕ) → IsRingPlace place → k < place.pages → page_in (content_of at) place k ≡ raw_page place at k
@@ -63,6 +65,7 @@ HoldsAfter s after check pages disk = (places : PagePlaces) × HoldsRing s (afte
 abbrev pub page_put : LogSession → Ring → List (List Entry) → ℕ → Disk → Disk
 page_put s r pages check disk = put (page_sector s.place (place_of_page s r.done)) (sectors_of (spelled_page s r.done (entries_of_page r pages r.done) check)) disk
 
+-- A ring begins, and whatever is done with it leaves a ring that the disk holds.
 pub record RingStands : Type 0 where
   -- a session begins on a log whose ring says no lap from the session's first one on
   pub start : (s : LogSession) (disk : Disk) → IsRingPlace s.place → IsSized disk → ((k : ℕ) → IsInRing s.place k → IsStill s.place disk k)
@@ -104,6 +107,7 @@ pub record ReadsNumbers (s : LogSession) (r : Ring) (pages : List (List Entry)) 
   pub reads : (start : ℕ) → r.oldest ≤ start
       → live_log s.place.pages (raw_page s.place image) (lsn_of_page s start) ≡ record { entries = read_from (place_of_page s) r pages numbers start; foreign = None }
 
+-- Whatever a crash leaves of a ring is read as a front of its pages, and says no lap above theirs.
 pub record RingIsRead : Type 0 where
   pub front : (s : LogSession) (r : Ring) (check : Option ℕ) (pages : List (List Entry)) (disk : Disk) → HoldsRing s r check pages disk → (image : SectorBytes) → CanLeave disk image → ReadsFront s r pages image
   pub numbers : (s : LogSession) (r : Ring) (check : Option ℕ) (pages : List (List Entry)) (disk : Disk) → HoldsRing s r check pages disk → (image : SectorBytes) → CanLeave disk image → ReadsNumbers s r pages image
@@ -116,6 +120,7 @@ pub record RingIsRead : Type 0 where
 
 -- ---- restart pages
 
+-- The places of restart pages after a call, which the disk holds.
 abbrev pub HoldsRestartsAfter : LogPlace → (PagePlaces → Restarts) → Option ℕ → RestartFields → Disk → Type 0
 HoldsRestartsAfter place after check fields disk = (places : PagePlaces) × HoldsRestarts place (after places) check fields disk
 
@@ -123,6 +128,7 @@ HoldsRestartsAfter place after check fields disk = (places : PagePlaces) × Hold
 abbrev pub restart_put : LogPlace → Restarts → Restart → ℕ → Disk → Disk
 restart_put place q next check disk = put (page_sector place (restart_place (suc q.sure))) (sectors_of (spelled_restart next check)) disk
 
+-- Restart pages are found, whatever is done with them leaves such that the disk holds, and of those that a crash leaves the right one is chosen.
 pub record RestartsStand : Type 0 where
   -- a session begins: the next restart page goes to this place, and the other one's is chosen, or the log was emptied
   pub start : (place : LogPlace) (disk : Disk) (next : ℕ) (fields : RestartFields) → IsRingPlace place → IsSized disk → next < 2 → ((k : ℕ) → k < 2 → IsStill place disk k)

@@ -16,6 +16,7 @@ ring_size s = s.place.pages - first_page
 abbrev pub place_of_page : LogSession → ℕ → ℕ
 place_of_page s n = first_page + n % ring_size s
 
+-- its lap, which rises by one at each return to the ring's first page
 abbrev pub lap_of_page : LogSession → ℕ → ℕ
 lap_of_page s n = s.lap + n / ring_size s
 

@@ -69,10 +69,11 @@ pub record HoldsRestarts (place : LogPlace) (q : Restarts) (check : Option ℕ) 
   pub begun : (word : ℕ) → check ≡ Some word → (q.done ≡ false) × IsRestartBegun place q fields disk word
   pub unbegun : check ≡ None → q.done ≡ false → q.begun ≡ false
 
--- the restart pages as a session finds them: the next one goes to this place
+-- of the two places this page's holds it, and the other one none
 abbrev pub found_places : ℕ → PagePlaces
 found_places sure = record { durable = λ k. if k == restart_place sure then Some sure else None; written = λ k. [] }
 
+-- the restart pages as a session finds them, where the next one goes to this place
 abbrev pub found_restarts : (next : ℕ) → Restarts
 found_restarts next = let sure = 1 - next in record { sure = sure; begun = false; done = false; places = found_places sure }
 
@@ -80,14 +81,15 @@ found_restarts next = let sure = 1 - next in record { sure = sure; begun = false
 abbrev pub with_next : Restarts → Restart → RestartFields → RestartFields
 with_next q next fields = λ n. if n == suc q.sure then Some next else fields n
 
--- the next page was written, and the write answered Ok; or it failed
+-- the next page was written, and the write answered Ok
 abbrev pub restart_written : Restarts → PagePlaces → Restarts
 restart_written q places = record q { begun = true; done = true; places = places }
 
+-- the write failed, so the page was sent, perhaps in part
 abbrev pub restart_sent : Restarts → PagePlaces → Restarts
 restart_sent q places = record q { begun = true; places = places }
 
--- a sync after that write, and one before it
+-- a sync: after such a write that answered Ok the next page is the last durable one
 abbrev pub restart_synced : Restarts → Restarts
 restart_synced q = if q.done then record q { sure = suc q.sure; begun = false; done = false; places = synced_places q.places } else record q { places = synced_places q.places }
 

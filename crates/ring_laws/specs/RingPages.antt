@@ -62,10 +62,11 @@ pub record HoldsRing (s : LogSession) (r : Ring) (check : Option ℕ) (pages : L
 abbrev pub first_ring : LogSession → Ring
 first_ring s = new_ring (ring_size s) 0 (record { durable = λ k. None; written = λ k. [] })
 
--- the next page was written, and the write answered Ok; or it failed
+-- the next page was written, and the write answered Ok
 abbrev pub page_written : Ring → PagePlaces → Ring
 page_written r places = record r { done = suc r.done; sent = max r.sent (suc r.done); places = places }
 
+-- the write failed, so the page was sent, perhaps in part
 abbrev pub page_sent : Ring → PagePlaces → Ring
 page_sent r places = record r { sent = max r.sent (suc r.done); places = places }
 

@@ -62,6 +62,7 @@ pub record LogIsLeft (s : LogSession) (store : Store) (image sectors : SectorByt
   pub chosen : chosen_in (raw_page s.place image 0) (raw_page s.place image 1) ≡ Some restart
   pub reads : live_log s.place.pages (raw_page s.place image) restart.oldest ≡ record { entries = list_of store left; foreign = None }
 
+-- what a crash leaves of a log that the disk holds is an image of its store
 abbrev pub LogsAreLeft : Type 0
 LogsAreLeft = (s : LogSession) (l : LogNumbers) (store : Store) (disk : Disk) → HoldsLog s l store disk → (image : SectorBytes) → CanLeave disk image → (sectors : SectorBytes) → CanLeave store.disk sectors
     → LogIsLeft s store image sectors
