@@ -10,3 +10,4 @@ pub mod RestartWrites
 pub mod RestartCalls
 pub mod StoreImages
 pub mod StoreEvents
+pub mod SeenDisks

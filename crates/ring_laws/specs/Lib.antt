@@ -4,3 +4,4 @@ pub mod RingPages
 pub mod RestartPages
 pub mod Laws
 pub mod StoreLogs
+pub mod StoreDisks

@@ -1,4 +1,5 @@
 ghost use Rattle.ring_laws.specs.Laws.{PagesAreBytes, PagesAreNumbered, RestartsStand, RingIsRead, RingStands};
+ghost use Rattle.ring_laws.specs.StoreDisks.{StoresSeeDisks};
 ghost use Rattle.ring_laws.specs.StoreLogs.{LogsAreLeft, LogsFollow};
 
 /// Law: the pages of a session are numbered: each stands in the ring behind the one before it, and
@@ -46,4 +47,10 @@ pub fn logs_are_left()
 /// and what they free, a checkpoint's beginning, and whatever is done in other sectors.
 pub fn logs_follow()
     ensures { LogsFollow }
+{}
+
+/// Law: the disk that a store sees of a device, without the sectors that the log keeps for itself,
+/// is left by crashes, written and synced as the device's is, and not written by a write of the log.
+pub fn stores_see_disks()
+    ensures { StoresSeeDisks }
 {}

@@ -13,5 +13,5 @@ mod laws;
 
 pub use laws::{
     logs_are_left, logs_follow, pages_are_bytes, pages_are_numbered, restarts_stand, ring_is_read,
-    ring_stands,
+    ring_stands, stores_see_disks,
 };
