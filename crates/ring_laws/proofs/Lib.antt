@@ -11,3 +11,4 @@ pub mod RestartCalls
 pub mod StoreImages
 pub mod StoreEvents
 pub mod SeenDisks
+pub mod StoreRecovers

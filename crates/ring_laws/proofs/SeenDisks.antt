@@ -1,19 +1,23 @@
 -- The disk that a store sees of a device.
 use mathlib.Core.Path.{fun_ext}
 use Rattle.std.proofs.Common.{◌≡◌, ◌⊎◌, ℕ, zero, suc, ◌+◌, ◌-◌, ◌<◌, ◌≤◌, Bool, true, false, List, [], ◌∷◌, length, refl, sym, ap, ◌∙◌, inl, inr, arith}
-use Rattle.std.specs.Prelude.{Contains, if◌then◌else◌, not, nat_le, nat_lt, replicate}
-use Rattle.std.specs.List.{list_all, range_with_len}
+use Rattle.std.specs.Cmp.Lexicographic.{pointwise}
+use Rattle.std.specs.Prelude.{Contains, nat_eq, ◌||◌, ◌&&◌, if◌then◌else◌, not, nat_le, nat_lt, replicate}
+use Rattle.std.specs.List.{list_all, list_any, range_with_len}
 use Rattle.std.proofs.lemmas.Bool.{and_parts, leb-true, ltb-true}
 use Rattle.std.proofs.lemmas.List.{length-replicate}
 use Rattle.disk_model.specs.declared.block.Block.{Block}
 use Rattle.disk_model.specs.declared.block.Body.{Body}
-use Rattle.disk_model.specs.Sectors.{zero_sector, sectors, sector_of}
+use Rattle.disk_model.specs.declared.block.BlockKind.TheVariants.{Plain}
+use Rattle.disk_model.specs.Sectors.{zero_sector, sectors, sector_of, same_kind}
 use Rattle.disk_model.specs.Content.{Content, content_of}
-use Rattle.log_model.specs.Logs.{is_in_grid}
+use Rattle.disk_model.specs.Writes.{bytes_after, cover_all}
+use Rattle.log_model.specs.declared.entry.Entry.{Entry}
+use Rattle.log_model.specs.Logs.{is_in_grid, updates, is_shadowed, recovery_of, recovered, is_covered_whole, is_other, is_written_out, is_partial}
 use Rattle.sector_device.specs.Disks.{Disk, newest, seen, MayHold, is_within, put, settled, IsBetween}
 use Rattle.store_model.specs.Geometry.{SectorBytes, CanLeave, Geometry, Puts, PutsAll}
 use Rattle.store_model.specs.Events.{StandsAs}
-use Rattle.store_model.specs.Volumes.{is_free, is_known, sectors_from, IsVolume, BearsContent, AreWhole}
+use Rattle.store_model.specs.Volumes.{is_free, is_known, sectors_from, IsVolume, BearsContent, AreWhole, IsRecovered}
 use Rattle.store_model.proofs.Known.{own_content}
 use Rattle.store_model.proofs.Devices.{put_is, torn_is}
 use Rattle.ring_laws.specs.StoreDisks.{sectors_without, disk_without}
@@ -37,6 +41,33 @@ not_own own b n known within =
     let low : b.first ≤ n = leb-true b.first n at.0 in
     let high : n < b.first + sectors b.kind = ltb-true n (b.first + sectors b.kind) at.1 in
     ap own (let e : n ≡ b.first + (n - b.first) = omega (arith, low) in e) ∙ not_true (own (b.first + (n - b.first))) (all_at (λ s. not (own s)) b.first (sectors b.kind) (n - b.first) free (omega (arith, low, high)))
+
+-- a recovered body hangs on the block's own body alone
+recovered_same : (list : List Entry) (b : Block) (c d : Content) → c b ≡ d b → recovered c list b ≡ recovered d list b
+unfolding recovered
+recovered_same list b c d same = ap of_body same
+  where
+    of_body : Body → Body
+    of_body body = if is_shadowed list b then body else record { bytes = bytes_after (recovery_of list) b body.bytes; torn = body.torn && not (cover_all (recovery_of list) b (length body.bytes)) }
+
+pub other_same : (list : List Entry) (b : Block) (c d : Content) → c b ≡ d b → is_other c list b ≡ is_other d list b
+unfolding is_other
+other_same list b c d same = ap (λ (body : Body). not (pointwise nat_eq body.bytes (c b).bytes)) (recovered_same list b c d same) ∙ ap (λ (body : Body). not (pointwise nat_eq (recovered d list b).bytes body.bytes)) same
+
+pub partial_same : (list : List Entry) (b : Block) (c d : Content) → c b ≡ d b → is_partial c list b ≡ is_partial d list b
+unfolding is_partial
+partial_same list b c d same = ap (λ (v : Bool). not (same_kind b.kind Plain) && not (is_shadowed list b) && not (is_covered_whole list b) && v) (other_same list b c d same)
+
+pub written_same : (list : List Entry) (b : Block) (c d : Content) → c b ≡ d b → is_written_out c list b ≡ is_written_out d list b
+unfolding is_written_out
+written_same list b c d same =
+    ap (λ (v : Bool). list_any (λ (e : Entry). updates b e.act) list && not (is_shadowed list b) && (v || ((c b).torn && is_covered_whole list b))) (other_same list b c d same)
+    ∙ ap (λ (body : Body). list_any (λ (e : Entry). updates b e.act) list && not (is_shadowed list b) && (is_other d list b || (body.torn && is_covered_whole list b))) same
+
+-- what is written out has an update
+pub written_updated : (list : List Entry) (b : Block) (c : Content) → is_written_out c list b ≡ true → list_any (λ (e : Entry). updates b e.act) list ≡ true
+unfolding is_written_out
+written_updated list b c out = (and_parts (list_any (λ (e : Entry). updates b e.act) list) (not (is_shadowed list b)) (and_parts (list_any (λ (e : Entry). updates b e.act) list && not (is_shadowed list b)) (is_other c list b || ((c b).torn && is_covered_whole list b)) out).0).0
 
 module _ (own : ℕ → Bool) where
   -- ---- sector by sector
@@ -76,6 +107,11 @@ module _ (own : ℕ → Bool) where
 
   pub without_content : (at : SectorBytes) (b : Block) → is_known own b ≡ true → content_of (sectors_without own at) b ≡ content_of at b
   without_content at b known = own_content b (sectors_without own at) at (λ n within. ap (λ (v : Bool). if v then zero_sector else at n) (not_own own b n known within))
+
+  pub without_recovered : (at : SectorBytes) (list : List Entry) (content : Content) (b : Block) → is_known own b ≡ true → IsRecovered list (sectors_without own at) content b → IsRecovered list at content b
+  without_recovered at list content b known h =
+      let same : recovered (content_of at) list b ≡ recovered (content_of (sectors_without own at)) list b = recovered_same list b (content_of at) (content_of (sectors_without own at)) (sym (without_content at b known)) in
+      record { bytes = ap (λ (body : Body). body.bytes) same ∙ h.bytes; torn = λ torn. h.torn (ap (λ (body : Body). body.torn) (sym same) ∙ torn) }
 
   pub without_seen : (disk : Disk) → seen (disk_without own disk) ≡ sectors_without own (seen disk)
   without_seen disk = fun_ext (λ n. go n (own n))

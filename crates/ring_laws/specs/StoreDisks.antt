@@ -3,10 +3,11 @@ use Rattle.std.specs.Prelude.{◌≡◌, ℕ, Bool, true, if◌then◌else◌, L
 use Rattle.disk_model.specs.declared.block.Block.{Block}
 use Rattle.disk_model.specs.Sectors.{zero_sector, sectors}
 use Rattle.disk_model.specs.Content.{Content, content_of}
+use Rattle.log_model.specs.declared.entry.Entry.{Entry}
 use Rattle.sector_device.specs.Disks.{Disk, seen, is_within, put, settled, IsBetween}
 use Rattle.store_model.specs.Geometry.{SectorBytes, CanLeave, Geometry, Puts, PutsAll}
 use Rattle.store_model.specs.Events.{StandsAs}
-use Rattle.store_model.specs.Volumes.{is_known, sectors_from, IsVolume, BearsContent, AreWhole}
+use Rattle.store_model.specs.Volumes.{is_known, sectors_from, IsVolume, BearsContent, AreWhole, IsRecovered}
 
 -- these sectors without the own ones, which are zeros
 abbrev pub sectors_without : (ℕ → Bool) → SectorBytes → SectorBytes
@@ -18,9 +19,11 @@ disk_without own disk = record { durable = λ n. if own n then zero_sector else 
 
 -- What the calls of a device are to the disk that a store sees of it.
 pub record StoresSeeDisks : Type 0 where
-  -- an image of the device is one of this disk, and its known blocks are the same
+  -- an image of the device is one of this disk; its known blocks are the same,
   pub leaves : (own : ℕ → Bool) (disk : Disk) (image : SectorBytes) → CanLeave disk image → CanLeave (disk_without own disk) (sectors_without own image)
   pub content : (own : ℕ → Bool) (at : SectorBytes) (b : Block) → is_known own b ≡ true → content_of (sectors_without own at) b ≡ content_of at b
+  -- and are recovered to the same
+  pub recovered : (own : ℕ → Bool) (at : SectorBytes) (list : List Entry) (content : Content) (b : Block) → is_known own b ≡ true → IsRecovered list (sectors_without own at) content b → IsRecovered list at content b
   pub seen : (own : ℕ → Bool) (disk : Disk) → seen (disk_without own disk) ≡ sectors_without own (seen disk)
   pub whole : (own : ℕ → Bool) (at : SectorBytes) → AreWhole at → AreWhole (sectors_without own at)
   -- a settled disk bears what is read of it, and so does this one

@@ -1,6 +1,6 @@
 ghost use Rattle.ring_laws.specs.Laws.{PagesAreBytes, PagesAreNumbered, RestartsStand, RingIsRead, RingStands};
 ghost use Rattle.ring_laws.specs.StoreDisks.{StoresSeeDisks};
-ghost use Rattle.ring_laws.specs.StoreLogs.{LogsAreLeft, LogsFollow};
+ghost use Rattle.ring_laws.specs.StoreLogs.{ImagesRecover, LogsAreLeft, LogsFollow};
 
 /// Law: the pages of a session are numbered: each stands in the ring behind the one before it, and
 /// pages that are less than a round apart have places of their own.
@@ -53,4 +53,11 @@ pub fn logs_follow()
 /// is left by crashes, written and synced as the device's is, and not written by a write of the log.
 pub fn stores_see_disks()
     ensures { StoresSeeDisks }
+{}
+
+/// Law: whatever a crash leaves of a device that holds a sound store and its log recovers: the
+/// restart page that is chosen names a place from which a list is read, and with it each known
+/// block that the list doesn't shadow is as it is in a content of the store's window.
+pub fn images_recover()
+    ensures { ImagesRecover }
 {}

@@ -1,10 +1,11 @@
-use Rattle.ring_laws.proofs.SeenDisks.{without_left, without_content, without_seen, without_whole, without_bears, own_put, without_written, without_failed, without_again, without_synced}
+use Rattle.ring_laws.proofs.SeenDisks.{without_left, without_content, without_recovered, without_seen, without_whole, without_bears, own_put, without_written, without_failed, without_again, without_synced}
 use Rattle.ring_laws.proofs.laws.stores_see_disks.Goals as goal
 
 pub returns : goal.returns
 returns c = record {
   leaves = without_left;
   content = without_content;
+  recovered = without_recovered;
   seen = without_seen;
   whole = without_whole;
   bears = without_bears;
