@@ -5,3 +5,4 @@ pub mod RestartPages
 pub mod Laws
 pub mod StoreLogs
 pub mod StoreDisks
+pub mod DeviceImages

@@ -1,10 +1,6 @@
 -- The log of a store on a disk: what a crash leaves of it is an image that the store may leave, and what each event makes of it.
 use Rattle.std.specs.Prelude.{◌≡◌, ℕ, suc, ◌+◌, ◌-◌, ◌<◌, ◌≤◌, max, Bool, true, false, List, [], length, get_or, take, drop, Option, Some, None}
-use Rattle.disk_model.specs.declared.block.Block.{Block}
-use Rattle.disk_model.specs.Content.{content_of}
-use Rattle.fixup_record.specs.Spellings.{has_spelling}
 use Rattle.log_model.specs.declared.entry.Entry.{Entry}
-use Rattle.log_model.specs.Logs.{is_other, is_written_out, first_partial}
 use Rattle.log_page.specs.declared.restart.Restart.{Restart}
 use Rattle.log_page.specs.CheckWords.{IsCheckWord}
 use Rattle.log_page.specs.LiveLogs.{live_log}
@@ -13,16 +9,14 @@ use Rattle.log_page.specs.Restarts.{FitsRestart}
 use Rattle.log_page.specs.RestartLaws.{HasRanges}
 use Rattle.log_reading.specs.Fronts.{chosen_in}
 use Rattle.sector_device.specs.Disks.{Disk, seen, settled, IsBetween}
-use Rattle.store_model.specs.Geometry.{SectorBytes, CanLeave, Geometry}
-use Rattle.store_model.specs.Stores.{Store, Image, MayLeave, list_of, IsSound}
-use Rattle.store_model.specs.Volumes.{is_known, IsVolume, AreWhole, RecoversToContent, window_of}
+use Rattle.store_model.specs.Geometry.{SectorBytes, CanLeave}
+use Rattle.store_model.specs.Stores.{Store, Image, MayLeave, list_of}
 use Rattle.store_model.specs.Rings.{PagePlaces, Ring, Restarts, IsKept, entries_on, synced_places, restart_place}
 use Rattle.ring_laws.specs.Numbers.{LogSession, place_of_page, lap_of_page, lsn_of_page}
 use Rattle.ring_laws.specs.PageBytes.{raw_page, AreAlike}
 use Rattle.ring_laws.specs.RingPages.{HoldsRing, entries_of_page, page_written, page_sent, fixed_to}
 use Rattle.ring_laws.specs.RestartPages.{RestartFields, IsBelow, HoldsRestarts, with_next, restart_written, restart_sent, restart_synced}
 use Rattle.ring_laws.specs.Laws.{page_put, restart_put}
-use Rattle.ring_laws.specs.StoreDisks.{disk_without}
 
 -- The last durable restart page names the ring's oldest page, and the next one, once that was begun, the noted one.
 pub record NamesPages (s : LogSession) (r : Ring) (q : Restarts) (noted : ℕ) (fields : RestartFields) : Type 0 where
@@ -147,25 +141,3 @@ pub record LogsFollow : Type 0 where
       → next.oldest ≡ lsn_of_page s l.noted → store.begun ≡ true → l.noted ≤ l.ring.synced → IsBetween disk (restart_put s.place l.restarts next word disk) now
       → LogBecomes after store.log store.synced store.done store.sent store.place store.begun true store.replaced
       → (places : PagePlaces) × HoldsLog s (record l { restarts = restart_sent l.restarts places }) after now
-
--- ---- images of the device
-
--- A crash left this of a device: recovery chooses a restart page, reads a list of entries from its oldest place on, and no entry of another shape, and leaves
--- the known blocks that the list doesn't shadow as they are in a content of the store's window.
-pub record ImageRecovers (own : ℕ → Bool) (s : LogSession) (store : Store) (image : SectorBytes) : Type 0 where
-  pub restart : Restart
-  pub chosen : chosen_in (raw_page s.place image 0) (raw_page s.place image 1) ≡ Some restart
-  pub list : List Entry
-  pub reads : live_log s.place.pages (raw_page s.place image) restart.oldest ≡ record { entries = list; foreign = None }
-  pub back : ℕ
-  pub within : back ≤ (window_of store.window).waiting
-  pub recovers : RecoversToContent own list image ((window_of store.window).before back)
-  -- the list isn't refused for a block that it covers in part, and what recovery writes out are known blocks, whose recovered bodies have a spelling
-  pub no_partial : first_partial (content_of image) list ≡ None
-  pub known : (b : Block) → is_written_out (content_of image) list b ≡ true → is_known own b ≡ true
-  pub spelled : (b : Block) → is_written_out (content_of image) list b ≡ true → is_other (content_of image) list b ≡ true → has_spelling b.kind ((window_of store.window).before back b).bytes ≡ true
-
--- whatever a crash leaves of a device that holds a sound store and its log recovers
-abbrev pub ImagesRecover : Type 0
-ImagesRecover = (own : ℕ → Bool) (geometry : Geometry) → IsVolume own geometry → (s : LogSession) (l : LogNumbers) (store : Store) (disk : Disk) → IsSound geometry store → HoldsLog s l store disk → store.disk ≡ disk_without own disk
-    → (image : SectorBytes) → CanLeave disk image → AreWhole image → ImageRecovers own s store image

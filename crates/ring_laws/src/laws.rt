@@ -1,6 +1,7 @@
+ghost use Rattle.ring_laws.specs.DeviceImages.{ImagesRecover, ImagesRecoverSince};
 ghost use Rattle.ring_laws.specs.Laws.{PagesAreBytes, PagesAreNumbered, RestartsStand, RingIsRead, RingStands};
 ghost use Rattle.ring_laws.specs.StoreDisks.{StoresSeeDisks};
-ghost use Rattle.ring_laws.specs.StoreLogs.{ImagesRecover, LogsAreLeft, LogsFollow};
+ghost use Rattle.ring_laws.specs.StoreLogs.{LogsAreLeft, LogsFollow};
 
 /// Law: the pages of a session are numbered: each stands in the ring behind the one before it, and
 /// pages that are less than a round apart have places of their own.
@@ -60,4 +61,10 @@ pub fn stores_see_disks()
 /// block that the list doesn't shadow is as it is in a content of the store's window.
 pub fn images_recover()
     ensures { ImagesRecover }
+{}
+
+/// Law: such an image recovers to none older than what was known durable at any earlier moment
+/// since the mount, on the blocks that were spared since.
+pub fn images_recover_since()
+    ensures { ImagesRecoverSince }
 {}

@@ -12,6 +12,6 @@
 mod laws;
 
 pub use laws::{
-    images_recover, logs_are_left, logs_follow, pages_are_bytes, pages_are_numbered,
-    restarts_stand, ring_is_read, ring_stands, stores_see_disks,
+    images_recover, images_recover_since, logs_are_left, logs_follow, pages_are_bytes,
+    pages_are_numbered, restarts_stand, ring_is_read, ring_stands, stores_see_disks,
 };
