@@ -16,8 +16,8 @@ pub fn pages_are_bytes()
 {}
 
 /// Law: what is done with a ring leaves a ring that the disk holds: its start, entries that are
-/// appended, a page's write that answered Ok or failed, syncs, pages that are freed, and whatever is
-/// done in other sectors.
+/// appended, a page's write that answered Ok or failed, syncs, pages that are freed, and whatever
+/// is done in other sectors.
 pub fn ring_stands()
     ensures { RingStands }
 {}
@@ -51,7 +51,7 @@ pub fn logs_follow()
 {}
 
 /// Law: the disk that a store sees of a device, without the sectors that the log keeps for itself,
-/// is left by crashes, written and synced as the device's is, and not written by a write of the log.
+/// is left by crashes, written and synced as the device's is, and no write of the log writes it.
 pub fn stores_see_disks()
     ensures { StoresSeeDisks }
 {}
