@@ -29,7 +29,7 @@ module _ (own : ℕ → Bool) (geometry : Geometry) (volume : IsVolume own geome
   abbrev sectors : SectorBytes
   sectors = sectors_without own image
 
-  it : LogIsLeft s store image sectors
+  it : LogIsLeft s l store image sectors
   it = log_is_left s l store disk h image left sectors (subst (λ (d : Disk). CanLeave d sectors) (sym sees) (without_left own disk image left))
 
   found : (k : ℕ) × IsRecoverable own geometry store it.left k
@@ -62,11 +62,12 @@ module _ (own : ℕ → Bool) (geometry : Geometry) (volume : IsVolume own geome
       let e = same b (out_known b out) in
       (found.1.writes b (sym (written_same list b (content_of image) (content_of it.left.sectors) e) ∙ out)).spelled (sym (other_same list b (content_of image) (content_of it.left.sectors) e) ∙ other)
 
-  pub image_recovers : ImageRecovers own s store image
+  pub image_recovers : ImageRecovers own s l store image
   image_recovers = record {
     restart = it.restart;
     chosen = it.chosen;
     list = list_of store it.left;
+    of_log = it.of_log;
     reads = it.reads;
     back = found.0;
     within = found.1.within;
@@ -81,7 +82,7 @@ module _ (own : ℕ → Bool) (geometry : Geometry) (volume : IsVolume own geome
 module _ (own : ℕ → Bool) (geometry : Geometry) (volume : IsVolume own geometry) (tx : ℕ) (content : Content) (mounted : Disk) (bears : BearsContent own mounted content) (m n : ℕ) (t u : Store)
     (first : Run geometry (mounted_on tx content mounted) m t) (run : Run geometry t n u) (s : LogSession) (l : LogNumbers) (disk : Disk) (h : HoldsLog s l u disk) (sees : u.disk ≡ disk_without own disk) (image : SectorBytes) (left : CanLeave disk image)
     (whole : AreWhole image) where
-  log : LogIsLeft s u image (sectors_without own image)
+  log : LogIsLeft s l u image (sectors_without own image)
   log = log_is_left s l u disk h image left (sectors_without own image) (subst (λ (d : Disk). CanLeave d (sectors_without own image)) (sym sees) (without_left own disk image left))
 
   since : RecoversSince own geometry t n u run log.left
@@ -90,11 +91,12 @@ module _ (own : ℕ → Bool) (geometry : Geometry) (volume : IsVolume own geome
   one : (c : Content) (b : Block) → is_known own b ≡ true → IsRecovered (list_of u log.left) log.left.sectors c b → IsRecovered (list_of u log.left) image c b
   one c b known there = without_recovered own image (list_of u log.left) c b known (subst (λ (at : SectorBytes). IsRecovered (list_of u log.left) at c b) log.sectors_are there)
 
-  pub recovers_since : ImageRecoversSince own geometry s t n u run image
+  pub recovers_since : ImageRecoversSince own geometry s l t n u run image
   recovers_since = record {
     restart = log.restart;
     chosen = log.chosen;
     list = list_of u log.left;
+    of_log = log.of_log;
     reads = log.reads;
     recovers = elim since [
       | inl new ↦ inl (new.0, new.1, new.2, λ b known clear. one ((window_of u.window).before new.0) b known (new.3 b known clear))

@@ -1,5 +1,5 @@
 -- The log of a store on a disk: what a crash leaves of it is an image that the store may leave, and what each event makes of it.
-use Rattle.std.specs.Prelude.{◌≡◌, ℕ, suc, ◌+◌, ◌-◌, ◌<◌, ◌≤◌, max, Bool, true, false, List, [], length, get_or, take, drop, Option, Some, None}
+use Rattle.std.specs.Prelude.{◌≡◌, ◌⊎◌, ℕ, suc, ◌+◌, ◌-◌, ◌<◌, ◌≤◌, max, Bool, true, false, List, [], length, get_or, take, drop, Option, Some, None}
 use Rattle.log_model.specs.declared.entry.Entry.{Entry}
 use Rattle.log_page.specs.declared.restart.Restart.{Restart}
 use Rattle.log_page.specs.CheckWords.{IsCheckWord}
@@ -52,20 +52,28 @@ pub record HoldsLog (s : LogSession) (l : LogNumbers) (store : Store) (disk : Di
   pub place : store.begun ≡ true → store.place ≡ entries_to l.ring l.pages l.noted
   pub renamed : store.renamed ≡ true → store.begun ≡ true
 
+-- The restart page that recovery chooses is the last durable one, or the next one, once that was begun; by that one the list is empty where no page stands
+-- from the noted one on.
+abbrev pub IsOfLog : LogNumbers → Restart → List Entry → Type 0
+IsOfLog l restart list =
+    (l.fields l.restarts.sure ≡ Some restart)
+    ⊎ ((l.restarts.begun ≡ true) × (l.fields (suc l.restarts.sure) ≡ Some restart) × (l.ring.oldest + length l.pages ≤ l.noted → list ≡ []))
+
 -- A crash left this of the log. With sectors that the store's disk may leave it is an image of the store: recovery chooses a restart page, and from its oldest
 -- place on it reads the image's list, and no entry of another shape.
-pub record LogIsLeft (s : LogSession) (store : Store) (image sectors : SectorBytes) : Type 0 where
+pub record LogIsLeft (s : LogSession) (l : LogNumbers) (store : Store) (image sectors : SectorBytes) : Type 0 where
   pub left : Image
   pub sectors_are : left.sectors ≡ sectors
   pub may : MayLeave store left
   pub restart : Restart
   pub chosen : chosen_in (raw_page s.place image 0) (raw_page s.place image 1) ≡ Some restart
+  pub of_log : IsOfLog l restart (list_of store left)
   pub reads : live_log s.place.pages (raw_page s.place image) restart.oldest ≡ record { entries = list_of store left; foreign = None }
 
 -- what a crash leaves of a log that the disk holds is an image of its store
 abbrev pub LogsAreLeft : Type 0
 LogsAreLeft = (s : LogSession) (l : LogNumbers) (store : Store) (disk : Disk) → HoldsLog s l store disk → (image : SectorBytes) → CanLeave disk image → (sectors : SectorBytes) → CanLeave store.disk sectors
-    → LogIsLeft s store image sectors
+    → LogIsLeft s l store image sectors
 
 -- ---- events
 
