@@ -1,5 +1,5 @@
 -- What a search finds.
-use Rattle.std.proofs.Common.{◌≡◌, ℕ, ◌+◌, ◌-◌, ◌<◌, ◌≤◌, ◌⊎◌, Bool, true, false, List, Option, None, Some, length, min, MatchOption, refl, sym, ap, ◌∙◌, inl, inr, arith}
+use Rattle.std.proofs.Common.{◌≡◌, ℕ, ◌+◌, ◌-◌, ◌<◌, ◌≤◌, ◌⊎◌, ◌≢◌, Bool, true, false, List, Option, None, Some, length, min, MatchOption, refl, sym, ap, ◌∙◌, inl, inr, arith}
 use Rattle.std.proofs.lemmas.Bool.{cases_lt}
 use Rattle.bit_set.specs.declared.summary.Summary.{Summary}
 use Rattle.bit_set.specs.declared.summary.Met.{Met}
@@ -150,6 +150,18 @@ longest_run_of_all bits end (Some x) e h = longest_of_all bits x.0 x.1 (rw e at 
 pub lowest_of_all : (bits : List Bool) (from end : ℕ) (o : Option ℕ) → end ≡ length bits → MatchOption o ((i : ℕ) → from ≤ i → i + 1 ≤ end → IsClearRun bits i 1 → ⊥) (λ at. IsFirstRunIn bits 1 from end at) → MatchOption o ((i : ℕ) → from ≤ i → i < length bits → bit bits i ≡ true) (λ at. IsLowestClear bits from at)
 lowest_of_all bits from end None e h = λ i le lt. set_where_none bits from end h i le (omega arith) lt
 lowest_of_all bits from end (Some x) e h = lowest_clear bits from x (rw e at h)
+
+-- a run of set bits that ends before the end
+pub near : (bits : List Bool) (words : List ℕ) (n from end at : ℕ) → IsView bits words n → end ≤ n → from ≤ at → at < end → ((i : ℕ) → from ≤ i → i < at → word_bit words i ≡ true) → (word_bit words at ≢ true) → IsLowestClear bits from at
+near bits words n from end at view fits behind lt set other = record {
+  behind = behind;
+  inside = omega (arith, view.count);
+  clear = elim (either (bit bits at)) [
+    | inl set_here ↦ absurd (other (sym (view.inside at (omega arith)) ∙ set_here))
+    | inr clear_here ↦ clear_here
+  ];
+  lowest = λ i le below. view.inside i (omega arith) ∙ set i le below;
+}
 
 -- the lower one of two ends
 pub which_end : (bits : List Bool) (end last : ℕ) → last ≡ min end (length bits) → (last ≡ end) ⊎ (last ≡ length bits)

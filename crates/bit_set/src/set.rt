@@ -4,7 +4,7 @@ ghost use Rattle.bit_set.specs.Words.{bits_of_bytes};
 
 use crate::summary::{Run, Summary, Wanted};
 use crate::tree::{BLOCK_BITS, levels_over, mend_run, search, tree_over};
-use crate::words::{WORD_BITS, clear_between, fill, is_set, words_of};
+use crate::words::{WORD_BITS, clear_between, fill, is_set, run_end, words_of};
 use host_base::Memory;
 use std::alloc::Global;
 use std::marker::Model;
@@ -177,12 +177,32 @@ impl BitSet {
         self.longest_in(0, self.bits())
     }
 
+    // The lowest clear bit from `from` on, if it is among the next 1,024 bits, as it mostly is.
+    fn lowest_near(&self, from: u64) -> Option<u64>
+        ensures { MatchOption result
+            ((i : ℕ) → from ≤ i → i < from + 1024 → i < length self.now → bit self.now i ≡ true)
+            (λ at. IsLowestClear self.now from at) }
+    {
+        let end = self.bits.min(from.saturating_add(BLOCK_BITS));
+        if end <= from {
+            return None;
+        }
+        let at = run_end(&self.words, from, end, true);
+        if end <= at {
+            return None;
+        }
+        Some(at)
+    }
+
     /// The lowest clear bit from `from` on, or None where there is none. It takes O(log bits).
     pub fn lowest(&self, from: u64) -> Option<u64>
         ensures { MatchOption result
             ((i : ℕ) → from ≤ i → i < length self.now → bit self.now i ≡ true)
             (λ at. IsLowestClear self.now from at) }
     {
+        if let Some(at) = self.lowest_near(from) {
+            return Some(at);
+        }
         self.first_run_in(1, from, self.bits())
     }
 }

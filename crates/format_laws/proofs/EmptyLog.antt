@@ -24,8 +24,8 @@ use Rattle.log_page.specs.Places.{digits, place_bits}
 use Rattle.log_page.specs.Restarts.{is_whole_restart, restart_in, restart_of, is_blank}
 use Rattle.log_page.specs.LiveLogs.{said_lsn, greater, greatest_lsn}
 use Rattle.log_page.proofs.PlacesFit.{has_digits}
-use Rattle.log_reading.specs.declared.fault.RecoveryFault.{RecoveryFault}
-use Rattle.log_reading.specs.declared.fault.RecoveryFault.TheVariants.{ForeignLog}
+use Rattle.log_reading.specs.declared.fault.LogRefusal.{LogRefusal}
+use Rattle.log_reading.specs.declared.fault.LogRefusal.TheVariants.{ForeignLog}
 use Rattle.log_reading.specs.declared.front.RestartFront.{RestartFront}
 use Rattle.log_reading.specs.LogPages.{sector_in, sector_below, log_sector, log_bytes, page_in}
 use Rattle.log_reading.specs.Fronts.{next_restart, front_in}
@@ -144,7 +144,7 @@ module _ (c : Content) (place : LogPlace) (size : ℕ) (long : 8 ≤ size) (shor
   unfolding lap_in lap_by
   lap_here = ap (lap_by place.pages) greatest_here ∙ passes (has_lap place.pages 1) (ForeignLog 0) (Ok 1) (lap_left place.pages (omega arith) few)
 
-  log_by : RestartFront → Result FoundLog RecoveryFault
+  log_by : RestartFront → Result FoundLog LogRefusal
   log_by front =
       live_entries_in c place front.chosen
       >>= λ entries. whole_entries c entries
@@ -154,7 +154,7 @@ module _ (c : Content) (place : LogPlace) (size : ℕ) (long : 8 ≤ size) (shor
   unfolding log_in log_by empty_front empty_log
   log_here = goes_on _ empty_front log_by front_here
 
-  state_by : FoundLog → Result LogState RecoveryFault
+  state_by : FoundLog → Result LogState LogRefusal
   state_by found =
       lap_in c place found.front.chosen
       >>= λ lap. Ok (record { log = found.log; next_lap = lap; restart = found.front.restart; opens = found.front.opens })

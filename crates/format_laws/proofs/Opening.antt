@@ -23,14 +23,14 @@ use Rattle.volume_model.specs.Volumes.{volume_of}
 use Rattle.volume_state.specs.Trees.{IsState}
 use Rattle.volume_state.specs.Versions.{info_or_none, file_info, volume_info}
 use Rattle.log_model.specs.Logs.{recovered}
-use Rattle.log_reading.specs.declared.fault.RecoveryFault.{RecoveryFault}
+use Rattle.log_reading.specs.declared.fault.LogRefusal.{LogRefusal}
 use Rattle.log_recovery.specs.LogStates.{LogState, recovery_in}
 use Rattle.image_open.specs.declared.refusal.Refusal.TheVariants.{Short}
 use Rattle.image_open.specs.Errors.{boot_refusal, map_refusal, log_refusal, refused_as}
 use Rattle.image_open.specs.LogPlaces.{place_of}
 use Rattle.image_open.specs.Volumes.{Opened, boot_in, sized_on, boot_on, geometry_of, log_record, log_place, recovered_at, recovered_in, opened_by, opened_in}
 use Rattle.image_read.specs.Errors.{broken_refusal}
-use Rattle.image_read.specs.Checks.{volume_on, judged_version, has_version, tree_on, volume_tree, loaded_tree, check_in, check_of}
+use Rattle.image_read.specs.Checks.{volume_on, judged_version, has_version, tree_on, volume_tree, loaded_in, check_in, check_of}
 use Rattle.volume_format.specs.declared.layout.Layout.{Layout}
 use Rattle.volume_format.specs.Layouts.{IsLayout, layout_of}
 use Rattle.volume_format.specs.Files.{system_data, standard, named as name_attr, system_attrs, other_streams, volume_streams, system_record, record_of}
@@ -94,7 +94,7 @@ module _ (v : Layout) (layout : IsLayout v) (seed time : ℕ) (seed_fits : seed 
   log_recovered : recovered_at c (new_place (clusters boot) device v.log_pages) ≡ Ok c
   unfolding recovered_at empty_state
   log_recovered =
-      ap (λ (r : Result LogState RecoveryFault). refused_as log_refusal r >>= λ state. Ok (recovered c state.log)) log_state
+      ap (λ (r : Result LogState LogRefusal). refused_as log_refusal r >>= λ state. Ok (recovered c state.log)) log_state
       ∙ ap (λ (d : Content). Ok d) (same_content c sized)
 
   log_record_read : log_record c new_geometry ≡ Ok (Some (record_of v time 2))
@@ -151,8 +151,8 @@ module _ (v : Layout) (layout : IsLayout v) (seed time : ℕ) (seed_fits : seed 
   unfolding opening
   opened_state = (opening c, opened_here, subst (λ (total : ℕ). IsState c new_geometry total (new_tree v time)) (sym total_is) (state_here v layout seed time small c has))
 
-  loaded_here : loaded_tree c new_geometry (clusters boot) ≡ Ok (new_tree v time)
-  unfolding loaded_tree volume_on
+  loaded_here : loaded_in volume_tree c new_geometry (clusters boot) ≡ Ok (new_tree v time)
+  unfolding volume_on
   loaded_here =
       ap (λ (total : ℕ). refused_as map_refusal (volume_of c new_geometry total) >>= λ w. volume_tree c w) total_is
       ∙ goes_on _ (vol v time) (λ w. volume_tree c w) (ap (refused_as map_refusal) (volume_loaded v seed time c layout small has))
@@ -160,7 +160,7 @@ module _ (v : Layout) (layout : IsLayout v) (seed time : ℕ) (seed_fits : seed 
 
   pub check_here : check_in c device ≡ Ok (new_tree v time)
   unfolding check_in opening
-  check_here = goes_on _ (opening c) (λ (o : Opened). loaded_tree o.content o.geometry o.total) opened_here ∙ loaded_here
+  check_here = goes_on _ (opening c) (λ (o : Opened). loaded_in volume_tree o.content o.geometry o.total) opened_here ∙ loaded_here
 
 body_sizes : (disk : List (List ℕ)) → IsDisk disk → HasSizes (content_of (sector_of disk))
 body_sizes disk whole = λ b. length-body_of b.kind (raw_from (sector_of disk) b.first (sectors b.kind)) ∙ length-raw_from (sector_of disk) b.first (sectors b.kind) whole

@@ -33,8 +33,8 @@ struct Head(u8, u8, u8);
 struct File(Head, &'static [Part]);
 
 /// An image that rows run on: the tiny image, the same without sectors by its boot sector, a volume
-/// that breaks no rule, one with clusters of eight sectors, this one with cluster 12 owned and clear,
-/// or 4,537 sectors of zeros.
+/// that breaks no rule, one with clusters of eight sectors, this one with cluster 12 owned and
+/// clear, or 4,537 sectors of zeros.
 #[derive(Clone, Copy, Debug, PartialEq, Eq)]
 pub enum Image {
     Tiny,

@@ -1,16 +1,14 @@
 -- The printed texts of a tree and of its journal.
 use Rattle.std.specs.Prelude.{ℕ, List, [], ◌∷◌, ◌++◌, length, codes, Option, Some, None}
 use Rattle.std.specs.List.{flat_map}
-use Rattle.std.specs.Int.{w32, to_be_bytes}
 use Rattle.std.specs.Fmt.{decimal, signed_decimal}
-use Rattle.hex.specs.Hex.{encode_lower}
 use Rattle.utf16_name.specs.Texts.{name_text}
 use Rattle.file_tree.specs.declared.node.Node.{Node}
 use Rattle.file_tree.specs.declared.link.Link.{Link}
 use Rattle.file_tree.specs.declared.journal.Usn.{Usn}
 use Rattle.file_tree.specs.declared.journal.Journal.{Journal}
 use Rattle.file_tree.specs.declared.tree.Tree.{Tree}
-use Rattle.run_model.specs.Texts.{kind_text}
+use Rattle.run_model.specs.Texts.{kind_text, eight_digits}
 use Rattle.image_dump.specs.Order.{by_number, long_links, short_links}
 
 -- ---- words
@@ -23,10 +21,6 @@ ended (word ∷ words) = 32 ∷ (word ++ ended words)
 -- a line of these words, with a blank between each two
 abbrev pub line : List ℕ → List (List ℕ) → List ℕ
 line first words = first ++ ended words
-
--- eight lower-case hexadecimal digits
-unfoldable pub eight_digits : ℕ → List ℕ
-eight_digits n = encode_lower (to_be_bytes w32 n)
 
 -- ---- scan
 

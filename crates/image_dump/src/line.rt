@@ -1,7 +1,7 @@
 //! The lines of the texts, each appended to a text.
 ghost use Rattle.std.specs.Prelude.{◌≡◌, ◌∷◌, ◌++◌, OnOk, string_bytes};
-ghost use Rattle.run_model.specs.Texts.{kind_text};
-ghost use Rattle.image_dump.specs.Texts.{link_line, total_line, node_line, long_line, short_line, journal_line, room_line, eight_digits, entry_line, span_line};
+ghost use Rattle.run_model.specs.Texts.{kind_text, eight_digits};
+ghost use Rattle.image_dump.specs.Texts.{link_line, total_line, node_line, long_line, short_line, journal_line, room_line, entry_line, span_line};
 
 use file_tree::{Journal, Kind, Link, Node, Usn};
 use host_base::Memory;
@@ -104,7 +104,7 @@ pub fn push_room(text: &mut String, room: u64) -> Result<(), AllocError>
 }
 
 // A blank, and the number in eight lower-case hexadecimal digits.
-#[tactic(auto, unfolding(crate::specs::Texts::eight_digits))]
+#[tactic(auto, unfolding(run_model::specs::Texts::eight_digits))]
 fn push_eight_digits(text: &mut String, number: u32) -> Result<(), AllocError>
     ensures { OnOk result
         (string_bytes text.new ≡ string_bytes text.old ++ 32 ∷ eight_digits number) }

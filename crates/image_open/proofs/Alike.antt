@@ -20,8 +20,8 @@ use Rattle.log_page.specs.declared.places.LogPlace.{LogPlace}
 use Rattle.log_page.specs.Places.{page_bytes}
 use Rattle.log_page.specs.Restarts.{is_clean}
 use Rattle.log_page.specs.LiveLogs.{live_log, greatest_lsn}
-use Rattle.log_reading.specs.declared.fault.RecoveryFault.{RecoveryFault}
-use Rattle.log_reading.specs.declared.fault.RecoveryFault.TheVariants.{ForeignLog}
+use Rattle.log_reading.specs.declared.fault.LogRefusal.{LogRefusal}
+use Rattle.log_reading.specs.declared.fault.LogRefusal.TheVariants.{ForeignLog}
 use Rattle.log_reading.specs.LogPages.{sector_in, sector_below, log_sector, sector_bytes, log_bytes, page_in}
 use Rattle.log_reading.specs.declared.front.RestartFront.{RestartFront}
 use Rattle.log_reading.specs.Fronts.{front_in}
@@ -55,13 +55,13 @@ module _ (c : Content) (p q : LogPlace) (alike : LieAlike p q) where
   entries_alike_by : (r : Restart) → entries_by c p r ≡ entries_by c q r
   unfolding entries_by
   entries_alike_by r =
-      let by : ℕ → (ℕ → List ℕ) → ℕ → Result (List Entry) RecoveryFault =
+      let by : ℕ → (ℕ → List ℕ) → ℕ → Result (List Entry) LogRefusal =
       λ pages at clusters. if_clean (is_clean r) (needs r.own (ForeignLog r.current) >>= λ _. own_entries (live_log pages at r.oldest) clusters) in
       ap (λ (pages : ℕ). by pages (page_in c p) p.clusters) alike.pages
       ∙ ap (λ (at : ℕ → List ℕ). by q.pages at p.clusters) pages_alike
       ∙ ap (by q.pages (page_in c q)) alike.clusters
     where
-      if_clean : Bool → Result (List Entry) RecoveryFault → Result (List Entry) RecoveryFault
+      if_clean : Bool → Result (List Entry) LogRefusal → Result (List Entry) LogRefusal
       if_clean b entries = cond b (Ok []) entries
 
   entries_alike : (chosen : Option Restart) → live_entries_in c p chosen ≡ live_entries_in c q chosen
@@ -75,7 +75,7 @@ module _ (c : Content) (p q : LogPlace) (alike : LieAlike p q) where
       ∙ ap (λ (at : ℕ → List ℕ). lap_by q.pages (greatest_lsn q.pages at chosen)) pages_alike
 
   -- what follows the front
-  abbrev found_by : RestartFront → Result (List Entry) RecoveryFault → Result FoundLog RecoveryFault
+  abbrev found_by : RestartFront → Result (List Entry) LogRefusal → Result FoundLog LogRefusal
   found_by front entries = entries >>= λ entries. whole_entries c entries >>= λ log. Ok (record { log = log; front = front })
 
   found_alike : (front : RestartFront) → found_by front (live_entries_in c p front.chosen) ≡ found_by front (live_entries_in c q front.chosen)
@@ -85,10 +85,10 @@ module _ (c : Content) (p q : LogPlace) (alike : LieAlike p q) where
   unfolding log_in
   log_alike =
       ap (λ (at : ℕ → List ℕ). front_in (at 0) (at 1) >>= λ front. found_by front (live_entries_in c p front.chosen)) pages_alike
-      ∙ ap (λ (rest : RestartFront → Result FoundLog RecoveryFault). front_in (page_in c q 0) (page_in c q 1) >>= rest) (fun_ext found_alike)
+      ∙ ap (λ (rest : RestartFront → Result FoundLog LogRefusal). front_in (page_in c q 0) (page_in c q 1) >>= rest) (fun_ext found_alike)
 
   -- what follows the log
-  abbrev state_by : FoundLog → Result ℕ RecoveryFault → Result LogState RecoveryFault
+  abbrev state_by : FoundLog → Result ℕ LogRefusal → Result LogState LogRefusal
   state_by found lap = lap >>= λ lap. Ok (record { log = found.log; next_lap = lap; restart = found.front.restart; opens = found.front.opens })
 
   state_alike : (found : FoundLog) → state_by found (lap_in c p found.front.chosen) ≡ state_by found (lap_in c q found.front.chosen)
@@ -97,12 +97,12 @@ module _ (c : Content) (p q : LogPlace) (alike : LieAlike p q) where
   recovery_alike : recovery_in c p ≡ recovery_in c q
   unfolding recovery_in
   recovery_alike =
-      ap (λ (log : Result FoundLog RecoveryFault). log >>= λ found. state_by found (lap_in c p found.front.chosen)) log_alike
-      ∙ ap (λ (rest : FoundLog → Result LogState RecoveryFault). log_in c q >>= rest) (fun_ext state_alike)
+      ap (λ (log : Result FoundLog LogRefusal). log >>= λ found. state_by found (lap_in c p found.front.chosen)) log_alike
+      ∙ ap (λ (rest : FoundLog → Result LogState LogRefusal). log_in c q >>= rest) (fun_ext state_alike)
 
   pub recovered_alike : recovered_at c p ≡ recovered_at c q
   unfolding recovered_at
-  recovered_alike = ap (λ (r : Result LogState RecoveryFault). refused_as log_refusal r >>= λ state. okay (recovered c state.log)) recovery_alike
+  recovered_alike = ap (λ (r : Result LogState LogRefusal). refused_as log_refusal r >>= λ state. okay (recovered c state.log)) recovery_alike
     where
       okay : Content → Result Content Refusal
       okay d = Ok d
@@ -120,7 +120,7 @@ module _ (c : Content) (p q : LogPlace) (alike : LieAlike p q) where
   unfolding to_write_in
   to_write_alike kept =
       ap (λ (own : Block → Bool). recovery_in c p >>= λ state. unless_foreign (first_update (is_barred own c state.log) state.log) state) (own_alike kept)
-      ∙ ap (λ (r : Result LogState RecoveryFault). r >>= λ state. unless_foreign (first_update (is_barred (is_own q kept) c state.log) state.log) state) recovery_alike
+      ∙ ap (λ (r : Result LogState LogRefusal). r >>= λ state. unless_foreign (first_update (is_barred (is_own q kept) c state.log) state.log) state) recovery_alike
 
 -- what recovery by one of them answers, by the other
 pub by_alike : {X : Type 0} (known : Option Content) (view : Content → X → Content) (result : Result X MountFault) (p q : LogPlace) → LieAlike p q
@@ -128,7 +128,7 @@ pub by_alike : {X : Type 0} (known : Option Content) (view : Content → X → C
 by_alike known view result p q alike h = one known _ _ (λ c e. rw (← recovered_alike c p q alike) e) h
 
 -- the blocks of a log that isn't refused for another cause
-found_refused : (c : Content) (r : Result LogState RecoveryFault) (blocks : RecoveredBlocks) → AreFoundBy c r blocks → AreFoundBy c (refused_as log_refusal r) blocks
+found_refused : (c : Content) (r : Result LogState LogRefusal) (blocks : RecoveredBlocks) → AreFoundBy c r blocks → AreFoundBy c (refused_as log_refusal r) blocks
 found_refused c (Ok state) blocks h = h
 found_refused c (Err e) blocks h = absurd h
 
@@ -137,7 +137,7 @@ pub found_by_alike : (known : Option Content) (g : Geometry) (clusters device : 
     → IfSome known (λ c. log_record c g ≡ Ok file) → IfSome known (λ c. AreFoundBy c (recovery_in c place) blocks) → IfSome known (λ c. AreFoundBy c (log_state c g clusters device) blocks)
 unfolding log_state
 found_by_alike known g clusters device file place blocks alike first second =
-    both known _ _ _ (λ c is h. rw is (found_refused c (recovery_in c (log_place g clusters device file)) blocks (subst (λ (r : Result LogState RecoveryFault). AreFoundBy c r blocks) (recovery_alike c place (log_place g clusters device file) alike) h))) first second
+    both known _ _ _ (λ c is h. rw is (found_refused c (recovery_in c (log_place g clusters device file)) blocks (subst (λ (r : Result LogState LogRefusal). AreFoundBy c r blocks) (recovery_alike c place (log_place g clusters device file) alike) h))) first second
 
 -- ---- the place of a stream
 

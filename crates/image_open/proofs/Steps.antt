@@ -18,8 +18,9 @@ use Rattle.image_open.specs.declared.refusal.MountFault.{MountFault}
 use Rattle.image_open.specs.declared.refusal.MountFault.TheVariants as errors
 use Rattle.log_model.specs.Logs.{recovered}
 use Rattle.log_page.specs.declared.places.LogPlace.{LogPlace}
+use Rattle.log_reading.specs.declared.fault.LogRefusal.{LogRefusal}
 use Rattle.log_reading.specs.declared.fault.RecoveryFault.{RecoveryFault}
-use Rattle.log_reading.specs.declared.fault.RecoveryFault.TheVariants as logs
+use Rattle.log_reading.specs.declared.fault.RecoveryFault.TheVariants as recoveries
 use Rattle.log_reading.specs.Views.{recovery_cause}
 use Rattle.log_recovery.specs.declared.whole.Recovered.{Recovered}
 use Rattle.log_recovery.specs.Recovering.{content_with}
@@ -127,13 +128,11 @@ map_value known x f h = one known _ _ (λ c e. ap (refused_as map_refusal) e) h
 
 -- ---- the log
 
-log_failed : {A : Type 0} (e : RecoveryFault) (meant : Result LogState RecoveryFault) (g : LogState → Result A Refusal)
+log_failed : {A : Type 0} (e : RecoveryFault) (meant : Result LogState LogRefusal) (g : LogState → Result A Refusal)
     → ExplainsOrFails (recovery_cause e) meant → ExplainsOrFails (scan_cause (error_of_log e)) (refused_as log_refusal meant >>= g)
-log_failed (logs.LogVersion major minor) meant g h = ap (λ (r : Result LogState RecoveryFault). refused_as log_refusal r >>= g) h
-log_failed logs.NoRestart meant g h = ap (λ (r : Result LogState RecoveryFault). refused_as log_refusal r >>= g) h
-log_failed (logs.ForeignLog lsn) meant g h = ap (λ (r : Result LogState RecoveryFault). refused_as log_refusal r >>= g) h
-log_failed logs.Fault meant g h = tt
-log_failed logs.Memory meant g h = tt
+log_failed (recoveries.Refused refusal) meant g h = ap (λ (r : Result LogState LogRefusal). refused_as log_refusal r >>= g) h
+log_failed recoveries.Fault meant g h = tt
+log_failed recoveries.Memory meant g h = tt
 
 -- an error of recovery, as one of the scan
 pub log_error : {X : Type 0} (known : Option Content) (view : X → Content) (place : LogPlace) (e : RecoveryFault) (e' : MountFault) → e' ≡ error_of_log e
@@ -141,7 +140,7 @@ pub log_error : {X : Type 0} (known : Option Content) (view : X → Content) (pl
 unfolding recovered_at
 log_error known view place e e' is h = one known _ _ (λ c p. rw is (log_failed e (recovery_in c place) (λ state. Ok (recovered c state.log)) p)) h
 
-log_content : (c : Content) (meant : Result LogState RecoveryFault) (found : Recovered) → IsRecoveredBy c meant found
+log_content : (c : Content) (meant : Result LogState LogRefusal) (found : Recovered) → IsRecoveredBy c meant found
     → (refused_as log_refusal meant >>= λ state. okay (recovered c state.log)) ≡ okay (content_with found.blocks.bodies.items c)
 log_content c (Ok state) found h = ap okay (sym h.blocks.content)
 log_content c (Err e) found h = absurd h
@@ -152,7 +151,7 @@ pub log_value : (known : Option Content) (place : LogPlace) (found : Recovered) 
 unfolding recovered_at
 log_value known place found h = one known _ _ (λ c p. log_content c (recovery_in c place) found p) h
 
-log_blocks : (c : Content) (meant : Result LogState RecoveryFault) (found : Recovered) → IsRecoveredBy c meant found → AreFoundBy c meant found.blocks
+log_blocks : (c : Content) (meant : Result LogState LogRefusal) (found : Recovered) → IsRecoveredBy c meant found → AreFoundBy c meant found.blocks
 log_blocks c (Ok state) found h = h.blocks
 log_blocks c (Err e) found h = absurd h
 

@@ -8,8 +8,9 @@ use Rattle.disk_model.specs.Content.{Content}
 use Rattle.record_model.specs.Records.{Record}
 use Rattle.state_model.specs.declared.geometry.Geometry.{Geometry}
 use Rattle.log_page.specs.declared.places.LogPlace.{LogPlace}
+use Rattle.log_reading.specs.declared.fault.LogRefusal.{LogRefusal}
 use Rattle.log_reading.specs.declared.fault.RecoveryFault.{RecoveryFault}
-use Rattle.log_reading.specs.declared.fault.RecoveryFault.TheVariants as logs
+use Rattle.log_reading.specs.declared.fault.RecoveryFault.TheVariants as recoveries
 use Rattle.log_reading.specs.Views.{recovery_cause}
 use Rattle.log_recovery.specs.declared.writing.ToWrite.{ToWrite}
 use Rattle.log_recovery.specs.LogStates.{LogState}
@@ -26,19 +27,17 @@ use Rattle.image_open.proofs.Steps.{failed_error}
 
 -- ---- the log
 
-to_write_failed : (e : RecoveryFault) (meant : Result LogState RecoveryFault) → ExplainsOrFails (recovery_cause e) meant → ExplainsOrFails (scan_cause (error_of_log e)) (refused_as log_refusal meant)
-to_write_failed (logs.LogVersion major minor) meant h = ap (refused_as log_refusal) h
-to_write_failed logs.NoRestart meant h = ap (refused_as log_refusal) h
-to_write_failed (logs.ForeignLog lsn) meant h = ap (refused_as log_refusal) h
-to_write_failed logs.Fault meant h = tt
-to_write_failed logs.Memory meant h = tt
+to_write_failed : (e : RecoveryFault) (meant : Result LogState LogRefusal) → ExplainsOrFails (recovery_cause e) meant → ExplainsOrFails (scan_cause (error_of_log e)) (refused_as log_refusal meant)
+to_write_failed (recoveries.Refused refusal) meant h = ap (refused_as log_refusal) h
+to_write_failed recoveries.Fault meant h = tt
+to_write_failed recoveries.Memory meant h = tt
 
 -- an error of recovery, as one of the image
 pub to_write_error : (known : Option Content) (place : LogPlace) (kept : List Block) (e : RecoveryFault) (e' : MountFault) → e' ≡ error_of_log e
     → IfSome known (λ c. RecoversToWrite c (to_write_in c place kept) (Err e)) → IfSome known (λ c. FindsToWrite c (log_to_write c place kept) (Err e'))
 to_write_error known place kept e e' is h = one known _ _ (λ c p. rw is (to_write_failed e (to_write_in c place kept) p)) h
 
-found_is : (c : Content) (meant : Result LogState RecoveryFault) (found : ToWrite) → IsToWriteBy c meant found → IsFoundToWrite c (refused_as log_refusal meant) found
+found_is : (c : Content) (meant : Result LogState LogRefusal) (found : ToWrite) → IsToWriteBy c meant found → IsFoundToWrite c (refused_as log_refusal meant) found
 found_is c (Ok state) found h = h
 found_is c (Err e) found h = absurd h
 

@@ -7,8 +7,10 @@ use Rattle.boot_sector.specs.declared.boot.BootFault.{BootFault}
 use Rattle.boot_sector.specs.declared.boot.BootFault.TheVariants as boots
 use Rattle.state_model.specs.declared.geometry.MapRefusal.{MapRefusal}
 use Rattle.state_model.specs.declared.geometry.MapRefusal.TheVariants as maps
+use Rattle.log_reading.specs.declared.fault.LogRefusal.{LogRefusal}
+use Rattle.log_reading.specs.declared.fault.LogRefusal.TheVariants as logs
 use Rattle.log_reading.specs.declared.fault.RecoveryFault.{RecoveryFault}
-use Rattle.log_reading.specs.declared.fault.RecoveryFault.TheVariants as logs
+use Rattle.log_reading.specs.declared.fault.RecoveryFault.TheVariants as recoveries
 use Rattle.volume_map.specs.declared.fault.MapFault.{MapFault}
 use Rattle.volume_map.specs.declared.fault.MapFault.TheVariants as faults
 use Rattle.image_open.specs.declared.refusal.Refusal.{Refusal}
@@ -34,13 +36,11 @@ map_refusal (maps.BadRecord number rule) = BadRecord number rule
 map_refusal maps.MftList = MftList
 map_refusal (maps.MftLarge records) = MftLarge records
 
--- and a refusal of the log; the last two are no refusals
-abbrev pub log_refusal : RecoveryFault → Refusal
+-- and a refusal of the log
+abbrev pub log_refusal : LogRefusal → Refusal
 log_refusal (logs.LogVersion major minor) = LogVersion major minor
 log_refusal logs.NoRestart = NoRestart
 log_refusal (logs.ForeignLog lsn) = ForeignLog lsn
-log_refusal logs.Fault = NoRestart
-log_refusal logs.Memory = NoRestart
 
 -- the same answer, its refusal as one of the image
 abbrev pub refused_as : {A F : Type 0} → (F → Refusal) → Result A F → Result A Refusal
@@ -57,8 +57,6 @@ error_of_map faults.View = errors.Device
 error_of_map faults.Memory = errors.Memory
 
 abbrev pub error_of_log : RecoveryFault → MountFault
-error_of_log (logs.LogVersion major minor) = errors.Refused (LogVersion major minor)
-error_of_log logs.NoRestart = errors.Refused NoRestart
-error_of_log (logs.ForeignLog lsn) = errors.Refused (ForeignLog lsn)
-error_of_log logs.Fault = errors.Device
-error_of_log logs.Memory = errors.Memory
+error_of_log (recoveries.Refused refusal) = errors.Refused (log_refusal refusal)
+error_of_log recoveries.Fault = errors.Device
+error_of_log recoveries.Memory = errors.Memory

@@ -54,8 +54,8 @@ fn sized_on(sectors: u64, boot: Boot) -> Result<Boot, MountFault>
 /// shows, on a device of so many sectors of 512 bytes. It reads the first sector into `body`, which
 /// is room for a body, and nothing else.
 ///
-/// - [`MountFault::Refused`]: the refusal of the boot sector, or [`Refusal::Short`] with the sectors
-///   of the volume and of the device, where the device has fewer.
+/// - [`MountFault::Refused`]: the refusal of the boot sector, or [`Refusal::Short`] with the
+///   sectors of the volume and of the device, where the device has fewer.
 /// - [`MountFault::Device`]: the view failed.
 /// - [`MountFault::Memory`]: want of memory.
 pub fn boot_on<V: View>(view: &mut V, sectors: u64, body: &mut Body) -> Result<Boot, MountFault>

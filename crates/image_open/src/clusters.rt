@@ -55,14 +55,14 @@ fn check_clusters(bytes: &[u8]) -> Result<(), MountFault>
     eight_sectors(Boot::read(bytes), u8_at(bytes, 0x0D))
 }
 
-/// Refuses a volume whose clusters haven't eight sectors, which is what a mount asks before all else
-/// of the volume that a view shows. It reads the first sector into `body`, which is room for a body,
-/// and nothing else.
+/// Refuses a volume whose clusters haven't eight sectors, which is what a mount asks before all
+/// else of the volume that a view shows. It reads the first sector into `body`, which is room for a
+/// body, and nothing else.
 ///
 /// - [`MountFault::Refused`]: [`Refusal::Geometry`] with 13 and the sectors of a cluster at 0x0D of
-///   the boot sector (Linux-NTFS documentation, "$Boot"), where these aren't 8; but where the name or
-///   the mark of the boot sector or the bytes of a sector at 0x0B are refused, which come before,
-///   this answers nothing, and the reading of the boot sector refuses them.
+///   the boot sector (Linux-NTFS documentation, "$Boot"), where these aren't 8; but where the name
+///   or the mark of the boot sector or the bytes of a sector at 0x0B are refused, which come
+///   before, this answers nothing, and the reading of the boot sector refuses them.
 /// - [`MountFault::Device`]: the view failed.
 /// - [`MountFault::Memory`]: want of memory.
 pub fn clusters_in<V: View>(view: &mut V, body: &mut Body) -> Result<(), MountFault>

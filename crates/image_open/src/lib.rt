@@ -6,8 +6,11 @@
 //! view of them, the opened volume, and a view of its recovered content, which it hands to what is
 //! to be read; it answers what is meant of that content, or the first refusal, and the device is
 //! only read, so that what a crash may leave stays too. `with_view` and `in_volume` are its two
-//! halves, for a reading that has something to test between them. The layouts are those of the
-//! Linux-NTFS documentation, "$Boot", "$LogFile" and "$MFT".
+//! halves, for a reading that has something to test between them. `clusters_in` refuses a volume
+//! whose clusters haven't eight sectors, which a mount asks before all else; `open_to_write` opens
+//! one for a mount that writes, and answers where its log lies, what recovery finds by it, and
+//! which of these blocks the mount writes out. The layouts are those of the Linux-NTFS
+//! documentation, "$Boot", "$LogFile" and "$MFT".
 #![tactic(auto)]
 
 mod boot;

@@ -26,6 +26,9 @@ use std::alloc::Global;
 use stream_map::stream_of;
 use volume_map::boot_record;
 
+/// The number of the log's record.
+pub const LOG_RECORD: u64 = 2;
+
 #[tactic(auto, unfolding(state_model::specs::Loads::data_stream))]
 fn data_stream(alloc: Global, file: &FileRec) -> Result<Option<Stream>, Memory>
     ensures value { IfOk result (λ stream. stream ≡ data_stream file.now) }
@@ -56,7 +59,7 @@ pub fn log_record<V: View>(
     ensures answer { IfSome (V.content view.old) (λ c. GivesOrFails (λ file. file) scan_cause result (log_record c geometry.now)) }
     ensures kept { AsksView V.content V.kept V.faults scan_cause view.old view.new result }
 {
-    Ok(boot_record(alloc, view, geometry, 2, body)?)
+    Ok(boot_record(alloc, view, geometry, LOG_RECORD, body)?)
 }
 
 /// The place of the log with this record, of a volume of so many clusters on a device of so many

@@ -1,7 +1,7 @@
 use block_view::ViewFault;
 use boot_sector::BootFault;
 use host_base::Failed;
-use log_recovery::RecoveryFault;
+use log_recovery::{LogRefusal, RecoveryFault};
 use state_model::MapRefusal;
 use std::alloc::{AllocError, AllocFailed};
 use thiserror::Error;
@@ -61,9 +61,8 @@ pub enum Refusal {
     /// There is a change journal where one is to be made: `$Extend` has a `$UsnJrnl`.
     #[error("there is a journal")]
     HasJournal,
-    /// The image is of a kind that isn't handled yet. A run refuses a geometry (rule 1), the place
-    /// of a file table (rule 2), a log (rule 3), a record with clusters or an attribute list (rule
-    /// 4), and a directory's index with blocks (rule 5).
+    /// The image is of a kind that isn't handled yet, with the number of what it has. Each kind is
+    /// handled today, so nothing answers it; its number and its line stay.
     #[error("not handled yet: rule {rule}")]
     Unbuilt { rule: u32 },
 }
@@ -184,6 +183,21 @@ impl From<MapFault> for MountFault {
     }
 }
 
+impl From<LogRefusal> for Refusal {
+    ghost use Rattle.std.specs.Prelude.{◌≡◌};
+    ghost use Rattle.image_open.specs.Errors.{log_refusal};
+
+    ghost from_gives = { λ refusal r. r ≡ log_refusal refusal };
+
+    fn from(refusal: LogRefusal) -> Self {
+        match refusal {
+            LogRefusal::LogVersion { major, minor } => Refusal::LogVersion { major, minor },
+            LogRefusal::NoRestart => Refusal::NoRestart,
+            LogRefusal::ForeignLog { lsn } => Refusal::ForeignLog { lsn },
+        }
+    }
+}
+
 impl From<RecoveryFault> for MountFault {
     ghost use Rattle.std.specs.Prelude.{◌≡◌};
     ghost use Rattle.image_open.specs.Errors.{error_of_log};
@@ -192,11 +206,7 @@ impl From<RecoveryFault> for MountFault {
 
     fn from(fault: RecoveryFault) -> Self {
         match fault {
-            RecoveryFault::LogVersion { major, minor } => {
-                MountFault::Refused(Refusal::LogVersion { major, minor })
-            }
-            RecoveryFault::NoRestart => MountFault::Refused(Refusal::NoRestart),
-            RecoveryFault::ForeignLog { lsn } => MountFault::Refused(Refusal::ForeignLog { lsn }),
+            RecoveryFault::Refused(refusal) => MountFault::Refused(Refusal::from(refusal)),
             RecoveryFault::Fault => MountFault::Device,
             RecoveryFault::Memory => MountFault::Memory,
         }

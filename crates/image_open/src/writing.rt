@@ -1,6 +1,5 @@
 //! The front of a volume for a mount that writes: its boot sector and its log.
 ghost use Rattle.std.specs.Prelude.{◌≡◌, ◌*◌, ◌^◌, ◌<◌, All, IfOk, IfSome};
-ghost use Rattle.state_model.specs.Loads.{boot_block};
 ghost use Rattle.boot_sector.specs.BootSectors.{IsInProfile};
 ghost use Rattle.block_view.specs.Views.{AsksView};
 ghost use Rattle.log_reading.specs.LogPages.{IsLogPlace};
@@ -11,16 +10,17 @@ ghost use Rattle.image_open.specs.Writing.{log_to_write, opened_of, opened_with,
 
 use crate::boot::{BOOT_PLACE, boot_on};
 use crate::clusters::clusters_in;
-use crate::log::{log_place, log_record};
+use crate::log::{LOG_RECORD, log_place, log_record};
 use crate::opening::{clusters_of, geometry_of};
 use crate::refusal::MountFault;
 use block_view::View;
 use boot_sector::Boot;
-use disk_model::{Block, BlockKind, Body};
+use disk_model::{Block, Body};
 use log_page::LogPlace;
 use log_recovery::{ToWrite, recover_to_write};
 use state_model::Geometry;
 use std::alloc::Global;
+use volume_map::boot_block;
 
 /// A volume that was opened for a mount that writes.
 #[derive(Debug, Drop)]
@@ -33,17 +33,6 @@ pub struct OpeningToWrite {
     pub place: LogPlace,
     /// What recovery finds by the log, and which of its blocks the mount writes out.
     pub found: ToWrite,
-}
-
-// Where record 2 lies, by the place that the boot sector gives the file table.
-fn log_block(geometry: &Geometry) -> Block
-    requires place { geometry.now.mft * geometry.now.per_cluster < 2 ^ 62 }
-    ensures value { result ≡ boot_block geometry.now 2 }
-{
-    Block {
-        first: geometry.mft * geometry.per_cluster.sectors() + 4,
-        kind: BlockKind::FileRec,
-    }
 }
 
 // What a mount that writes finds by the log at this place, which is found by these blocks.
@@ -81,7 +70,12 @@ fn open_log<V: View>(
 {
     let file = log_record(alloc, view, &geometry, body)?;
     let place = log_place(alloc, &geometry, total, sectors, &file)?;
-    let found = found_at(alloc, view, &place, &[BOOT_PLACE, log_block(&geometry)])?;
+    let found = found_at(
+        alloc,
+        view,
+        &place,
+        &[BOOT_PLACE, boot_block(&geometry, LOG_RECORD)],
+    )?;
     Ok(OpeningToWrite {
         geometry,
         total,
@@ -136,18 +130,18 @@ fn open_behind<V: View>(
 }
 
 /// Opens the volume that a view shows on a device of so many sectors of 512 bytes for a mount that
-/// writes (Linux-NTFS documentation, "$Boot", "$LogFile"): where its file table and its log lie, how
-/// many clusters it has, and what recovery finds by the log, with the blocks that the mount writes
-/// out. It reads the boot sector, record 2 where this says that the file table begins, the log, and
-/// the blocks that the log's entries update. Nothing is written.
+/// writes (Linux-NTFS documentation, "$Boot", "$LogFile"): where its file table and its log lie,
+/// how many clusters it has, and what recovery finds by the log, with the blocks that the mount
+/// writes out. It reads the boot sector, record 2 where this says that the file table begins, the
+/// log, and the blocks that the log's entries update. Nothing is written.
 ///
 /// - [`MountFault::Refused`]: the first refusal that applies. First that of
-///   [`clusters_in`](crate::clusters_in), where a cluster hasn't eight sectors; then that of the boot
-///   sector, or `Short` with the sectors of the volume and of the device, where the device has fewer;
-///   then that of record 2, by its rules 1 to 8; then that of the log, as `recover_view` says; and
-///   last `ForeignLog` where a block that would be written out has a sector of the log, the boot
-///   sector or a sector of record 2, by which the log is found, or where no bytes of a disk stand
-///   for its recovered body: with the LSN of the first entry that updates such a block.
+///   [`clusters_in`](crate::clusters_in), where a cluster hasn't eight sectors; then that of the
+///   boot sector, or `Short` with the sectors of the volume and of the device, where the device has
+///   fewer; then that of record 2, by its rules 1 to 8; then that of the log, as `recover_view`
+///   says; and last `ForeignLog` where a block that would be written out has a sector of the log,
+///   the boot sector or a sector of record 2, by which the log is found, or where no bytes of a
+///   disk stand for its recovered body: with the LSN of the first entry that updates such a block.
 /// - [`MountFault::Device`]: the view failed.
 /// - [`MountFault::Memory`]: want of memory.
 ///

@@ -1,18 +1,17 @@
 -- Steps of the reading of a journal, one after the other, over a content that may be known.
-use Rattle.std.proofs.Common.{◌≡◌, ℕ, ◌<◌, Bool, true, false, List, length, take, Option, Result, Ok, Err, sym, ap, ◌∙◌}
-use Rattle.std.specs.Prelude.{IfSome, IfOk, nat_le}
-use Rattle.host_base.specs.Answers.{◌>>=◌, needs, Gives, GivesOrFails}
+use Rattle.std.proofs.Common.{◌≡◌, ℕ, ◌<◌, List, length, take, Option, Result, Ok, Err, sym, ap, ◌∙◌}
+use Rattle.std.specs.Prelude.{IfSome, IfOk}
+use Rattle.host_base.specs.Answers.{Gives, GivesOrFails}
 use Rattle.host_base.proofs.Known.{one}
 use Rattle.disk_model.specs.Content.{Content}
 use Rattle.file_tree.specs.declared.journal.Usn.{Usn}
 use Rattle.state_model.specs.declared.stream.Extents.{Extents}
 use Rattle.volume_model.specs.Volumes.{Volume, upper_of}
-use Rattle.volume_journal.specs.Places.{journal_place}
+use Rattle.usn_journal.specs.Places.{journal_place}
 use Rattle.volume_state.specs.Journals.{journal_first, journal_entries}
-use Rattle.usn_journal.specs.declared.fault.PullFault.{PullFault}
-use Rattle.usn_journal.specs.declared.fault.PullFault.TheVariants.{Trimmed, Ahead}
+use Rattle.usn_journal.specs.declared.pull_fault.PageFault.{PageFault}
 use Rattle.usn_journal.specs.declared.pulling.Pulled.{Pulled}
-use Rattle.usn_journal.specs.Pulls.{from_on, read_entries, pulled_in, pulled_of}
+use Rattle.usn_journal.specs.Pulls.{from_on, read_entries, pulled_in}
 use Rattle.image_open.specs.declared.refusal.Refusal.TheVariants.{NoJournal}
 use Rattle.image_open.specs.declared.refusal.MountFault.{MountFault}
 use Rattle.image_open.specs.declared.refusal.MountFault.TheVariants as errors
@@ -40,15 +39,18 @@ placed known v upper result same h = one known _ _ (λ c is. rw (← is) (gives_
 
 -- ---- the records
 
-pulled_is : (a b : Bool) (x y : PullFault) (p pulled : Pulled) → (needs a x >>= λ _. needs b y >>= λ _. Ok p) ≡ Ok pulled → p ≡ pulled
-pulled_is true true x y p pulled e = cc
-pulled_is true false x y p pulled e = absurd cc
-pulled_is false b x y p pulled e = absurd cc
+abbrev pages_given : Pulled → Result Pulled PageFault
+pages_given p = Ok p
 
-entries_are : (c : Content) (per : ℕ) (e : Extents) (first most : ℕ) (pulled : Pulled) → pulled_of c per e first most ≡ Ok pulled → pulled.entries ≡ take most (from_on first (read_entries (journal_entries c per e)))
-unfolding pulled_of
-entries_are c per e first most pulled is =
-    ap (λ (p : Pulled). p.entries) (sym (pulled_is (nat_le (journal_first per e) first) (nat_le first e.real) (Trimmed (journal_first per e)) (Ahead e.real) (pulled_in e.real first most (read_entries (journal_entries c per e))) pulled is))
+-- what is pulled from a position on
+abbrev pulled_at : Content → ℕ → Extents → ℕ → ℕ → Result Pulled PageFault
+pulled_at c per e first most = Ok (pulled_in e.real first most (read_entries (journal_entries c per e)))
+
+pulled_is : (p pulled : Pulled) → pages_given p ≡ pages_given pulled → p ≡ pulled
+pulled_is p pulled e = cc
+
+entries_are : (c : Content) (per : ℕ) (e : Extents) (first most : ℕ) (pulled : Pulled) → pulled_at c per e first most ≡ Ok pulled → pulled.entries ≡ take most (from_on first (read_entries (journal_entries c per e)))
+entries_are c per e first most pulled is = ap (λ (p : Pulled). p.entries) (sym (pulled_is (pulled_in e.real first most (read_entries (journal_entries c per e))) pulled is))
 
 abbrev AreFew : ℕ → Result (List Usn) MountFault → Type 0
 AreFew most result = IfOk result (λ (kept : List Usn). length kept < most)
@@ -56,7 +58,7 @@ AreFew most result = IfOk result (λ (kept : List Usn). length kept < most)
 okay_is : {A : Type 0} (x y : A) → okay x ≡ okay y → x ≡ y
 okay_is x y e = cc
 
-given : (c : Content) (per : ℕ) (e : Extents) (first most : ℕ) (pulled : Pulled) (result : Result (List Usn) MountFault) → first ≡ journal_first per e → pulled_of c per e first most ≡ Ok pulled
+given : (c : Content) (per : ℕ) (e : Extents) (first most : ℕ) (pulled : Pulled) (result : Result (List Usn) MountFault) → first ≡ journal_first per e → pulled_at c per e first most ≡ Ok pulled
     → Gives (λ (l : List Usn). l) scan_cause result (okay pulled.entries) → AreFew most result → GivesOrFails (λ (l : List Usn). l) scan_cause result (okay (read_entries (journal_entries c per e)))
 given c per e first most pulled (Ok kept) begin is h few =
     let same : pulled.entries ≡ kept = okay_is pulled.entries kept h in
@@ -66,6 +68,6 @@ given c per e first most pulled (Err errors.Device) begin is h few = tt
 given c per e first most pulled (Err (errors.Refused r)) begin is h few = absurd cc
 
 -- all records are given, where fewer were pulled than were asked for
-pub entries_given : (known : Option Content) (per : ℕ) (e : Extents) (first most : ℕ) (pulled : Pulled) (result : Result (List Usn) MountFault) → first ≡ journal_first per e → IfSome known (λ c. pulled_of c per e first most ≡ Ok pulled)
+pub entries_given : (known : Option Content) (per : ℕ) (e : Extents) (first most : ℕ) (pulled : Pulled) (result : Result (List Usn) MountFault) → first ≡ journal_first per e → IfSome known (λ c. pulled_at c per e first most ≡ Ok pulled)
     → Gives (λ (l : List Usn). l) scan_cause result (okay pulled.entries) → AreFew most result → IfSome known (λ c. GivesOrFails (λ (l : List Usn). l) scan_cause result (okay (read_entries (journal_entries c per e))))
 entries_given known per e first most pulled result begin is h few = one known _ _ (λ c p. given c per e first most pulled result begin p h few) is

@@ -17,7 +17,7 @@ use Rattle.image_open.specs.declared.refusal.Refusal.TheVariants.{Short, Version
 use Rattle.image_open.specs.Errors.{map_refusal, refused_as}
 use Rattle.image_open.specs.Volumes.{Opened, opened_in}
 use Rattle.image_read.specs.Errors.{broken_refusal}
-use Rattle.image_read.specs.Checks.{volume_on, has_version, tree_on, volume_tree, loaded_tree, check_in, check_of}
+use Rattle.image_read.specs.Checks.{volume_on, has_version, tree_on, volume_tree, loaded_in, check_in, check_of}
 use Rattle.image_read.specs.States.{StandsFor}
 
 unrefused : {A F : Type 0} (kind : F → Refusal) (read : Result A F) (x : A) → refused_as kind read ≡ Ok x → read ≡ Ok x
@@ -47,8 +47,8 @@ volume_says c g clusters v t loaded is =
     let r = reports c v t (unrefused broken_refusal (checked c v) t p.1) in
     (r.0, record { volume = v; loaded = loaded; holds = r.1 }, p.0, r.2)
 
-content_says : (c : Content) (g : Geometry) (clusters : ℕ) (t : Tree) → loaded_tree c g clusters ≡ Ok t → (u : Tree) × (s : IsState c g clusters u) × (is_known (volume_info s.volume) ≡ true) × (t ≡ bare u)
-unfolding loaded_tree volume_on
+content_says : (c : Content) (g : Geometry) (clusters : ℕ) (t : Tree) → loaded_in volume_tree c g clusters ≡ Ok t → (u : Tree) × (s : IsState c g clusters u) × (is_known (volume_info s.volume) ≡ true) × (t ≡ bare u)
+unfolding volume_on
 content_says c g clusters t is =
     let p = steps_from_ok (refused_as map_refusal (volume_of c g clusters)) (volume_tree c) t is in
     volume_says c g clusters p.0 t (unrefused map_refusal (volume_of c g clusters) p.0 p.1) p.2
@@ -57,8 +57,8 @@ pub stands : (disk : List (List ℕ)) (t : Tree) → check_of disk ≡ Ok t → 
 unfolding check_of check_in
 stands disk t is =
     let c = content_of (sector_of disk) in
-    let tried = needs_from_ok (nat_lt 0 (length disk)) (Short 1 0) (λ _. opened_in c (length disk) >>= λ o. loaded_tree o.content o.geometry o.total) t is in
-    let p = steps_from_ok (opened_in c (length disk)) (λ o. loaded_tree o.content o.geometry o.total) t tried.1 in
+    let tried = needs_from_ok (nat_lt 0 (length disk)) (Short 1 0) (λ _. opened_in c (length disk) >>= λ o. loaded_in volume_tree o.content o.geometry o.total) t is in
+    let p = steps_from_ok (opened_in c (length disk)) (λ o. loaded_in volume_tree o.content o.geometry o.total) t tried.1 in
     let r = content_says p.0.content p.0.geometry p.0.total t p.2 in
     (r.0, record { opening = p.0; opened = p.1; state = r.1 }, r.2, r.3)
 
@@ -70,8 +70,8 @@ volume_answers c g clusters t s known =
     let info = volume_info s.volume in
     ap (λ (b : Bool). needs b (Version info.major info.minor) >>= λ _. refused_as broken_refusal (checked c s.volume)) known ∙ ap (refused_as broken_refusal) (state_reported c g clusters t s)
 
-content_answers : (c : Content) (g : Geometry) (clusters : ℕ) (t : Tree) (s : IsState c g clusters t) → is_known (volume_info s.volume) ≡ true → loaded_tree c g clusters ≡ Ok (bare t)
-unfolding loaded_tree volume_on
+content_answers : (c : Content) (g : Geometry) (clusters : ℕ) (t : Tree) (s : IsState c g clusters t) → is_known (volume_info s.volume) ≡ true → loaded_in volume_tree c g clusters ≡ Ok (bare t)
+unfolding volume_on
 content_answers c g clusters t s known = goes_on _ s.volume (volume_tree c) (ap (refused_as map_refusal) s.loaded) ∙ volume_answers c g clusters t s known
 
 some_sector : (n : ℕ) → 0 < n → nat_lt 0 n ≡ true
@@ -80,6 +80,6 @@ some_sector n lt = grind (arith, nat_tests)
 pub answered : (disk : List (List ℕ)) (t : Tree) (s : StandsFor disk t) → 0 < length disk → is_known (volume_info s.state.volume) ≡ true → check_of disk ≡ Ok (bare t)
 unfolding check_of check_in
 answered disk t s some known =
-    ap (λ (b : Bool). needs b (Short 1 0) >>= λ _. opened_in (content_of (sector_of disk)) (length disk) >>= λ o. loaded_tree o.content o.geometry o.total) (some_sector (length disk) some)
-    ∙ goes_on _ s.opening (λ (o : Opened). loaded_tree o.content o.geometry o.total) s.opened
+    ap (λ (b : Bool). needs b (Short 1 0) >>= λ _. opened_in (content_of (sector_of disk)) (length disk) >>= λ o. loaded_in volume_tree o.content o.geometry o.total) (some_sector (length disk) some)
+    ∙ goes_on _ s.opening (λ (o : Opened). loaded_in volume_tree o.content o.geometry o.total) s.opened
     ∙ content_answers s.opening.content s.opening.geometry s.opening.total t s.state known

@@ -19,7 +19,7 @@ use Rattle.volume_model.specs.Volumes.{Volume, upper_of}
 use Rattle.volume_state.specs.Journals.{limits_name, entries_name, limits_in, entries_in, entries_flags, journal_file, journal_entries, journal_with, journal_of_streams, journal_of_file, journal_of, fault_of}
 use Rattle.volume_state.specs.Rules.{broken_1, broken_2, broken_3, broken_4, broken_5, broken_6, broken_7, broken_8, broken_9, first_broken}
 use Rattle.volume_state.specs.Trees.{reported, checked}
-use Rattle.volume_journal.specs.Places.{in_shape, place_of_streams, place_of_file, journal_place}
+use Rattle.usn_journal.specs.Places.{in_shape, place_of_streams, place_of_file, journal_place}
 use Rattle.image_open.specs.Errors.{refused_as}
 use Rattle.image_read.specs.Errors.{broken_refusal}
 use Rattle.image_read.specs.Checks.{tree_on}

@@ -36,14 +36,15 @@ tree_on c v = refused_as broken_refusal (checked c v)
 unfoldable pub volume_tree : Content → Volume → Result Tree Refusal
 volume_tree c v = has_version v >>= λ _. tree_on c v
 
-unfoldable pub loaded_tree : Content → Geometry → ℕ → Result Tree Refusal
-loaded_tree c g total = volume_on c g total >>= λ v. volume_tree c v
+-- what is meant of the volume of a content, of this geometry and so many clusters
+abbrev pub loaded_in : {X : Type 0} → (Content → Volume → Result X Refusal) → Content → Geometry → ℕ → Result X Refusal
+loaded_in meant c g total = volume_on c g total >>= meant c
 
 -- ---- the image
 
 -- the tree of a content on a device of so many sectors
 unfoldable pub check_in : Content → ℕ → Result Tree Refusal
-check_in c sectors = in_volume loaded_tree c sectors
+check_in c sectors = in_volume (loaded_in volume_tree) c sectors
 
 -- The tree that the volume on these sectors stands for once it is recovered, without the bytes of its nodes and the records of its journal; or
 -- the first refusal that applies: by the boot sector, by record 2 and the log, by the records of the file table, by the

@@ -2,10 +2,10 @@
 use Rattle.state_model.specs.declared.broken.Broken.{Broken}
 use Rattle.volume_check.specs.declared.fault.CheckFault.{CheckFault}
 use Rattle.volume_check.specs.declared.fault.CheckFault.TheVariants as faults
-use Rattle.volume_journal.specs.declared.place.PlaceFault.{PlaceFault}
-use Rattle.volume_journal.specs.declared.place.PlaceFault.TheVariants as places
-use Rattle.usn_journal.specs.declared.fault.PullFault.{PullFault}
-use Rattle.usn_journal.specs.declared.fault.PullFault.TheVariants as pulls
+use Rattle.usn_journal.specs.declared.place.PlaceFault.{PlaceFault}
+use Rattle.usn_journal.specs.declared.place.PlaceFault.TheVariants as places
+use Rattle.usn_journal.specs.declared.pull_fault.PageFault.{PageFault}
+use Rattle.usn_journal.specs.declared.pull_fault.PageFault.TheVariants as pages
 use Rattle.image_open.specs.declared.refusal.Refusal.{Refusal}
 use Rattle.image_open.specs.declared.refusal.Refusal.TheVariants.{BadVolume, NoJournal}
 use Rattle.image_open.specs.declared.refusal.MountFault.{MountFault}
@@ -25,9 +25,8 @@ abbrev pub error_of_place : PlaceFault → MountFault
 error_of_place (places.Absent why) = errors.Refused (NoJournal why)
 error_of_place places.Memory = errors.Memory
 
--- a whole journal has its first byte
-abbrev pub error_of_pull : PullFault → MountFault
-error_of_pull (pulls.Trimmed first) = errors.Memory
-error_of_pull (pulls.Ahead next) = errors.Memory
-error_of_pull pulls.View = errors.Device
-error_of_pull pulls.Memory = errors.Memory
+-- a record at fault breaks the ninth rule
+abbrev pub error_of_pages : PageFault → MountFault
+error_of_pages (pages.Broken at) = errors.Refused (BadVolume 9 at)
+error_of_pages pages.View = errors.Device
+error_of_pages pages.Memory = errors.Memory

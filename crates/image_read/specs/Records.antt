@@ -3,16 +3,15 @@ use Rattle.std.specs.Prelude.{ℕ, List, Result, Ok}
 use Rattle.host_base.specs.Answers.{◌>>=◌}
 use Rattle.disk_model.specs.Content.{Content}
 use Rattle.state_model.specs.declared.stream.Extents.{Extents}
-use Rattle.state_model.specs.declared.geometry.Geometry.{Geometry}
 use Rattle.volume_model.specs.Volumes.{Volume, upper_of}
 use Rattle.volume_state.specs.Journals.{journal_first, journal_entries}
-use Rattle.volume_journal.specs.Places.{journal_place}
+use Rattle.usn_journal.specs.Places.{journal_place}
 use Rattle.usn_journal.specs.Pulls.{read_entries}
 use Rattle.image_open.specs.declared.refusal.Refusal.{Refusal}
 use Rattle.image_open.specs.declared.refusal.Refusal.TheVariants.{NoJournal}
 use Rattle.image_open.specs.Errors.{refused_as}
 use Rattle.image_open.specs.Volumes.{in_volume, on_disk}
-use Rattle.image_read.specs.Checks.{volume_on, has_version, tree_on}
+use Rattle.image_read.specs.Checks.{has_version, tree_on, loaded_in}
 use Rattle.image_read.specs.declared.reading.ReadJournal.{ReadJournal}
 
 -- ---- the volume
@@ -37,14 +36,11 @@ placed_records c v = place_on c v >>= records_by c v
 unfoldable pub volume_records : Content → Volume → Result ReadJournal Refusal
 volume_records c v = has_version v >>= λ _. placed_records c v
 
-unfoldable pub loaded_records : Content → Geometry → ℕ → Result ReadJournal Refusal
-loaded_records c g total = volume_on c g total >>= λ v. volume_records c v
-
 -- ---- the image
 
 -- the records of a content on a device of so many sectors
 unfoldable pub journal_in : Content → ℕ → Result ReadJournal Refusal
-journal_in c sectors = in_volume loaded_records c sectors
+journal_in c sectors = in_volume (loaded_in volume_records) c sectors
 
 -- The records of the change journal of the volume on these sectors once it is recovered, and where it begins and ends; or the first refusal that
 -- applies: by the boot sector, by record 2 and the log, by the records of the file table, by the version, by the journal

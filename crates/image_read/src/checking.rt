@@ -7,11 +7,12 @@ ghost use Rattle.volume_map.specs.Maps.{IsMap, IsMapOf, volume_in};
 ghost use Rattle.block_view.specs.Views.{AsksView};
 ghost use Rattle.image_open.specs.Errors.{scan_cause};
 ghost use Rattle.image_read.specs.Errors.{error_of_check};
-ghost use Rattle.image_read.specs.Checks.{judged_version, has_version, tree_on, volume_on, volume_tree, loaded_tree, check_of};
+ghost use Rattle.image_read.specs.Checks.{judged_version, has_version, tree_on, volume_on, volume_tree, check_of};
 
+use crate::loading::{Loads, MapReader};
 use block_view::View;
 use file_tree::Tree;
-use image_open::{MountFault, Refusal, VolumeReader, with_volume};
+use image_open::{MountFault, Refusal, with_volume};
 use record_model::VolumeInfo;
 use sector_device::Device;
 use state_model::Geometry;
@@ -64,9 +65,9 @@ fn judge_version(info: VolumeInfo) -> Result<(), MountFault>
     }))
 }
 
-/// Refuses a volume whose volume information (Linux-NTFS documentation, "$VOLUME_INFORMATION") isn't
-/// 3.1, by [`Refusal::Version`] with its version, or with version 0.0 where there is none. Linear in
-/// the attributes of record 3.
+/// Refuses a volume whose volume information (Linux-NTFS documentation, "$VOLUME_INFORMATION")
+/// isn't 3.1, by [`Refusal::Version`] with its version, or with version 0.0 where there is none.
+/// Linear in the attributes of record 3.
 #[tactic(auto, unfolding(crate::specs::Checks::has_version))]
 pub fn check_version(map: &VolumeMap) -> Result<(), MountFault>
     ensures answer { Gives (λ x. x) scan_cause result (has_version (volume_in map.now)) }
@@ -74,8 +75,12 @@ pub fn check_version(map: &VolumeMap) -> Result<(), MountFault>
     judge_version(volume_info(map))
 }
 
-// The tree of a loaded volume.
-fn volume_tree<V: View>(alloc: Global, view: &mut V, map: &VolumeMap) -> Result<Tree, MountFault>
+// The tree of a loaded volume, where its version is handled.
+pub(crate) fn volume_tree<V: View>(
+    alloc: Global,
+    view: &mut V,
+    map: &VolumeMap,
+) -> Result<Tree, MountFault>
     requires map { IsMap map.now }
     requires parts { IfSome (V.content view.old) (λ c. IsMapOf c map.now) }
     ensures answer { IfSome (V.content view.old) (λ c. GivesOrFails (λ tree. tree) scan_cause result (volume_tree c (volume_in map.now))) }
@@ -106,27 +111,12 @@ pub fn volume_on<V: View>(
     Ok(load_volume(alloc, view, geometry, total)?)
 }
 
-// The tree of a volume of this geometry and so many clusters.
-fn loaded_tree<V: View>(
-    alloc: Global,
-    view: &mut V,
-    geometry: &Geometry,
-    total: u64,
-) -> Result<Tree, MountFault>
-    requires place { geometry.now.mft * geometry.now.per_cluster < 2 ^ 62 }
-    ensures answer { IfSome (V.content view.old) (λ c. GivesOrFails (λ tree. tree) scan_cause result (loaded_tree c geometry.now total)) }
-    ensures kept { AsksView V.content V.kept V.faults scan_cause view.old view.new result }
-{
-    let map = volume_on(alloc, view, geometry, total)?;
-    volume_tree(alloc, view, &map)
-}
-
 // Reads the tree of a volume.
 struct Checking;
 
-impl VolumeReader for Checking {
+impl MapReader for Checking {
     ghost use Rattle.file_tree.specs.declared.tree.Tree.{Tree as the_tree};
-    ghost use Rattle.image_read.specs.Checks.{loaded_tree};
+    ghost use Rattle.image_read.specs.Checks.{volume_tree};
 
     type Answer = Tree;
 
@@ -134,16 +124,15 @@ impl VolumeReader for Checking {
 
     ghost shown = { λ tree. tree };
 
-    ghost meant = { λ _. loaded_tree };
+    ghost meant = { λ _. volume_tree };
 
     fn read<V: View>(
         &self,
         alloc: Global,
         view: &mut V,
-        geometry: &Geometry,
-        total: u64,
+        map: &VolumeMap,
     ) -> Result<Tree, MountFault> {
-        loaded_tree(alloc, view, geometry, total)
+        volume_tree(alloc, view, map)
     }
 }
 
@@ -176,5 +165,5 @@ pub fn check_image<D: Device>(alloc: Global, device: &mut D) -> Result<Tree, Mou
     ensures none { D.sector_count device.old ≡ 0 → result ≡ Err (MountFault.Refused (Refusal.Short 1 0)) }
     ensures unasked { D.sector_count device.old ≡ 0 → device.new ≡ device.old }
 {
-    with_volume(alloc, device, &Checking)
+    with_volume(alloc, device, &Loads { reader: &Checking })
 }

@@ -18,6 +18,7 @@
 
 mod checking;
 mod laws;
+mod loading;
 mod mounting;
 mod reading;
 mod records;

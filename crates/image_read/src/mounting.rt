@@ -7,17 +7,15 @@ ghost use Rattle.volume_model.specs.Volumes.{upper_of};
 ghost use Rattle.volume_map.specs.Maps.{IsMap, IsMapOf, volume_in};
 ghost use Rattle.block_view.specs.Views.{AsksView};
 ghost use Rattle.image_open.specs.Errors.{scan_cause};
-ghost use Rattle.image_read.specs.Mounts.{mounted_on, volume_mounted, loaded_mounted, opened_mounted, mounted_in, mounted_of};
+ghost use Rattle.image_read.specs.Mounts.{volume_mounted, opened_mounted, mounted_in, mounted_of};
 
-use crate::checking::{check_version, tree_on, volume_on};
+use crate::checking::volume_tree;
+use crate::loading::{Loads, MapReader};
 use block_view::View;
 use disk_model::Body;
 use file_tree::Tree;
-use image_open::{
-    MountFault, Refusal, ViewReader, VolumeReader, clusters_in, in_volume, with_view,
-};
+use image_open::{MountFault, Refusal, ViewReader, clusters_in, in_volume, with_view};
 use sector_device::Device;
-use state_model::Geometry;
 use std::alloc::Global;
 use system_files::upper_table;
 use upcase_order::Upcase;
@@ -57,18 +55,7 @@ fn with_upper<V: View>(
     Ok(Mounted { upper, tree })
 }
 
-// A loaded volume.
-fn mounted_on<V: View>(alloc: Global, view: &mut V, map: &VolumeMap) -> Result<Mounted, MountFault>
-    requires map { IsMap map.now }
-    requires parts { IfSome (V.content view.old) (λ c. IsMapOf c map.now) }
-    ensures answer { IfSome (V.content view.old) (λ c. GivesOrFails (λ m. m) scan_cause result (mounted_on c (volume_in map.now))) }
-    ensures kept { AsksView V.content V.kept V.faults scan_cause view.old view.new result }
-{
-    let tree = tree_on(alloc, view, map)?;
-    with_upper(alloc, view, map, tree)
-}
-
-// The same, where its version is handled.
+// A loaded volume, where its version is handled.
 fn volume_mounted<V: View>(
     alloc: Global,
     view: &mut V,
@@ -79,31 +66,16 @@ fn volume_mounted<V: View>(
     ensures answer { IfSome (V.content view.old) (λ c. GivesOrFails (λ m. m) scan_cause result (volume_mounted c (volume_in map.now))) }
     ensures kept { AsksView V.content V.kept V.faults scan_cause view.old view.new result }
 {
-    check_version(map)?;
-    mounted_on(alloc, view, map)
+    let tree = volume_tree(alloc, view, map)?;
+    with_upper(alloc, view, map, tree)
 }
 
-// A volume of this geometry and so many clusters.
-fn loaded_mounted<V: View>(
-    alloc: Global,
-    view: &mut V,
-    geometry: &Geometry,
-    total: u64,
-) -> Result<Mounted, MountFault>
-    requires place { geometry.now.mft * geometry.now.per_cluster < 2 ^ 62 }
-    ensures answer { IfSome (V.content view.old) (λ c. GivesOrFails (λ m. m) scan_cause result (loaded_mounted c geometry.now total)) }
-    ensures kept { AsksView V.content V.kept V.faults scan_cause view.old view.new result }
-{
-    let map = volume_on(alloc, view, geometry, total)?;
-    volume_mounted(alloc, view, &map)
-}
-
-// Mounts a volume that was opened.
+// Mounts a volume that was loaded.
 struct Mounting;
 
-impl VolumeReader for Mounting {
+impl MapReader for Mounting {
     ghost use Rattle.image_read.specs.declared.mounting.Mounted.{Mounted as the_volume};
-    ghost use Rattle.image_read.specs.Mounts.{loaded_mounted};
+    ghost use Rattle.image_read.specs.Mounts.{volume_mounted};
 
     type Answer = Mounted;
 
@@ -111,16 +83,15 @@ impl VolumeReader for Mounting {
 
     ghost shown = { λ m. m };
 
-    ghost meant = { λ _. loaded_mounted };
+    ghost meant = { λ _. volume_mounted };
 
     fn read<V: View>(
         &self,
         alloc: Global,
         view: &mut V,
-        geometry: &Geometry,
-        total: u64,
+        map: &VolumeMap,
     ) -> Result<Mounted, MountFault> {
-        loaded_mounted(alloc, view, geometry, total)
+        volume_mounted(alloc, view, map)
     }
 }
 
@@ -130,7 +101,7 @@ fn opened_mounted<V: View>(alloc: Global, view: &mut V, sectors: u64) -> Result<
     ensures answer { IfSome (V.content view.old) (λ c. GivesOrFails (λ m. m) scan_cause result (opened_mounted c sectors)) }
     ensures kept { AsksView V.content V.kept V.faults scan_cause view.old view.new result }
 {
-    in_volume(alloc, view, sectors, &Mounting)
+    in_volume(alloc, view, sectors, &Loads { reader: &Mounting })
 }
 
 // The volume of a view of so many sectors; `body` is room for a body.

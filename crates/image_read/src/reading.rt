@@ -8,20 +8,21 @@ ghost use Rattle.volume_map.specs.Maps.{IsMap, IsMapOf, volume_in};
 ghost use Rattle.block_view.specs.Views.{AsksView};
 ghost use Rattle.volume_model.specs.Volumes.{upper_of};
 ghost use Rattle.volume_state.specs.Journals.{journal_first, journal_entries};
-ghost use Rattle.volume_journal.specs.Places.{journal_place};
+ghost use Rattle.usn_journal.specs.Places.{journal_place};
 ghost use Rattle.image_open.specs.Errors.{scan_cause};
-ghost use Rattle.image_read.specs.Records.{place_on, records_in, records_by, placed_records, volume_records, loaded_records, journal_of};
+ghost use Rattle.image_read.specs.Records.{place_on, records_in, records_by, placed_records, volume_records, journal_of};
 
-use crate::checking::{check_version, tree_on, volume_on};
+use crate::checking::{check_version, tree_on};
+use crate::loading::{Loads, MapReader};
 use crate::records::{all_entries, place_on};
 use block_view::View;
 use disk_model::Body;
 use file_tree::UsnList;
-use image_open::{MountFault, Refusal, VolumeReader, with_volume};
+use image_open::{MountFault, Refusal, with_volume};
 use sector_device::Device;
-use state_model::{ClusterSize, Extents, Geometry};
+use state_model::{ClusterSize, Extents};
 use std::alloc::Global;
-use volume_journal::first_byte;
+use usn_journal::first_byte;
 use volume_map::VolumeMap;
 
 /// The records of a volume's change journal.
@@ -111,27 +112,12 @@ fn volume_records<V: View>(
     placed_records(alloc, view, map)
 }
 
-// The records of a volume of this geometry and so many clusters.
-fn loaded_records<V: View>(
-    alloc: Global,
-    view: &mut V,
-    geometry: &Geometry,
-    total: u64,
-) -> Result<ReadJournal, MountFault>
-    requires place { geometry.now.mft * geometry.now.per_cluster < 2 ^ 62 }
-    ensures answer { IfSome (V.content view.old) (λ c. GivesOrFails (λ j. j) scan_cause result (loaded_records c geometry.now total)) }
-    ensures kept { AsksView V.content V.kept V.faults scan_cause view.old view.new result }
-{
-    let map = volume_on(alloc, view, geometry, total)?;
-    volume_records(alloc, view, &map)
-}
-
 // Reads the records of a volume's change journal.
 struct Reading;
 
-impl VolumeReader for Reading {
+impl MapReader for Reading {
     ghost use Rattle.image_read.specs.declared.reading.ReadJournal.{ReadJournal as the_journal};
-    ghost use Rattle.image_read.specs.Records.{loaded_records};
+    ghost use Rattle.image_read.specs.Records.{volume_records};
 
     type Answer = ReadJournal;
 
@@ -139,16 +125,15 @@ impl VolumeReader for Reading {
 
     ghost shown = { λ journal. journal };
 
-    ghost meant = { λ _. loaded_records };
+    ghost meant = { λ _. volume_records };
 
     fn read<V: View>(
         &self,
         alloc: Global,
         view: &mut V,
-        geometry: &Geometry,
-        total: u64,
+        map: &VolumeMap,
     ) -> Result<ReadJournal, MountFault> {
-        loaded_records(alloc, view, geometry, total)
+        volume_records(alloc, view, map)
     }
 }
 
@@ -173,5 +158,5 @@ pub fn read_journal<D: Device>(alloc: Global, device: &mut D) -> Result<ReadJour
     ensures none { D.sector_count device.old ≡ 0 → result ≡ Err (MountFault.Refused (Refusal.Short 1 0)) }
     ensures unasked { D.sector_count device.old ≡ 0 → device.new ≡ device.old }
 {
-    with_volume(alloc, device, &Reading)
+    with_volume(alloc, device, &Loads { reader: &Reading })
 }

@@ -8,11 +8,11 @@ ghost use Rattle.stream_map.specs.Runs.{AreSmall};
 ghost use Rattle.volume_map.specs.Maps.{IsMap, volume_in};
 ghost use Rattle.block_view.specs.Views.{AsksView};
 ghost use Rattle.volume_state.specs.Journals.{journal_first, journal_entries};
-ghost use Rattle.volume_journal.specs.Places.{journal_place};
+ghost use Rattle.usn_journal.specs.Places.{journal_place};
 ghost use Rattle.usn_journal.specs.Pulls.{read_entries};
 ghost use Rattle.image_open.specs.Errors.{scan_cause, refused_as};
 ghost use Rattle.image_open.specs.declared.refusal.Refusal.TheVariants.{NoJournal};
-ghost use Rattle.image_read.specs.Errors.{error_of_place, error_of_pull};
+ghost use Rattle.image_read.specs.Errors.{error_of_place, error_of_pages};
 ghost use Rattle.image_read.specs.Records.{place_on};
 
 use block_view::View;
@@ -24,12 +24,14 @@ use state_model::{ClusterSize, Extents};
 use std::alloc::Global;
 use system_files::upper_table;
 use upcase_order::Upcase;
-use usn_journal::{PullFault, read_from};
-use volume_journal::{PlaceFault, journal_place};
+use usn_journal::{PageFault, PlaceFault, journal_place, pull_inside};
 use volume_map::VolumeMap;
 
 // The most records that are asked for at once.
 const MOST: u32 = u32::MAX;
+
+// The number of the rule that a record at fault breaks.
+const JOURNAL_RULE: u32 = 9;
 
 fn error_of_place(fault: PlaceFault) -> MountFault
     ensures value { result ≡ error_of_place fault }
@@ -40,15 +42,16 @@ fn error_of_place(fault: PlaceFault) -> MountFault
     }
 }
 
-fn error_of_pull(fault: PullFault) -> MountFault
-    ensures value { result ≡ error_of_pull fault }
+fn error_of_pages(fault: PageFault) -> MountFault
+    ensures value { result ≡ error_of_pages fault }
 {
     match fault {
-        // The first two aren't met from the first byte of a whole journal on.
-        PullFault::Trimmed { .. } => MountFault::Memory,
-        PullFault::Ahead { .. } => MountFault::Memory,
-        PullFault::View => MountFault::Device,
-        PullFault::Memory => MountFault::Memory,
+        PageFault::Broken { at } => MountFault::Refused(Refusal::BadVolume {
+            rule: JOURNAL_RULE,
+            number: at,
+        }),
+        PageFault::View => MountFault::Device,
+        PageFault::Memory => MountFault::Memory,
     }
 }
 
@@ -111,8 +114,10 @@ fn fewer(entries: UsnList) -> Result<UsnList, MountFault>
 /// has `per` sectors a cluster; `body` is room for a body. Linear in the bytes of the journal, each
 /// of whose sectors takes one pass over the runs.
 ///
-/// The errors are a failure of the view, and want of memory, which comes too where there are 2^32 -
-/// 1 records or more.
+/// - [`MountFault::Refused`]: [`Refusal::BadVolume`] with rule 9, where the view gives a record
+///   that is at fault, which no view does that is known to hold whole records.
+/// - [`MountFault::Device`]: the view failed.
+/// - [`MountFault::Memory`]: want of memory, or there are 2^32 - 1 records or more.
 pub fn all_entries<V: View>(
     alloc: Global,
     view: &mut V,
@@ -128,8 +133,8 @@ pub fn all_entries<V: View>(
     ensures answer { IfSome (V.content view.old) (λ c. GivesOrFails (λ (l : List UsnOf). l) scan_cause result (Ok (read_entries (journal_entries c per extents.now)))) }
     ensures kept { AsksView V.content V.kept V.faults scan_cause view.old view.new result }
 {
-    match read_from(alloc, view, per, extents, first, MOST, body) {
+    match pull_inside(alloc, view, per, extents, first, first, MOST, body) {
         Ok(pulled) => fewer(pulled.entries),
-        Err(fault) => Err(error_of_pull(fault)),
+        Err(fault) => Err(error_of_pages(fault)),
     }
 }

@@ -3,7 +3,7 @@ use crate::devices::device;
 use sector_device::{Device, MemoryDevice};
 use std::alloc::{AllocError, Global};
 use std::test::Fail;
-use volume_format::{FormatFault, Formatted, format};
+use volume_format::{FormatFault, FormatRefusal, Formatted, format};
 
 // A device of so many sectors, the call of it that fails, the answer of a format, the count of
 // faults, and the moment of the device, where it is told.
@@ -13,20 +13,20 @@ static ROWS: [Row; 7] = [
     Row(
         0,
         0,
-        Err(FormatFault::Short {
+        Err(FormatFault::Refused(FormatRefusal::Short {
             sectors: 1,
             device: 0,
-        }),
+        })),
         0,
         Some(0),
     ),
     Row(
         4536,
         0,
-        Err(FormatFault::Short {
+        Err(FormatFault::Refused(FormatRefusal::Short {
             sectors: 4537,
             device: 4536,
-        }),
+        })),
         0,
         Some(0),
     ),

@@ -30,7 +30,7 @@ use Rattle.index_tree.specs.Calls.{FindGives, is_sought}
 use Rattle.index_tree.specs.Faults.{IsRead}
 use Rattle.index_change.specs.Heights.{tallest, if_read, height_below, height_of}
 use Rattle.index_change.specs.Holding.{HoldsNodesOf}
-use Rattle.index_change.specs.Orders.{is_of, link_of, has_entry}
+use Rattle.index_change.specs.Orders.{names_file, link_of, has_entry}
 use Rattle.index_change.specs.Plans.{PutsNew, InsertGives}
 use Rattle.index_change.proofs.Lawful.{link_child}
 
@@ -116,11 +116,11 @@ module _ (p : Place) (upper value name : List ℕ) (used : ℕ) (key : Key) (fre
   abbrev pub Has : Bool → Content → Type 0
   Has b c = (t : Tree) → HoldsIndex c p upper value t → has_entry upper (link_of key) (links_of (walk t)) ≡ b
 
-  pub has_known : (known : Option Content) (links : List Link) (b : Bool) → list_any (is_of key.child) links ≡ b → IfSome known (λ c. FindGives c p upper name value (Ok links)) → IfSome known (Has b)
+  pub has_known : (known : Option Content) (links : List Link) (b : Bool) → list_any (names_file key.child) links ≡ b → IfSome known (λ c. FindGives c p upper name value (Ok links)) → IfSome known (Has b)
   has_known None links b is h = tt
   has_known (Some c) links b is h = λ t held.
       let found : links ≡ filter (is_sought upper (link_of key).name) (links_of (walk t)) = h t held ∙ ap (λ (n : List ℕ). filter (is_sought upper n) (links_of (walk t))) same in
-      ap (list_any (is_of (link_of key).child)) (sym found) ∙ ap (λ f. list_any (is_of f) links) (link_child key) ∙ is
+      ap (list_any (names_file (link_of key).child)) (sym found) ∙ ap (λ f. list_any (names_file f) links) (link_child key) ∙ is
 
   insert_at : (c : Content) (result : Result DirPlan TreeFault) → Has false c → PutsNew c p upper value used key fresh result → InsertGives c p upper value used key fresh result
   insert_at c (Ok plan) none h = (none, h)

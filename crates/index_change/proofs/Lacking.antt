@@ -9,7 +9,8 @@ use Rattle.file_tree.specs.Names.{name_order}
 use Rattle.file_tree.proofs.NameOrders.{name_order_total}
 use Rattle.index_model.specs.declared.key.Key.{Key}
 use Rattle.index_model.specs.Indexes.{key_link, links_of, precedes, rises}
-use Rattle.index_change.specs.Orders.{link_of, is_same_link, has_link}
+use Rattle.state_model.specs.Rules.{same_link}
+use Rattle.index_change.specs.Orders.{link_of, has_link}
 use Rattle.index_change.proofs.Lawful.{AreNames, key_link_is}
 use Rattle.index_change.proofs.Lookups.{same_link_is}
 
@@ -63,13 +64,13 @@ length_links (k ∷ keys) names = ap length (links_here (key_link k) (link_of k)
 
 -- ---- a list of one link, which is the one that is looked for
 
-one_is : (l m : Link) (b : Bool) → is_same_link l m ≡ b → (b || false) ≡ true → m ≡ l
+one_is : (l m : Link) (b : Bool) → same_link l m ≡ b → (b || false) ≡ true → m ≡ l
 one_is l m true e h = same_link_is l m e
 one_is l m false e h = absurd cc
 
 pub only_link : (l : Link) (links : List Link) → length links < 2 → has_link l links ≡ true → links ≡ l ∷ []
 only_link l [] few h = absurd cc
-only_link l (m ∷ []) few h = ap (λ (x : Link). x ∷ []) (one_is l m (is_same_link l m) refl h)
+only_link l (m ∷ []) few h = ap (λ (x : Link). x ∷ []) (one_is l m (same_link l m) refl h)
 only_link l (m ∷ n ∷ links) few h = absurd (omega arith)
 
 -- the key of the only link

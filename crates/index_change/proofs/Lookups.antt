@@ -16,7 +16,8 @@ use Rattle.index_model.specs.declared.key.Key.{Key}
 use Rattle.index_plan.specs.declared.side.KeySide.{KeySide}
 use Rattle.index_plan.specs.declared.side.KeySide.TheVariants as sides
 use Rattle.index_tree.specs.Calls.{is_sought}
-use Rattle.index_change.specs.Orders.{link_of, is_entry_of, stands_by, stands, is_same_link, has_link}
+use Rattle.state_model.specs.Rules.{same_link}
+use Rattle.index_change.specs.Orders.{link_of, is_entry_of, stands_by, stands, has_link}
 
 ref_of : ℕ → ℕ → FileRef
 ref_of number seq = record { number = number; seq = seq }
@@ -39,12 +40,12 @@ link_is l m c p s n =
     ∙ ap (λ (x : ℕ). link_with l.parent m.name x l.child) s ∙ ap (λ (x : List ℕ). link_with l.parent x l.space l.child) n
 
 -- a link that is the same by its parts is this one
-pub same_link_is : (l m : Link) → is_same_link l m ≡ true → m ≡ l
+pub same_link_is : (l m : Link) → same_link l m ≡ true → m ≡ l
 same_link_is l m e =
-    let a = and_parts (same_reference m.child l.child && same_reference m.parent l.parent && (m.space == l.space)) (same_units m.name l.name) e in
-    let b = and_parts (same_reference m.child l.child && same_reference m.parent l.parent) (m.space == l.space) a.0 in
-    let d = and_parts (same_reference m.child l.child) (same_reference m.parent l.parent) b.0 in
-    link_is l m (same_file_is m.child l.child d.0) (same_file_is m.parent l.parent d.1) (eqb-true m.space l.space b.1) ((bytes_decides m.name l.name).0 a.1)
+    let a = and_parts (same_reference l.child m.child && same_reference l.parent m.parent && (l.space == m.space)) (same_units l.name m.name) e in
+    let b = and_parts (same_reference l.child m.child && same_reference l.parent m.parent) (l.space == m.space) a.0 in
+    let d = and_parts (same_reference l.child m.child) (same_reference l.parent m.parent) b.0 in
+    sym (link_is m l (same_file_is l.child m.child d.0) (same_file_is l.parent m.parent d.1) (eqb-true l.space m.space b.1) ((bytes_decides l.name m.name).0 a.1))
 
 -- ---- the search for a name finds it
 
@@ -61,7 +62,7 @@ any_among p q (m ∷ links) each = choose (any_among p q links each) (p m) (q m)
     choose later false false f g = later
 
 pub found_link : (upper : List ℕ) (l : Link) (links : List Link) → has_link l (filter (is_sought upper l.name) links) ≡ has_link l links
-found_link upper l links = any_among (is_sought upper l.name) (is_same_link l) links (λ m e. is_sought_itself upper l m (same_link_is l m e))
+found_link upper l links = any_among (is_sought upper l.name) (same_link l) links (λ m e. is_sought_itself upper l m (same_link_is l m e))
 
 -- ---- the key where it stands
 

@@ -7,7 +7,8 @@ use Rattle.host_base.specs.declared.file_ref.FileRef.{FileRef}
 use Rattle.host_base.specs.FileRefs.{same_reference}
 use Rattle.record_model.specs.Values.{is_file_name, parent_of, space_of, units_of}
 use Rattle.file_tree.specs.declared.link.Link.{Link}
-use Rattle.file_tree.specs.Names.{comes_before, name_order, same_units}
+use Rattle.file_tree.specs.Names.{comes_before, name_order}
+use Rattle.state_model.specs.Rules.{same_link}
 use Rattle.index_model.specs.declared.key.Key.{Key}
 use Rattle.index_plan.specs.declared.side.KeySide.{KeySide}
 use Rattle.index_plan.specs.declared.side.KeySide.TheVariants as sides
@@ -26,12 +27,13 @@ abbrev pub put_link : List ℕ → Link → List Link → List Link
 put_link upper l [] = l ∷ []
 put_link upper l (k ∷ links) = if comes_before upper l.name k.name then l ∷ k ∷ links else k ∷ put_link upper l links
 
-abbrev pub is_of : FileRef → Link → Bool
-is_of file l = same_reference l.child file
+-- the link names this file
+abbrev pub names_file : FileRef → Link → Bool
+names_file file l = same_reference l.child file
 
 -- some link has this name, by the table of upper-case units, and names this file
 abbrev pub has_entry : List ℕ → Link → List Link → Bool
-has_entry upper l links = list_any (is_of l.child) (filter (is_sought upper l.name) links)
+has_entry upper l links = list_any (names_file l.child) (filter (is_sought upper l.name) links)
 
 -- ---- links that are looked for
 
@@ -49,13 +51,9 @@ stands_by Greater here = sides.Behind
 abbrev pub stands : List ℕ → Link → Key → KeySide
 stands upper l k = if is_file_name k.value then stands_by (name_order upper l.name (units_of k.value)) (is_entry_of l k) else sides.Beside
 
--- two links are the same
-abbrev pub is_same_link : Link → Link → Bool
-is_same_link l m = same_reference m.child l.child && same_reference m.parent l.parent && (m.space == l.space) && same_units m.name l.name
-
 -- some link is this one
 abbrev pub has_link : Link → List Link → Bool
-has_link l links = list_any (is_same_link l) links
+has_link l links = list_any (same_link l) links
 
 -- these are the links without one that is this one
 pub record LacksOne (l : Link) (links left : List Link) : Type 0 where

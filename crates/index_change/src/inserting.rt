@@ -13,7 +13,7 @@ ghost use Rattle.index_change.specs.Changing.{AllWereOld};
 ghost use Rattle.index_change.specs.Faults.{AfterFind, DeepAfterWalk, IsOfView, Planned};
 ghost use Rattle.index_tree.specs.Faults.{FailsByView};
 ghost use Rattle.index_change.specs.Holding.{HoldsNodesOf};
-ghost use Rattle.index_change.specs.Orders.{goes, is_of, link_of};
+ghost use Rattle.index_change.specs.Orders.{goes, names_file, link_of};
 ghost use Rattle.index_tree.specs.Places.{place_of};
 ghost use Rattle.index_change.specs.Plans.{clusters_of, root_room, seventeen, IsMade, InsertGives, PutsNew};
 ghost use Rattle.std.specs.List.{list_any};
@@ -188,7 +188,7 @@ impl<'a> Insertion<'a> {
 
 // Whether some link names a file.
 fn names_file(links: &[Link], file: FileRef) -> bool
-    ensures { result ≡ list_any (is_of file) links.now }
+    ensures { result ≡ list_any (names_file file) links.now }
 {
     links.iter().any(|l| l.child.number == file.number && l.child.seq == file.seq)
 }

@@ -15,7 +15,8 @@ ghost use Rattle.index_change.specs.Amounts.{keys_of};
 ghost use Rattle.index_change.specs.Changing.{AllWereOld};
 ghost use Rattle.index_change.specs.Faults.{AfterFind, DeepAfterWalk, IsOfView, Planned};
 ghost use Rattle.index_change.specs.Holding.{HoldsNodesOf};
-ghost use Rattle.index_change.specs.Orders.{has_link, is_same_link, link_of, stands};
+ghost use Rattle.state_model.specs.Rules.{same_link};
+ghost use Rattle.index_change.specs.Orders.{has_link, link_of, stands};
 ghost use Rattle.index_change.specs.Plans.{clusters_of, root_room, seventeen, IsMade};
 ghost use Rattle.index_change.specs.Removals.{IsEmptied, RemoveGives, TakesLink};
 
@@ -209,12 +210,12 @@ impl<'a> Removal<'a> {
 
 // Whether two links are the same.
 fn is_same_link(l: &Link, m: &Link) -> bool
-    ensures { result ≡ is_same_link l.now m.now }
+    ensures { result ≡ same_link l.now m.now }
 {
-    is_same_reference(m.child, l.child)
-        && is_same_reference(m.parent, l.parent)
-        && m.space == l.space
-        && m.name.units() == l.name.units()
+    is_same_reference(l.child, m.child)
+        && is_same_reference(l.parent, m.parent)
+        && l.space == m.space
+        && l.name.units() == m.name.units()
 }
 
 // Whether some link is this one.

@@ -1,10 +1,11 @@
 //! The nodes of a directory's index: their entries are read from an index block or from an index
-//! root, are put in, taken out and cut in two, and are written as a block; and the value of an index
-//! root as it is written.
+//! root, are put in, taken out and cut in two, and are written as a block; and the value of an
+//! index root as it is written.
 //!
 //! The contract: a node is read exactly where its bytes spell it, and is refused by the least rule
-//! that they break; what is written is the one spelling of the entries, which is read again. The layouts are those
-//! of the Linux-NTFS documentation, "$INDEX_ROOT", "Index Record" and "Index Entry".
+//! that they break; what is written is the one spelling of the entries, which is read again. The
+//! layouts are those of the Linux-NTFS documentation, "$INDEX_ROOT", "Index Record" and "Index
+//! Entry".
 #![tactic(auto)]
 
 mod entries;

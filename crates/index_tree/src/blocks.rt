@@ -3,16 +3,15 @@ ghost use Rattle.std.specs.Prelude.{◌≡◌, ◌↔◌, [], ◌∷◌, ◌++�
 ghost use Rattle.state_model.specs.Streams.{holds, block_at};
 ghost use Rattle.stream_map.specs.Runs.{AreSmall};
 ghost use Rattle.disk_model.specs.declared.block.BlockKind.TheVariants.{Index};
-ghost use Rattle.state_model.specs.Loads.{no_extents};
 ghost use Rattle.volume_model.specs.Indexes.{or_void, runs_end, index_block, block_count, blocks_of};
 ghost use Rattle.index_tree.specs.Allocations.{stand_apart};
 
 use block_view::{Block, BlockKind};
-use record_model::{Run, Runs};
+use record_model::Run;
 use state_model::{ClusterSize, Extents};
 use std::alloc::{AllocError, Global};
 use std::marker::Model;
-use stream_map::block_at;
+use stream_map::{block_at, no_extents};
 
 // The sectors of an index block.
 const BLOCK_SECTORS: u64 = 8;
@@ -170,17 +169,6 @@ fn added(more: &Vec<Block>, number: u64) -> Option<Block>
     ensures { result ≡ slice_get more.now.items number }
 {
     more.get(number as usize).copied()
-}
-
-fn no_extents(alloc: Global) -> Extents
-    ensures { result ≡ no_extents }
-{
-    Extents {
-        runs: Runs::new(alloc),
-        allocated: 0,
-        real: 0,
-        initialised: 0,
-    }
 }
 
 impl BlockList {

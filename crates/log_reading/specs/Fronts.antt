@@ -3,8 +3,8 @@ use Rattle.std.specs.Prelude.{ℕ, ◌+◌, ◌^◌, ◌==◌, ◌&&◌, not, na
 use Rattle.host_base.specs.Answers.{◌>>=◌, needs}
 use Rattle.log_page.specs.declared.restart.Restart.{Restart}
 use Rattle.log_page.specs.Restarts.{restart_of, chosen, is_second_chosen, is_blank, is_emptied}
-use Rattle.log_reading.specs.declared.fault.RecoveryFault.{RecoveryFault}
-use Rattle.log_reading.specs.declared.fault.RecoveryFault.TheVariants.{LogVersion, NoRestart}
+use Rattle.log_reading.specs.declared.fault.LogRefusal.{LogRefusal}
+use Rattle.log_reading.specs.declared.fault.LogRefusal.TheVariants.{LogVersion, NoRestart}
 use Rattle.log_reading.specs.declared.front.RestartFront.{RestartFront}
 
 -- the chosen one of the restart pages that stand on the disk like this
@@ -24,12 +24,12 @@ next_opens (Some r) = if nat_le (2 ^ 31) r.opens then 0 else r.opens + 1
 next_opens None = 0
 
 -- of version 1 where a page is chosen, and emptied where none is
-abbrev pub is_readable : Option Restart → List ℕ → List ℕ → Result (Unit {0}) RecoveryFault
+abbrev pub is_readable : Option Restart → List ℕ → List ℕ → Result (Unit {0}) LogRefusal
 is_readable (Some r) first second = needs (r.major == 1) (LogVersion r.major r.minor)
 is_readable None first second = needs (is_emptied first second) NoRestart
 
 -- What the first two pages of a log say, or the refusal of its version, or of a log that has no restart page and isn't emptied.
-unfoldable pub front_in : List ℕ → List ℕ → Result RestartFront RecoveryFault
+unfoldable pub front_in : List ℕ → List ℕ → Result RestartFront LogRefusal
 front_in first second =
     is_readable (chosen_in first second) first second
     >>= λ _. Ok (record { chosen = chosen_in first second; restart = next_restart first second; opens = next_opens (chosen_in first second) })

@@ -1,13 +1,13 @@
 ghost use Rattle.std.specs.Prelude.{◌≡◌};
-ghost use Rattle.log_reading.specs.declared.fault.RecoveryFault.TheVariants.{Memory as no_memory, Fault as view_failed};
+ghost use Rattle.log_reading.specs.declared.fault.RecoveryFault.TheVariants.{Memory as no_memory, Refused as is_refused};
 
 use block_view::ViewFault;
 use std::alloc::AllocError;
 use thiserror::Error;
 
-/// Why a log isn't recovered.
+/// What refuses a log.
 #[derive(Clone, Copy, Debug, PartialEq, Eq, Error)]
-pub enum RecoveryFault {
+pub enum LogRefusal {
     /// The chosen restart page is of another major version than 1.
     #[error("log of version {major}.{minor}")]
     LogVersion { major: u16, minor: u16 },
@@ -20,6 +20,14 @@ pub enum RecoveryFault {
     /// above it.
     #[error("foreign log at {lsn}")]
     ForeignLog { lsn: u64 },
+}
+
+/// Why a log isn't recovered.
+#[derive(Clone, Copy, Debug, PartialEq, Eq, Error)]
+pub enum RecoveryFault {
+    /// The log is refused.
+    #[error("the log is refused: {0}")]
+    Refused(LogRefusal),
     /// The view failed.
     #[error("the view failed")]
     Fault,
@@ -32,6 +40,14 @@ impl From<AllocError> for RecoveryFault {
 
     fn from(_: AllocError) -> Self {
         RecoveryFault::Memory
+    }
+}
+
+impl From<LogRefusal> for RecoveryFault {
+    ghost from_gives = { λ refusal e. e ≡ is_refused refusal };
+
+    fn from(refusal: LogRefusal) -> Self {
+        RecoveryFault::Refused(refusal)
     }
 }
 

@@ -3,7 +3,7 @@ ghost use Rattle.std.specs.Prelude.{◌≡◌, length};
 ghost use Rattle.log_page.specs.Restarts.{restart_of};
 ghost use Rattle.log_reading.specs.Fronts.{chosen_in, next_restart, next_opens, is_readable, front_in};
 
-use crate::fault::RecoveryFault;
+use crate::fault::LogRefusal;
 use log_page::{Restart, chosen, is_blank, is_emptied, is_second_chosen};
 
 /// What the restart pages of a log say.
@@ -49,7 +49,7 @@ fn next_opens(chosen: Option<Restart>) -> u32
     }
 }
 
-fn check_readable(chosen: Option<Restart>, first: &[u8], second: &[u8]) -> Result<(), RecoveryFault>
+fn check_readable(chosen: Option<Restart>, first: &[u8], second: &[u8]) -> Result<(), LogRefusal>
     requires first { length first.now ≡ 4096 }
     requires second { length second.now ≡ 4096 }
     ensures value { result ≡ is_readable chosen first.now second.now }
@@ -61,14 +61,14 @@ fn check_readable(chosen: Option<Restart>, first: &[u8], second: &[u8]) -> Resul
             } else {
                 let major = restart.major;
                 let minor = restart.minor;
-                Err(RecoveryFault::LogVersion { major, minor })
+                Err(LogRefusal::LogVersion { major, minor })
             }
         }
         None => {
             if is_emptied(first, second) {
                 Ok(())
             } else {
-                Err(RecoveryFault::NoRestart)
+                Err(LogRefusal::NoRestart)
             }
         }
     }
@@ -76,10 +76,10 @@ fn check_readable(chosen: Option<Restart>, first: &[u8], second: &[u8]) -> Resul
 
 /// What the first two pages of a log say, as they stand on the disk.
 ///
-/// - [`RecoveryFault::LogVersion`]: the chosen page is of another major version than 1.
-/// - [`RecoveryFault::NoRestart`]: neither page is a whole restart page, and none is all FF.
+/// - [`LogRefusal::LogVersion`]: the chosen page is of another major version than 1.
+/// - [`LogRefusal::NoRestart`]: neither page is a whole restart page, and none is all FF.
 #[tactic(auto, unfolding(crate::specs::Fronts::front_in))]
-pub fn front_of(first: &[u8], second: &[u8]) -> Result<RestartFront, RecoveryFault>
+pub fn front_of(first: &[u8], second: &[u8]) -> Result<RestartFront, LogRefusal>
     requires first { length first.now ≡ 4096 }
     requires second { length second.now ≡ 4096 }
     ensures value { result ≡ front_in first.now second.now }

@@ -11,7 +11,7 @@ mod live;
 mod pages;
 mod ring;
 
-pub use fault::RecoveryFault;
+pub use fault::{LogRefusal, RecoveryFault};
 pub use front::{RestartFront, front_of};
 pub use laps::greatest_lsn;
 pub use live::{LiveLog, live_log};

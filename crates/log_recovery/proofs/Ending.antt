@@ -28,7 +28,8 @@ use Rattle.log_recovery.specs.declared.found.Shadow.{Shadow}
 use Rattle.log_recovery.specs.declared.found.RecoveredBlocks.{RecoveredBlocks}
 use Rattle.log_recovery.specs.declared.found.Judged.{Judged}
 use Rattle.log_reading.specs.declared.fault.RecoveryFault.{RecoveryFault}
-use Rattle.log_reading.specs.declared.fault.RecoveryFault.TheVariants.{LogVersion, NoRestart, ForeignLog, Fault, Memory}
+use Rattle.log_reading.specs.declared.fault.LogRefusal.TheVariants.{LogVersion, NoRestart, ForeignLog}
+use Rattle.log_reading.specs.declared.fault.RecoveryFault.TheVariants.{Refused, Fault, Memory}
 use Rattle.log_recovery.specs.Blocks.{LiesInside, Lies, Judges}
 use Rattle.log_recovery.specs.Recovering.{is_updated, held_body, held_lsn, shadow_lsn, written_body, body_block, shadow_block, AreRecovered, foreign_entry, Recovers}
 use Rattle.log_recovery.specs.Finding.{is_part, Found, Adds, Refuses, IsFirstPartial, update_block, RecoversPlaced}
@@ -197,9 +198,9 @@ added_known (Some c) log k e b0 judged ended old new (Ok x) same level lt is som
     (says c log b0 judged sized level (updated_here log k e b0 lt is (own_block e.act b0 some)) (subst (λ (t : ℕ → Bool). Judges t log b0 (c b0) judged) same judges)) adds f
 
 refused_as : (c : Content) (log : List Entry) (lsn : ℕ) (judged : Judged) (x : RecoveryFault) → Refuses judged lsn x → (is_part judged ≡ true → first_partial c log ≡ Some lsn) → IsFirstPartial c log x
-refused_as c log lsn judged (LogVersion major minor) r h = r
-refused_as c log lsn judged NoRestart r h = r
-refused_as c log lsn judged (ForeignLog l) r h = h r.0 ∙ ap (λ (n : ℕ). Some n) (sym r.1)
+refused_as c log lsn judged (Refused (LogVersion major minor)) r h = r
+refused_as c log lsn judged (Refused NoRestart) r h = r
+refused_as c log lsn judged (Refused (ForeignLog l)) r h = h r.0 ∙ ap (λ (n : ℕ). Some n) (sym r.1)
 refused_as c log lsn judged Fault r h = tt
 refused_as c log lsn judged Memory r h = tt
 
@@ -246,15 +247,15 @@ foreign-placed : (c : Content) (log : List Entry) (clusters : ℕ) → first_mis
 unfolding foreign_entry
 foreign-placed c log clusters e = ap (λ (o : Option ℕ). option_or o (first_partial c log)) e
 
-pub misplaced_known : (content : Option Content) (log : List Entry) (clusters lsn : ℕ) → first_misplaced log clusters ≡ Some lsn → IfSome content (λ c. Recovers c log clusters (Err (ForeignLog lsn)))
+pub misplaced_known : (content : Option Content) (log : List Entry) (clusters lsn : ℕ) → first_misplaced log clusters ≡ Some lsn → IfSome content (λ c. Recovers c log clusters (Err (Refused (ForeignLog lsn))))
 misplaced_known None log clusters lsn e = tt
 misplaced_known (Some c) log clusters lsn e = foreign-misplaced c log clusters lsn e
 
 placed_result : (c : Content) (log : List Entry) (clusters : ℕ) (result : Result RecoveredBlocks RecoveryFault) → first_misplaced log clusters ≡ None → RecoversPlaced c log result → Recovers c log clusters result
 placed_result c log clusters (Ok found) e r = (foreign-placed c log clusters e ∙ r.0, r.1)
-placed_result c log clusters (Err (LogVersion major minor)) e r = r
-placed_result c log clusters (Err NoRestart) e r = r
-placed_result c log clusters (Err (ForeignLog lsn)) e r = foreign-placed c log clusters e ∙ r
+placed_result c log clusters (Err (Refused (LogVersion major minor))) e r = r
+placed_result c log clusters (Err (Refused NoRestart)) e r = r
+placed_result c log clusters (Err (Refused (ForeignLog lsn))) e r = foreign-placed c log clusters e ∙ r
 placed_result c log clusters (Err Fault) e r = tt
 placed_result c log clusters (Err Memory) e r = tt
 

@@ -20,8 +20,10 @@ use Rattle.log_model.specs.declared.entry.Act.{Act}
 use Rattle.log_model.specs.declared.entry.Act.TheVariants.{Update, Commit}
 use Rattle.log_model.specs.Logs.{block_of_kind, updates, is_shadowed, is_covered_whole, recovered, is_other, is_written_out}
 use Rattle.log_page.specs.declared.places.LogPlace.{LogPlace}
+use Rattle.log_reading.specs.declared.fault.LogRefusal.{LogRefusal}
 use Rattle.log_reading.specs.declared.fault.RecoveryFault.{RecoveryFault}
-use Rattle.log_reading.specs.declared.fault.RecoveryFault.TheVariants.{LogVersion, NoRestart, ForeignLog, Fault, Memory}
+use Rattle.log_reading.specs.declared.fault.LogRefusal.TheVariants.{ForeignLog}
+use Rattle.log_reading.specs.declared.fault.RecoveryFault.TheVariants.{Refused, Fault, Memory}
 use Rattle.log_reading.specs.Views.{NeverForeign, recovery_cause}
 use Rattle.log_recovery.specs.declared.found.RecoveredBlock.{RecoveredBlock}
 use Rattle.log_recovery.specs.declared.whole.Recovered.{Recovered}
@@ -127,8 +129,8 @@ barred_alike own c log bodies held once b = any_held (bars own c) b bodies once 
 
 -- ---- an entry of a barred block
 
-unless_same : {A B : Type 0} (o : Option ℕ) (x : A) (y : B) (e : RecoveryFault) → unless_foreign o x ≡ Err e → unless_foreign o y ≡ Err e
-unless_same (Some lsn) x y e is = let same : ForeignLog lsn ≡ e = cc in ap (λ (f : RecoveryFault). Err f) same
+unless_same : {A B : Type 0} (o : Option ℕ) (x : A) (y : B) (e : LogRefusal) → unless_foreign o x ≡ Err e → unless_foreign o y ≡ Err e
+unless_same (Some lsn) x y e is = let same : ForeignLog lsn ≡ e = cc in ap (λ (f : LogRefusal). Err f) same
 unless_same None x y e is = absurd cc
 
 unless_none : {A : Type 0} (o : Option ℕ) (x y : A) → unless_foreign o x ≡ Ok y → (o ≡ None) × (x ≡ y)
@@ -136,9 +138,7 @@ unless_none (Some lsn) x y is = absurd cc
 unless_none None x y is = let same : x ≡ y = cc in (refl, same)
 
 explained : {A B : Type 0} (o : Option ℕ) (x : A) (y : B) (e : RecoveryFault) → Explains (recovery_cause e) (unless_foreign o x) → ExplainsOrFails (recovery_cause e) (unless_foreign o y)
-explained o x y (LogVersion major minor) h = unless_same o x y (LogVersion major minor) h
-explained o x y NoRestart h = unless_same o x y NoRestart h
-explained o x y (ForeignLog lsn) h = unless_same o x y (ForeignLog lsn) h
+explained o x y (Refused refusal) h = unless_same o x y refusal h
 explained o x y Fault h = absurd h
 explained o x y Memory h = tt
 
@@ -245,7 +245,7 @@ same_places p q i (r ∷ rs) P alike all =
 to_write-is : (c : Content) (place : LogPlace) (kept : List Block) (state : LogState) → recovery_in c place ≡ Ok state
     → to_write_in c place kept ≡ unless_foreign (first_update (is_barred (is_own place kept) c state.log) state.log) state
 unfolding to_write_in
-to_write-is c place kept state is = ap (λ (r : Result LogState RecoveryFault). r >>= λ s. unless_foreign (first_update (is_barred (is_own place kept) c s.log) s.log) s) is
+to_write-is c place kept state is = ap (λ (r : Result LogState LogRefusal). r >>= λ s. unless_foreign (first_update (is_barred (is_own place kept) c s.log) s.log) s) is
 
 to_write : (c : Content) (place : LogPlace) (kept : List Block) (found : RecoveredLog) (met : BTreeSet (ℕ × ℕ)) (result : Result ToWrite RecoveryFault) → RecoversWith c (recovery_in c place) (Ok found)
     → HasBarred (is_barred_among (is_own place kept) c found.recovered.blocks.bodies.items) met
@@ -274,14 +274,14 @@ to_write c place kept found met result whole barred gives written = by_result re
         let parts = unless_none (first_update (is_barred own c log) log) found.recovered m.recovered is in
         let blocks = whole.1 in
         let all = each_made c log found.recovered.blocks.bodies.items blocks.once (λ b _. blocks.bodies b) in
-        subst (λ (s : Result LogState RecoveryFault). RecoversToWrite c s (Ok m)) (sym (meant ∙ ap (λ (o : Option ℕ). unless_foreign o state) parts.0))
+        subst (λ (s : Result LogState LogRefusal). RecoversToWrite c s (Ok m)) (sym (meant ∙ ap (λ (o : Option ℕ). unless_foreign o state) parts.0))
         record {
           recovered = subst (λ (x : Recovered). IsRecovered c state x) parts.1 (record { blocks = blocks; next_lap = refl; restart = refl; opens = refl });
           written = places ∙ subst (λ (x : Recovered). places_where has_spelled 0 x.blocks.bodies.items ≡ places_where (λ (r : RecoveredBlock). is_put_out c log r.block) 0 x.blocks.bodies.items) parts.1
               (same_places has_spelled (λ (r : RecoveredBlock). is_put_out c log r.block) 0 found.recovered.blocks.bodies.items (IsMade c log) (λ r made. put_out own c log r parts.0 made) all);
         }
     by_result (Err e) is places =
-        subst (λ (s : Result LogState RecoveryFault). ExplainsOrFails (recovery_cause e) s) (sym meant) (explained (first_update (is_barred own c log) log) found.recovered state e is)
+        subst (λ (s : Result LogState LogRefusal). ExplainsOrFails (recovery_cause e) s) (sym meant) (explained (first_update (is_barred own c log) log) found.recovered state e is)
 
 pub to_write_known : (known : Option Content) (place : LogPlace) (kept : List Block) (found : RecoveredLog) (met : BTreeSet (ℕ × ℕ)) (result : Result ToWrite RecoveryFault) → IfSome known (λ c. RecoversWith c (recovery_in c place) (Ok found))
     → IfSome known (λ c. HasBarred (is_barred_among (is_own place kept) c found.recovered.blocks.bodies.items) met)
@@ -291,18 +291,14 @@ to_write_known known place kept found met result whole barred gives written = bo
 
 -- ---- errors that are no refusals
 
-pub never_refused : {A : Type 0} (known : Option Content) (e : RecoveryFault) (meant : Content → Result A RecoveryFault) → NeverForeign e → IfSome known (λ c. ExplainsOrFails (recovery_cause e) (meant c))
-never_refused known (LogVersion major minor) meant h = absurd h
-never_refused known NoRestart meant h = absurd h
-never_refused known (ForeignLog lsn) meant h = absurd h
+pub never_refused : {A : Type 0} (known : Option Content) (e : RecoveryFault) (meant : Content → Result A LogRefusal) → NeverForeign e → IfSome known (λ c. ExplainsOrFails (recovery_cause e) (meant c))
+never_refused known (Refused refusal) meant h = absurd h
 never_refused known Fault meant h = always known _ (λ c. tt)
 never_refused known Memory meant h = always known _ (λ c. tt)
 
 -- an error of the log for reading is one of the log for writing
-failed_too : {A B : Type 0} (e : RecoveryFault) (r : Result A RecoveryFault) (g : A → Result B RecoveryFault) → ExplainsOrFails (recovery_cause e) r → ExplainsOrFails (recovery_cause e) (r >>= g)
-failed_too (LogVersion major minor) r g h = ap (λ (x : Result _ RecoveryFault). x >>= g) h
-failed_too NoRestart r g h = ap (λ (x : Result _ RecoveryFault). x >>= g) h
-failed_too (ForeignLog lsn) r g h = ap (λ (x : Result _ RecoveryFault). x >>= g) h
+failed_too : {A B : Type 0} (e : RecoveryFault) (r : Result A LogRefusal) (g : A → Result B LogRefusal) → ExplainsOrFails (recovery_cause e) r → ExplainsOrFails (recovery_cause e) (r >>= g)
+failed_too (Refused refusal) r g h = ap (λ (x : Result _ LogRefusal). x >>= g) h
 failed_too Fault r g h = tt
 failed_too Memory r g h = tt
 

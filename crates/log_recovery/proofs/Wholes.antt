@@ -1,27 +1,26 @@
 -- Recovery by a log as steps, one after the other, over a content that may be known.
-use Rattle.std.proofs.Common.{◌≡◌, ℕ, ◌+◌, ◌^◌, ◌≤◌, Bool, true, false, List, Option, Some, None, Result, Ok, Err, Vec, refl, sym, ap, ◌∙◌, subst, arith}
-use Rattle.std.specs.Prelude.{IfSome, IsErrOf, ◌==◌}
+use Rattle.std.proofs.Common.{◌≡◌, ℕ, ◌+◌, ◌^◌, ◌≤◌, false, List, Option, None, Result, Ok, Err, Vec, refl, sym, ap, ◌∙◌, subst, arith}
+use Rattle.std.specs.Prelude.{IfSome}
 use Rattle.std.specs.Global.{Global}
 use Rattle.std.specs.Option.{option_or}
 use Rattle.std.proofs.lemmas.Bool.{le-ltb}
 use Rattle.std.proofs.Math.Nat.{le_trans}
 use Rattle.std.proofs.Math.Pow.{pow_mono}
-use Rattle.host_base.specs.Answers.{◌>>=◌, needs, ExplainsOrFails}
-use Rattle.host_base.specs.Causes.{Counts}
+use Rattle.host_base.specs.Answers.{◌>>=◌, ExplainsOrFails}
 use Rattle.host_base.proofs.Known.{both, one, always}
 use Rattle.disk_model.specs.Content.{Content}
 use Rattle.log_model.specs.declared.entry.Entry.{Entry}
 use Rattle.log_model.specs.Logs.{first_misplaced, first_partial}
-use Rattle.log_page.specs.declared.restart.Restart.{Restart}
 use Rattle.log_page.specs.declared.places.LogPlace.{LogPlace}
 use Rattle.log_page.specs.Places.{sequence_bits}
-use Rattle.log_page.specs.Restarts.{is_emptied}
+use Rattle.log_reading.specs.declared.fault.LogRefusal.{LogRefusal}
 use Rattle.log_reading.specs.declared.fault.RecoveryFault.{RecoveryFault}
-use Rattle.log_reading.specs.declared.fault.RecoveryFault.TheVariants.{LogVersion, NoRestart, ForeignLog, Fault, Memory}
+use Rattle.log_reading.specs.declared.fault.LogRefusal.TheVariants.{LogVersion, NoRestart, ForeignLog}
+use Rattle.log_reading.specs.declared.fault.RecoveryFault.TheVariants.{Refused, Fault, Memory}
 use Rattle.log_reading.specs.declared.front.RestartFront.{RestartFront}
 use Rattle.log_reading.specs.Views.{recovery_cause}
 use Rattle.log_reading.specs.LogPages.{page_in}
-use Rattle.log_reading.specs.Fronts.{chosen_in, is_readable, front_in}
+use Rattle.log_reading.specs.Fronts.{front_in}
 use Rattle.log_recovery.specs.declared.found.RecoveredBlocks.{RecoveredBlocks}
 use Rattle.log_recovery.specs.declared.whole.Recovered.{Recovered}
 use Rattle.log_recovery.specs.declared.whole.RecoveredLog.{RecoveredLog}
@@ -32,56 +31,21 @@ use Rattle.log_recovery.specs.Writing.{RecoversWith}
 -- ---- causes
 
 -- an error of the first step is that of both
-failed_error : {A B : Type 0} (e : RecoveryFault) (f : Result A RecoveryFault) (g : A → Result B RecoveryFault) → ExplainsOrFails (recovery_cause e) f → ExplainsOrFails (recovery_cause e) (f >>= g)
-failed_error (LogVersion major minor) f g h = ap (λ x. x >>= g) h
-failed_error NoRestart f g h = ap (λ x. x >>= g) h
-failed_error (ForeignLog lsn) f g h = ap (λ x. x >>= g) h
+failed_error : {A B : Type 0} (e : RecoveryFault) (f : Result A LogRefusal) (g : A → Result B LogRefusal) → ExplainsOrFails (recovery_cause e) f → ExplainsOrFails (recovery_cause e) (f >>= g)
+failed_error (Refused refusal) f g h = ap (λ x. x >>= g) h
 failed_error Fault f g h = tt
 failed_error Memory f g h = tt
 
 -- ---- steps
 
-first_failed : {A B : Type 0} (known : Option Content) (e : RecoveryFault) (f : Content → Result A RecoveryFault) (g : Content → A → Result B RecoveryFault)
+first_failed : {A B : Type 0} (known : Option Content) (e : RecoveryFault) (f : Content → Result A LogRefusal) (g : Content → A → Result B LogRefusal)
     → IfSome known (λ c. ExplainsOrFails (recovery_cause e) (f c)) → IfSome known (λ c. ExplainsOrFails (recovery_cause e) (f c >>= g c))
 first_failed known e f g h = one known _ _ (λ c p. failed_error e (f c) (g c) p) h
 
 -- the second step goes on with the value of the first
-then_on : {A B : Type 0} (known : Option Content) (x : A) (f : Content → Result A RecoveryFault) (g : Content → A → Result B RecoveryFault) (P : Content → Result B RecoveryFault → Type 0)
+then_on : {A B : Type 0} (known : Option Content) (x : A) (f : Content → Result A LogRefusal) (g : Content → A → Result B LogRefusal) (P : Content → Result B LogRefusal → Type 0)
     → IfSome known (λ c. f c ≡ Ok x) → IfSome known (λ c. P c (g c x)) → IfSome known (λ c. P c (f c >>= g c))
-then_on known x f g P first second = both known _ _ _ (λ c e h. subst (λ (r : Result _ RecoveryFault). P c (r >>= g c)) (sym e) h) first second
-
--- ---- the front
-
-abbrev okay : RestartFront → Result RestartFront RecoveryFault
-okay front = Ok front
-
--- it is no fault of the view
-readable_no_fault : (chosen : Option Restart) (first second : List ℕ) (front : RestartFront) → IsErrOf (is_readable chosen first second >>= λ _. okay front) Fault → ⊥
-readable_no_fault (Some r) first second front h = by_test (r.major == 1) h
-  where
-    by_test : (b : Bool) → IsErrOf (needs b (LogVersion r.major r.minor) >>= λ _. okay front) Fault → ⊥
-    by_test true h = absurd cc
-    by_test false h = absurd cc
-readable_no_fault None first second front h = by_test (is_emptied first second) h
-  where
-    by_test : (b : Bool) → IsErrOf (needs b NoRestart >>= λ _. okay front) Fault → ⊥
-    by_test true h = absurd cc
-    by_test false h = absurd cc
-
-pub front_no_fault : (first second : List ℕ) (result : Result RestartFront RecoveryFault) → result ≡ front_in first second → IsErrOf result Fault → ⊥
-unfolding front_in
-front_no_fault first second result is h = readable_no_fault (chosen_in first second) first second _ (subst (λ (r : Result RestartFront RecoveryFault). IsErrOf r Fault) is h)
-
--- ---- counts
-
--- an answer that isn't a fault of the view, of a call after which the count is as it was
-pub counted_unless : {T : Type 0} (result : Result T RecoveryFault) (before now : ℕ) → (IsErrOf result Fault → ⊥) → now ≡ before → Counts recovery_cause before now result
-counted_unless (Ok x) before now no_fault same = same
-counted_unless (Err (LogVersion major minor)) before now no_fault same = same
-counted_unless (Err NoRestart) before now no_fault same = same
-counted_unless (Err (ForeignLog lsn)) before now no_fault same = same
-counted_unless (Err Fault) before now no_fault same = absurd (no_fault refl)
-counted_unless (Err Memory) before now no_fault same = same
+then_on known x f g P first second = both known _ _ _ (λ c e h. subst (λ (r : Result _ LogRefusal). P c (r >>= g c)) (sym e) h) first second
 
 -- ---- blocks
 
@@ -90,9 +54,9 @@ unfolding foreign_entry
 first_or c log clusters e = ap (λ (o : Option ℕ). option_or o (first_partial c log)) e
 
 whole_failed : (c : Content) (log : List Entry) (clusters : ℕ) (e : RecoveryFault) → first_misplaced log clusters ≡ None → Recovers c log clusters (Err e) → ExplainsOrFails (recovery_cause e) (whole_entries c log)
-whole_failed c log clusters (LogVersion major minor) placed h = absurd h
-whole_failed c log clusters NoRestart placed h = absurd h
-whole_failed c log clusters (ForeignLog lsn) placed h = ap (λ (o : Option ℕ). all_or_refused o log) (sym (first_or c log clusters placed) ∙ h)
+whole_failed c log clusters (Refused (LogVersion major minor)) placed h = absurd h
+whole_failed c log clusters (Refused NoRestart) placed h = absurd h
+whole_failed c log clusters (Refused (ForeignLog lsn)) placed h = ap (λ (o : Option ℕ). all_or_refused o log) (sym (first_or c log clusters placed) ∙ h)
 whole_failed c log clusters Fault placed h = tt
 whole_failed c log clusters Memory placed h = tt
 
@@ -116,38 +80,38 @@ same_entries known given entries clusters result is h = subst (λ (es : List Ent
 abbrev state_of : RestartFront → List Entry → ℕ → LogState
 state_of front log lap = record { log = log; next_lap = lap; restart = front.restart; opens = front.opens }
 
-abbrev with_lap : LogPlace → RestartFront → Content → List Entry → Result LogState RecoveryFault
+abbrev with_lap : LogPlace → RestartFront → Content → List Entry → Result LogState LogRefusal
 with_lap place front c log = lap_in c place front.chosen >>= λ lap. Ok (state_of front log lap)
 
-abbrev with_blocks : LogPlace → RestartFront → Content → List Entry → Result LogState RecoveryFault
+abbrev with_blocks : LogPlace → RestartFront → Content → List Entry → Result LogState LogRefusal
 with_blocks place front c entries = whole_entries c entries >>= with_lap place front c
 
-abbrev with_entries : LogPlace → Content → RestartFront → Result LogState RecoveryFault
+abbrev with_entries : LogPlace → Content → RestartFront → Result LogState LogRefusal
 with_entries place c front = live_entries_in c place front.chosen >>= with_blocks place front c
 
-abbrev fronts : LogPlace → Content → Result RestartFront RecoveryFault
+abbrev fronts : LogPlace → Content → Result RestartFront LogRefusal
 fronts place c = front_in (page_in c place 0) (page_in c place 1)
 
 -- the blocks, and what the front said
-abbrev found_log : RestartFront → List Entry → Result FoundLog RecoveryFault
+abbrev found_log : RestartFront → List Entry → Result FoundLog LogRefusal
 found_log front log = Ok (record { log = log; front = front })
 
-abbrev log_by : LogPlace → Content → RestartFront → Result FoundLog RecoveryFault
+abbrev log_by : LogPlace → Content → RestartFront → Result FoundLog LogRefusal
 log_by place c front = live_entries_in c place front.chosen >>= λ entries. whole_entries c entries >>= found_log front
 
 -- the lap after them
-abbrev state_by : LogPlace → Content → FoundLog → Result LogState RecoveryFault
+abbrev state_by : LogPlace → Content → FoundLog → Result LogState LogRefusal
 state_by place c found = with_lap place found.front c found.log
 
-after_whole : (c : Content) (place : LogPlace) (front : RestartFront) (r : Result (List Entry) RecoveryFault) → ((r >>= found_log front) >>= state_by place c) ≡ (r >>= with_lap place front c)
+after_whole : (c : Content) (place : LogPlace) (front : RestartFront) (r : Result (List Entry) LogRefusal) → ((r >>= found_log front) >>= state_by place c) ≡ (r >>= with_lap place front c)
 after_whole c place front (Ok log) = refl
 after_whole c place front (Err e) = refl
 
-after_list : (c : Content) (place : LogPlace) (front : RestartFront) (r : Result (List Entry) RecoveryFault) → ((r >>= λ entries. whole_entries c entries >>= found_log front) >>= state_by place c) ≡ (r >>= with_blocks place front c)
+after_list : (c : Content) (place : LogPlace) (front : RestartFront) (r : Result (List Entry) LogRefusal) → ((r >>= λ entries. whole_entries c entries >>= found_log front) >>= state_by place c) ≡ (r >>= with_blocks place front c)
 after_list c place front (Ok entries) = after_whole c place front (whole_entries c entries)
 after_list c place front (Err e) = refl
 
-after_pages : (c : Content) (place : LogPlace) (r : Result RestartFront RecoveryFault) → ((r >>= log_by place c) >>= state_by place c) ≡ (r >>= with_entries place c)
+after_pages : (c : Content) (place : LogPlace) (r : Result RestartFront LogRefusal) → ((r >>= log_by place c) >>= state_by place c) ≡ (r >>= with_entries place c)
 after_pages c place (Ok front) = after_list c place front (live_entries_in c place front.chosen)
 after_pages c place (Err e) = refl
 
@@ -158,7 +122,7 @@ in_steps c place = after_pages c place (fronts place c)
 
 by_steps : (known : Option Content) (place : LogPlace) (result : Result Recovered RecoveryFault) → IfSome known (λ c. RecoversLog c (fronts place c >>= with_entries place c) result)
     → IfSome known (λ c. RecoversLog c (recovery_in c place) result)
-by_steps known place result h = one known _ _ (λ c p. subst (λ (meant : Result LogState RecoveryFault). RecoversLog c meant result) (sym (in_steps c place)) p) h
+by_steps known place result h = one known _ _ (λ c p. subst (λ (meant : Result LogState LogRefusal). RecoversLog c meant result) (sym (in_steps c place)) p) h
 
 pub front_failed : (known : Option Content) (place : LogPlace) (e : RecoveryFault) → IfSome known (λ c. ExplainsOrFails (recovery_cause e) (front_in (page_in c place 0) (page_in c place 1)))
     → IfSome known (λ c. RecoversLog c (recovery_in c place) (Err e))
@@ -214,7 +178,7 @@ recovered_state known place front entries blocks lap read found lap_is =
     (then_on known entries (λ c. whole_entries c entries) (with_lap place front) IsState (all_whole known entries place.clusters blocks read.placed found)
     (then_on known lap (λ c. lap_in c place front.chosen) (λ _ n. Ok (state_of front entries n)) IsState lap_is (always known _ (λ c. refl))))))
   where
-    IsState : Content → Result LogState RecoveryFault → Type 0
+    IsState : Content → Result LogState LogRefusal → Type 0
     IsState c r = r ≡ Ok (state_of front entries lap)
 
 pub recovered_whole : (known : Option Content) (place : LogPlace) (front : RestartFront) (entries : Vec Entry Global) (blocks : RecoveredBlocks) (lap : ℕ) → WasRead known place front entries.items
@@ -224,8 +188,8 @@ recovered_whole known place front entries blocks lap read found lap_is =
     both known _ _ _ (λ c p q. (p, q.1)) (recovered_state known place front entries.items blocks lap read found lap_is) found
 
 -- without its entries
-forgets_entries : (c : Content) (meant : Result LogState RecoveryFault) (found : RecoveredLog) → RecoversWith c meant (Ok found) → RecoversLog c meant (Ok found.recovered)
-forgets_entries c meant found h = subst (λ (m : Result LogState RecoveryFault). IsRecoveredBy c m found.recovered) (sym h.0) (record { blocks = h.1; next_lap = refl; restart = refl; opens = refl })
+forgets_entries : (c : Content) (meant : Result LogState LogRefusal) (found : RecoveredLog) → RecoversWith c meant (Ok found) → RecoversLog c meant (Ok found.recovered)
+forgets_entries c meant found h = subst (λ (m : Result LogState LogRefusal). IsRecoveredBy c m found.recovered) (sym h.0) (record { blocks = h.1; next_lap = refl; restart = refl; opens = refl })
 
 pub forgets_known : (known : Option Content) (place : LogPlace) (found : RecoveredLog) → IfSome known (λ c. RecoversWith c (recovery_in c place) (Ok found)) → IfSome known (λ c. RecoversLog c (recovery_in c place) (Ok found.recovered))
 forgets_known known place found h = one known _ _ (λ c p. forgets_entries c (recovery_in c place) found p) h

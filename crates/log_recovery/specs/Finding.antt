@@ -13,7 +13,8 @@ use Rattle.log_recovery.specs.declared.found.RecoveredBlocks.{RecoveredBlocks}
 use Rattle.log_recovery.specs.declared.found.Judged.{Judged}
 use Rattle.log_recovery.specs.declared.found.Judged.TheVariants.{Shadowed, Partial, Kept, Made}
 use Rattle.log_reading.specs.declared.fault.RecoveryFault.{RecoveryFault}
-use Rattle.log_reading.specs.declared.fault.RecoveryFault.TheVariants.{LogVersion, NoRestart, ForeignLog, Fault, Memory}
+use Rattle.log_reading.specs.declared.fault.LogRefusal.TheVariants.{LogVersion, NoRestart, ForeignLog}
+use Rattle.log_reading.specs.declared.fault.RecoveryFault.TheVariants.{Refused, Fault, Memory}
 use Rattle.log_recovery.specs.Recovering.{is_updated, held_body, written_body, body_block, AreRecovered}
 
 -- the bodies, where this was found of the block
@@ -55,17 +56,17 @@ IsSizedFor b Kept = ⊤
 
 -- why a block isn't added: it is recovered in part, and then this is the LSN of its first update
 abbrev pub Refuses : Judged → ℕ → RecoveryFault → Type 0
-Refuses judged lsn (LogVersion major minor) = ⊥
-Refuses judged lsn NoRestart = ⊥
-Refuses judged lsn (ForeignLog l) = (is_part judged ≡ true) × (l ≡ lsn)
+Refuses judged lsn (Refused (LogVersion major minor)) = ⊥
+Refuses judged lsn (Refused NoRestart) = ⊥
+Refuses judged lsn (Refused (ForeignLog l)) = (is_part judged ≡ true) × (l ≡ lsn)
 Refuses judged lsn Fault = ⊥
 Refuses judged lsn Memory = ⊤
 
 -- the first update of a block that is recovered in part has this LSN
 abbrev pub IsFirstPartial : Content → List Entry → RecoveryFault → Type 0
-IsFirstPartial c log (LogVersion major minor) = ⊥
-IsFirstPartial c log NoRestart = ⊥
-IsFirstPartial c log (ForeignLog lsn) = first_partial c log ≡ Some lsn
+IsFirstPartial c log (Refused (LogVersion major minor)) = ⊥
+IsFirstPartial c log (Refused NoRestart) = ⊥
+IsFirstPartial c log (Refused (ForeignLog lsn)) = first_partial c log ≡ Some lsn
 IsFirstPartial c log Fault = ⊤
 IsFirstPartial c log Memory = ⊤
 

@@ -12,7 +12,8 @@ use Rattle.log_recovery.specs.declared.found.RecoveredBlock.{RecoveredBlock}
 use Rattle.log_recovery.specs.declared.found.Shadow.{Shadow}
 use Rattle.log_recovery.specs.declared.found.RecoveredBlocks.{RecoveredBlocks}
 use Rattle.log_reading.specs.declared.fault.RecoveryFault.{RecoveryFault}
-use Rattle.log_reading.specs.declared.fault.RecoveryFault.TheVariants.{LogVersion, NoRestart, ForeignLog, Fault, Memory}
+use Rattle.log_reading.specs.declared.fault.LogRefusal.TheVariants.{LogVersion, NoRestart, ForeignLog}
+use Rattle.log_reading.specs.declared.fault.RecoveryFault.TheVariants.{Refused, Fault, Memory}
 
 -- some entry is an update of the block
 abbrev pub is_updated : List Entry → Block → Bool
@@ -72,8 +73,8 @@ foreign_entry c log clusters = option_or (first_misplaced log clusters) (first_p
 
 abbrev pub Recovers : Content → List Entry → ℕ → Result RecoveredBlocks RecoveryFault → Type 0
 Recovers c log clusters (Ok found) = (foreign_entry c log clusters ≡ None) × AreRecovered c log found
-Recovers c log clusters (Err (LogVersion major minor)) = ⊥
-Recovers c log clusters (Err NoRestart) = ⊥
-Recovers c log clusters (Err (ForeignLog lsn)) = foreign_entry c log clusters ≡ Some lsn
+Recovers c log clusters (Err (Refused (LogVersion major minor))) = ⊥
+Recovers c log clusters (Err (Refused NoRestart)) = ⊥
+Recovers c log clusters (Err (Refused (ForeignLog lsn))) = foreign_entry c log clusters ≡ Some lsn
 Recovers c log clusters (Err Fault) = ⊤
 Recovers c log clusters (Err Memory) = ⊤

@@ -15,8 +15,9 @@ use Rattle.log_model.specs.declared.entry.Act.{Act}
 use Rattle.log_model.specs.declared.entry.Act.TheVariants.{Update, Commit}
 use Rattle.log_model.specs.Logs.{block_of_kind, recovered, is_other, is_written_out}
 use Rattle.log_page.specs.declared.places.LogPlace.{LogPlace}
+use Rattle.log_reading.specs.declared.fault.LogRefusal.{LogRefusal}
 use Rattle.log_reading.specs.declared.fault.RecoveryFault.{RecoveryFault}
-use Rattle.log_reading.specs.declared.fault.RecoveryFault.TheVariants.{ForeignLog}
+use Rattle.log_reading.specs.declared.fault.LogRefusal.TheVariants.{ForeignLog}
 use Rattle.log_reading.specs.Views.{recovery_cause}
 use Rattle.log_recovery.specs.declared.found.RecoveredBlock.{RecoveredBlock}
 use Rattle.log_recovery.specs.declared.whole.Recovered.{Recovered}
@@ -53,12 +54,12 @@ first_update such log = option_map (λ (e : Entry). e.lsn) (find (λ e. updates_
 
 -- ---- the log
 
-abbrev pub unless_foreign : {A : Type 0} → Option ℕ → A → Result A RecoveryFault
+abbrev pub unless_foreign : {A : Type 0} → Option ℕ → A → Result A LogRefusal
 unless_foreign (Some lsn) x = Err (ForeignLog lsn)
 unless_foreign None x = Ok x
 
 -- The log as it is for reading; it is refused with the first update of a block that a mount would write out and may not.
-unfoldable pub to_write_in : Content → LogPlace → List Block → Result LogState RecoveryFault
+unfoldable pub to_write_in : Content → LogPlace → List Block → Result LogState LogRefusal
 to_write_in c place kept = recovery_in c place >>= λ state. unless_foreign (first_update (is_barred (is_own place kept) c state.log) state.log) state
 
 -- ---- what is answered
@@ -73,12 +74,12 @@ pub record IsToWrite (c : Content) (state : LogState) (found : ToWrite) : Type 0
   pub recovered : IsRecovered c state found.recovered
   pub written : found.written.items ≡ places_where (λ (r : RecoveredBlock). is_put_out c state.log r.block) 0 found.recovered.blocks.bodies.items
 
-abbrev pub IsToWriteBy : Content → Result LogState RecoveryFault → ToWrite → Type 0
+abbrev pub IsToWriteBy : Content → Result LogState LogRefusal → ToWrite → Type 0
 IsToWriteBy c (Ok state) found = IsToWrite c state found
 IsToWriteBy c (Err e) found = ⊥
 
 -- what a mount needs, or the refusal that is meant
-abbrev pub RecoversToWrite : Content → Result LogState RecoveryFault → Result ToWrite RecoveryFault → Type 0
+abbrev pub RecoversToWrite : Content → Result LogState LogRefusal → Result ToWrite RecoveryFault → Type 0
 RecoversToWrite c meant (Ok found) = IsToWriteBy c meant found
 RecoversToWrite c meant (Err e) = ExplainsOrFails (recovery_cause e) meant
 
@@ -92,7 +93,7 @@ has_spelled r = has_spelling r.block.kind r.body.bytes
 abbrev pub state_with : List Entry → Recovered → LogState
 state_with entries found = record { log = entries; next_lap = found.next_lap; restart = found.restart; opens = found.opens }
 
-abbrev pub RecoversWith : Content → Result LogState RecoveryFault → Result RecoveredLog RecoveryFault → Type 0
+abbrev pub RecoversWith : Content → Result LogState LogRefusal → Result RecoveredLog RecoveryFault → Type 0
 RecoversWith c meant (Ok found) = (meant ≡ Ok (state_with found.entries.items found.recovered)) × AreRecovered c found.entries.items found.recovered.blocks
 RecoversWith c meant (Err e) = ExplainsOrFails (recovery_cause e) meant
 

@@ -11,7 +11,7 @@ ghost use Rattle.log_recovery.specs.Finding.{IsSizedFor};
 
 use crate::covering::is_covered_whole;
 use crate::ended::Ended;
-use crate::found::Judged;
+use crate::found::{Judged, RecoveredBody};
 use crate::making::remake;
 use crate::walks::is_shadowed;
 use block_view::View;
@@ -54,6 +54,7 @@ fn judge_seen(
         return Ok(Judged::Partial);
     }
     if other || (before.torn() && whole) {
+        let body = RecoveredBody::copy_of(alloc, &body)?;
         return Ok(Judged::Made { body });
     }
     Ok(Judged::Kept)

@@ -25,8 +25,8 @@ mod walks;
 mod whole;
 mod writing;
 
-pub use found::{RecoveredBlock, RecoveredBlocks, Shadow};
-pub use log_reading::RecoveryFault;
+pub use found::{RecoveredBlock, RecoveredBlocks, RecoveredBody, Shadow};
+pub use log_reading::{LogRefusal, RecoveryFault};
 pub use places::{Places, places_of};
 pub use recovering::recover_entries;
 pub use view::RecoveredView;

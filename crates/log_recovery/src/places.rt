@@ -8,8 +8,8 @@ ghost use Rattle.disk_model.specs.Sectors.{same_block};
 ghost use Rattle.log_recovery.specs.Recovering.{held_body};
 ghost use Rattle.log_recovery.specs.Places.{kind_number, key_of, key_order, HasPlaces, body_at};
 
-use crate::found::RecoveredBlock;
-use disk_model::{Block, BlockKind, Body};
+use crate::found::{RecoveredBlock, RecoveredBody};
+use disk_model::{Block, BlockKind};
 use std::alloc::{AllocError, Global};
 use std::collections::{BTreeMap, BTreeSet};
 
@@ -79,7 +79,7 @@ fn place_at(places: &Places, block: Block) -> Option<usize>
     places.get(&key_of(block)).copied()
 }
 
-fn body_at(bodies: &[RecoveredBlock], place: Option<usize>) -> Option<&Body>
+fn body_at(bodies: &[RecoveredBlock], place: Option<usize>) -> Option<&RecoveredBody>
     ensures { option_copied result ≡ body_at bodies.now place }
 {
     match place {
@@ -92,7 +92,11 @@ fn body_at(bodies: &[RecoveredBlock], place: Option<usize>) -> Option<&Body>
 }
 
 /// The body that is held of a block, in time logarithmic in the number of blocks.
-pub fn body_in<'a>(bodies: &'a [RecoveredBlock], places: &Places, block: Block) -> Option<&'a Body>
+pub fn body_in<'a>(
+    bodies: &'a [RecoveredBlock],
+    places: &Places,
+    block: Block,
+) -> Option<&'a RecoveredBody>
     requires { HasPlaces bodies.now places.now }
     ensures { option_copied result ≡ held_body bodies.now block }
 {

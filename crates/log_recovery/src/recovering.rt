@@ -23,7 +23,7 @@ use crate::walks::misplaced;
 use block_view::View;
 use disk_model::{Block, Body};
 use log_model::Entry;
-use log_reading::RecoveryFault;
+use log_reading::{LogRefusal, RecoveryFault};
 use std::alloc::{AllocError, Global};
 use std::collections::BTreeSet;
 
@@ -57,7 +57,7 @@ fn add(
 {
     match judged {
         Judged::Shadowed | Judged::Kept => {}
-        Judged::Partial => return Err(RecoveryFault::ForeignLog { lsn }),
+        Judged::Partial => return Err(RecoveryFault::Refused(LogRefusal::ForeignLog { lsn })),
         Judged::Made { body } => push_body(bodies, RecoveredBlock { block, body })?,
     }
     Ok(())
@@ -131,7 +131,7 @@ fn recover_placed<V: View>(
 /// eight, or any other sector. `clusters` is the number of the volume's clusters, of eight sectors
 /// each. Nothing is written.
 ///
-/// - [`RecoveryFault::ForeignLog`]: the entry with this LSN is the first that reaches past the
+/// - [`LogRefusal::ForeignLog`]: the entry with this LSN is the first that reaches past the
 ///   volume or its block's body; or, where there is none, the first update of a file record or an
 ///   index block that isn't shadowed, isn't covered whole and isn't on the disk as it is recovered.
 /// - [`RecoveryFault::Fault`]: the view failed. The other error is want of memory, or an update of
@@ -139,10 +139,10 @@ fn recover_placed<V: View>(
 ///
 /// It takes time near-linear in the number of entries and in their bytes, and linear in the sizes
 /// of the blocks with an update, whatever the log says: an entry is looked at a few times for each
-/// of at most 72 blocks. Memory is linear in the number of entries and in the bodies that it
-/// answers. Each of these has room for 4,096 bytes, so a log that was made for it, with an update
-/// of one byte for each block, takes about 40 times its own bytes. The view is asked once for each
-/// block with an update that isn't shadowed.
+/// of at most 72 blocks. Memory is linear in the number of entries and in the bytes of the bodies
+/// that it answers. A file record or an index block among these is covered whole by the log's own
+/// bytes; of a sector one byte may be, so a log that was made for it takes some ten times its own
+/// bytes. The view is asked once for each block with an update that isn't shadowed.
 pub fn recover_entries<V: View>(
     alloc: Global,
     view: &mut V,
@@ -155,7 +155,7 @@ pub fn recover_entries<V: View>(
     ensures kept { AsksView V.content V.kept V.faults recovery_cause view.old view.new result }
 {
     match misplaced(entries, clusters) {
-        Some(lsn) => Err(RecoveryFault::ForeignLog { lsn }),
+        Some(lsn) => Err(RecoveryFault::Refused(LogRefusal::ForeignLog { lsn })),
         None => recover_placed(alloc, view, entries),
     }
 }

@@ -9,7 +9,7 @@ ghost use Rattle.log_recovery.specs.Recovering.{held_body, content_with, IsSized
 ghost use Rattle.log_recovery.specs.Places.{HasPlaces};
 ghost use Rattle.log_recovery.specs.Sizes.{sized_with};
 
-use crate::found::RecoveredBlock;
+use crate::found::{RecoveredBlock, RecoveredBody};
 use crate::places::{Places, body_in};
 use block_view::{View, ViewFault};
 use disk_model::{Block, Body};
@@ -49,7 +49,7 @@ fn sized_body_in<'a>(
     bodies: &'a [RecoveredBlock],
     places: &Places,
     block: Block,
-) -> Option<&'a Body>
+) -> Option<&'a RecoveredBody>
     requires sized { All IsSized bodies.now }
     requires places { HasPlaces bodies.now places.now }
     ensures value { option_copied result ≡ held_body bodies.now block }

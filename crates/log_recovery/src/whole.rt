@@ -27,7 +27,7 @@ use disk_model::Body;
 use log_model::Entry;
 use log_page::{LogPlace, Restart, lap_of, sequence_bits};
 use log_reading::{
-    LiveLog, RecoveryFault, RestartFront, front_of, greatest_lsn, live_log, read_page,
+    LiveLog, LogRefusal, RecoveryFault, RestartFront, front_of, greatest_lsn, live_log, read_page,
 };
 use sector_device::Device;
 use std::alloc::Global;
@@ -70,7 +70,7 @@ fn read_front<V: View>(
     let mut second = Vec::new(alloc);
     read_page(view, place, 0, &mut body, &mut first)?;
     read_page(view, place, 1, &mut body, &mut second)?;
-    front_of(&first, &second)
+    Ok(front_of(&first, &second)?)
 }
 
 // Refuses the first entry that is misplaced on a volume of so many clusters, and else the one of
@@ -81,7 +81,7 @@ fn own_entries(live: LiveLog, clusters: u64) -> Result<Vec<Entry>, RecoveryFault
     ensures placed { IfOk result (λ entries. first_misplaced entries.items clusters ≡ None) }
 {
     match misplaced(&live.entries, clusters).or(live.foreign) {
-        Some(lsn) => Err(RecoveryFault::ForeignLog { lsn }),
+        Some(lsn) => Err(RecoveryFault::Refused(LogRefusal::ForeignLog { lsn })),
         None => Ok(live.entries),
     }
 }
@@ -105,7 +105,7 @@ fn entries_by<V: View>(
     }
     if !restart.own {
         let lsn = restart.current;
-        return Err(RecoveryFault::ForeignLog { lsn });
+        return Err(RecoveryFault::Refused(LogRefusal::ForeignLog { lsn }));
     }
     let live = live_log(alloc, view, place, restart.oldest)?;
     own_entries(live, place.clusters)
@@ -174,7 +174,7 @@ fn lap_by(pages: u64, greatest: Option<u64>) -> Result<u64, RecoveryFault>
         Ok(1 + last)
     } else {
         let lsn = greatest.unwrap_or(0);
-        Err(RecoveryFault::ForeignLog { lsn })
+        Err(RecoveryFault::Refused(LogRefusal::ForeignLog { lsn }))
     }
 }
 
@@ -222,10 +222,10 @@ pub fn recover_log<V: View>(
 /// What recovery finds by the log that lies at this place of the volume that a view shows. A clean
 /// or an emptied log has no entries. Nothing is written.
 ///
-/// - [`RecoveryFault::LogVersion`]: the chosen restart page is of another major version than 1.
-/// - [`RecoveryFault::NoRestart`]: neither of the first two pages is a whole restart page, and none
+/// - [`LogRefusal::LogVersion`]: the chosen restart page is of another major version than 1.
+/// - [`LogRefusal::NoRestart`]: neither of the first two pages is a whole restart page, and none
 ///   is all FF.
-/// - [`RecoveryFault::ForeignLog`]: the log isn't clean, and its first client is another host's:
+/// - [`LogRefusal::ForeignLog`]: the log isn't clean, and its first client is another host's:
 ///   with the restart page's current LSN. Or an entry isn't one of this host, or reaches past the
 ///   volume or its block's body: with the LSN of the first one's place. Or a block is recovered in
 ///   part, as [`recover_entries`](crate::recover_entries) says: with the LSN of its first update.
@@ -233,8 +233,8 @@ pub fn recover_log<V: View>(
 /// - [`RecoveryFault::Fault`]: the view failed. The other error is want of memory.
 ///
 /// Time is linear in the log's pages on the device and in its runs for each, and near-linear in the
-/// bytes of its entries, whoever wrote them. Memory is linear in the entries and in the bodies, each
-/// of which has room for 4,096 bytes.
+/// bytes of its entries, whoever wrote them. Memory is linear in the entries and in the bytes of the
+/// bodies.
 pub fn recover_view<V: View>(
     alloc: Global,
     view: &mut V,

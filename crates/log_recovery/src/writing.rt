@@ -17,7 +17,7 @@ use block_view::View;
 use disk_model::Block;
 use fixup_record::has_spelling;
 use log_page::LogPlace;
-use log_reading::RecoveryFault;
+use log_reading::{LogRefusal, RecoveryFault};
 use std::alloc::{AllocError, Global};
 
 /// What a mount that writes finds by the log of a volume.
@@ -54,7 +54,7 @@ fn unless_met(alloc: Global, found: RecoveredLog, met: &Met) -> Result<ToWrite, 
     ensures written { IfOk result (λ mount. mount.written.items ≡ places_where has_spelled 0 mount.recovered.blocks.bodies.items) }
 {
     if let Some(lsn) = first_update(met, &found.entries) {
-        return Err(RecoveryFault::ForeignLog { lsn });
+        return Err(RecoveryFault::Refused(LogRefusal::ForeignLog { lsn }));
     }
     let written = spelled_places(alloc, &found.recovered.blocks.bodies)?;
     Ok(ToWrite {
@@ -64,15 +64,15 @@ fn unless_met(alloc: Global, found: RecoveredLog, met: &Met) -> Result<ToWrite, 
 }
 
 /// What recovery finds by the log that lies at this place of the volume that a view shows, for a
-/// mount that writes; and which blocks that mount writes out. `kept` are the blocks by which the log
-/// is found: of a volume the boot sector's and that of record 2. Nothing is written.
+/// mount that writes; and which blocks that mount writes out. `kept` are the blocks by which the
+/// log is found: of a volume the boot sector's and that of record 2. Nothing is written.
 ///
 /// It writes out what recovery makes, but for a torn block that has the recovered bytes already and
 /// whose update sequence array isn't zeros, isn't in shape or lies over the words at 4 and 6: no
 /// bytes of a disk stand for these untorn, and the block stays torn.
 ///
 /// The errors are those of [`recover_view`](crate::recover_view), and behind them one cause more of
-/// [`RecoveryFault::ForeignLog`], which no log of this host has: a block that would be written out
+/// [`LogRefusal::ForeignLog`], which no log of this host has: a block that would be written out
 /// has a sector of the log or of the `kept` blocks, so that writing it would change the restart
 /// pages, the ring or where the log is found; or no bytes of a disk stand for its recovered body.
 /// Then the LSN is that of the first entry in the list that updates such a block.

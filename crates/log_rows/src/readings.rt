@@ -10,7 +10,9 @@ use fixup_record::{has_shape, protect};
 use host_base::Bytes;
 use log_model::{Act, Entry};
 use log_page::{Extent, Restart};
-use log_reading::{LogPlace, RecoveryFault, RestartFront, front_of, live_log, read_page};
+use log_reading::{
+    LogPlace, LogRefusal, RecoveryFault, RestartFront, front_of, live_log, read_page,
+};
 use log_record::write;
 use std::alloc::{AllocError, Global};
 use std::test::Fail;
@@ -67,7 +69,7 @@ fn the_newer_restart_page_says_the_place(rt: HostRuntime) {
 }
 
 // What an emptied log says, whose next restart page is this one.
-fn none(restart: u32) -> Result<RestartFront, RecoveryFault> {
+fn none(restart: u32) -> Result<RestartFront, LogRefusal> {
     Ok(RestartFront {
         chosen: None,
         restart,
@@ -85,8 +87,8 @@ fn an_emptied_log_has_no_restart_page(rt: HostRuntime) {
         (&blank, &torn, none(1)),
         (&torn, &blank, none(0)),
         (&blank, &blank, none(0)),
-        (&zeros, &zeros, Err(RecoveryFault::NoRestart)),
-        (&torn, &zeros, Err(RecoveryFault::NoRestart)),
+        (&zeros, &zeros, Err(LogRefusal::NoRestart)),
+        (&torn, &zeros, Err(LogRefusal::NoRestart)),
     ] {
         let bytes = (first[0], second[0]);
         assert_eq!(rt; front_of(first, second), wanted, "{bytes:?}");
@@ -102,7 +104,7 @@ fn a_log_of_version_2_is_refused(rt: HostRuntime) {
     let (major, minor) = (2, 0);
     assert_eq!(rt;
         front_of(&first, &second),
-        Err(RecoveryFault::LogVersion { major, minor })
+        Err(LogRefusal::LogVersion { major, minor })
     );
 }
 

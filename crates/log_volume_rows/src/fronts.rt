@@ -6,7 +6,7 @@ use crate::steps::page_of;
 use crate::volume::*;
 use log_images::{FIRST, own, restart_page};
 use log_page::{Restart, page_lsn};
-use log_recovery::RecoveryFault;
+use log_recovery::{LogRefusal, RecoveryFault};
 use sector_device::MemoryDevice;
 use std::process::Abort;
 use std::test::Fail;
@@ -24,13 +24,21 @@ fn the_first_two_pages_decide(rt: HostRuntime) -> Result<(), Fail> {
     if let Some(cell) = torn.get_mut(510) {
         *cell = 9;
     }
-    let version = RecoveryFault::LogVersion { major: 2, minor: 0 };
+    let version = RecoveryFault::Refused(LogRefusal::LogVersion { major: 2, minor: 0 });
     for (first, second, want) in [
         (&later, &zeros, Err(version)),
         (&zeros, &later, Err(version)),
         (&later, &blank, Err(version)),
-        (&zeros, &zeros, Err(RecoveryFault::NoRestart)),
-        (&torn, &torn, Err(RecoveryFault::NoRestart)),
+        (
+            &zeros,
+            &zeros,
+            Err(RecoveryFault::Refused(LogRefusal::NoRestart)),
+        ),
+        (
+            &torn,
+            &torn,
+            Err(RecoveryFault::Refused(LogRefusal::NoRestart)),
+        ),
         (&torn, &blank, Ok(0)),
         (&blank, &torn, Ok(1)),
         (&blank, &blank, Ok(0)),
@@ -94,7 +102,7 @@ fn page_says<R: Abort + AllocGlobal>(
     let lsn = page_lsn(513, lap, 9).unwrap_or(0);
     let mut want = Ok(lap.max(own_lap).saturating_add(1));
     if lap == LAST {
-        want = Err(RecoveryFault::ForeignLog { lsn });
+        want = Err(RecoveryFault::Refused(LogRefusal::ForeignLog { lsn }));
     }
     let mut bytes = page_of(rt, lsn, &[(1, Fill(FREE, 0x22, 0x11))])?;
     for byte in [1, 9] {

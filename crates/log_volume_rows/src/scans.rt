@@ -7,7 +7,7 @@ use crate::volume::*;
 use image_open::{MountFault, Refusal};
 use image_read::scan_image;
 use log_images::{FIRST, changed_body, own};
-use log_recovery::RecoveryFault;
+use log_recovery::{LogRefusal, RecoveryFault};
 use sector_device::{Device, MemoryDevice};
 use std::alloc::{AllocError, Global};
 use std::process::Abort;
@@ -88,7 +88,7 @@ fn an_entry_past_the_volume_is_foreign(rt: HostRuntime) -> Result<(), Fail> {
     for (first, wanted, refused) in [
         (
             VOLUME,
-            Err(RecoveryFault::ForeignLog { lsn }),
+            Err(RecoveryFault::Refused(LogRefusal::ForeignLog { lsn })),
             Some(refusal),
         ),
         (VOLUME - 1, Ok(Some(0x11)), None),
@@ -131,7 +131,11 @@ fn are_found_in_part<R: Abort + AllocGlobal>(
     let foreign = count_by(rt, device, &[other, (1, Commit)])?;
     let none = count_by(rt, device, &[same, (1, Commit)])?;
     let one = count_by(rt, device, &[other, rest, (1, Commit)])?;
-    Ok(foreign == Err(RecoveryFault::ForeignLog { lsn: FIRST }) && none == Ok(0) && one == Ok(1))
+    Ok(
+        foreign == Err(RecoveryFault::Refused(LogRefusal::ForeignLog { lsn: FIRST }))
+            && none == Ok(0)
+            && one == Ok(1),
+    )
 }
 
 #[test]

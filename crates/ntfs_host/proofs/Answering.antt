@@ -8,7 +8,7 @@ use Rattle.image_open.specs.declared.refusal.Refusal.{Refusal}
 use Rattle.image_open.specs.declared.refusal.MountFault.{MountFault}
 use Rattle.image_open.specs.declared.refusal.MountFault.TheVariants as errors
 use Rattle.image_open.specs.Errors.{scan_cause, refused_as}
-use Rattle.volume_format.specs.declared.fault.FormatFault.{FormatFault}
+use Rattle.volume_format.specs.declared.fault.FormatRefusal.{FormatRefusal}
 use Rattle.volume_format.specs.declared.fault.Formatted.{Formatted}
 use Rattle.volume_format.specs.Answers.{format_answer}
 use Rattle.ntfs_host.specs.Answers.{format_refusal, format_line}
@@ -32,7 +32,7 @@ pub text_is : {A : Type 0} (known : Option (List (List ℕ))) (x : A) (text : St
 text_is known x text f print value is = one known _ _ (λ disk e. rw e (ap (λ t. Ok t) (sym is))) value
 
 -- a format whose line is that of a refusal is refused
-refused_line : (answer : Result Formatted FormatFault) → IsErr (refused_as format_refusal answer >>= λ f. Ok (formatted_line f)) → IsErr answer
+refused_line : (answer : Result Formatted FormatRefusal) → IsErr (refused_as format_refusal answer >>= λ f. Ok (formatted_line f)) → IsErr answer
 refused_line (Ok f) e = absurd cc
 refused_line (Err fault) e = refl
 

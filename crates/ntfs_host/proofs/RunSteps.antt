@@ -11,33 +11,16 @@ use Rattle.file_tree.specs.declared.link.Link.{Link}
 use Rattle.file_tree.specs.declared.tree.Tree.{Tree}
 use Rattle.file_tree.specs.declared.journal.Journal.{Journal}
 use Rattle.tree_model.specs.declared.script.Op.{Op}
-use Rattle.tree_model.specs.declared.script.Op.TheVariants as op
 use Rattle.tree_model.specs.declared.script.What.{What}
 use Rattle.tree_model.specs.declared.script.What.TheVariants.{Op as Operation, Find}
 use Rattle.tree_model.specs.declared.script.Command.{Command}
-use Rattle.tree_model.specs.declared.reply.Reply.{Reply}
-use Rattle.tree_model.specs.declared.reply.Reply.TheVariants.{Stat, Names, BadName, NotFound, NotDirectory, Fault, Memory}
-use Rattle.tree_model.specs.Steps.{Replies, IsStep, LeavesBy, refusal}
+use Rattle.tree_model.specs.declared.reply.Reply.TheVariants.{Fault}
+use Rattle.tree_model.specs.Steps.{is_look}
 use Rattle.run_model.specs.declared.turn.Turn.{Turn}
-use Rattle.run_model.specs.Runs.{RunStart, IsTurn, own, turn_commands, is_turn_command, takes_turn, moment_of_last, last_faults, next_of}
+use Rattle.run_model.specs.Runs.{RunStart, IsTreeTurn, own, turn_commands, is_turn_command, takes_turn, moment_of_last, last_faults, next_of}
 use Rattle.run_model.proofs.Segments.{segment_push}
+use Rattle.run_model.proofs.Looked.{look_takes_step}
 use Rattle.ntfs_host.specs.SerialRuns.{tree_with, IsTurnOf, Follows, IsRunSoFar}
-
--- an operation that only looks leaves the tree, done or refused
-stays : (row : Option Reply) (o : Op) (stamp : ℕ) (t : Tree) → LeavesBy row o stamp t t
-stays (Some reply) o stamp t = refl
-stays None (op.Stat path) stamp t = refl
-stays None (op.List path) stamp t = refl
-
--- a reply that isn't given up is a step
-steps : (upper : List ℕ) (o : Op) (stamp : ℕ) (reply : Reply) (t : Tree) → (reply ≢ Memory → Replies upper t.nodes t.links o reply) → reply ≢ Fault → IsStep upper o stamp reply t t
-steps upper o stamp (Stat number seq kind names size clusters created modified changed read_at) t answered no_fault = (answered (λ e. cc), stays (refusal upper t.nodes t.links o) o stamp t)
-steps upper o stamp (Names names) t answered no_fault = (answered (λ e. cc), stays (refusal upper t.nodes t.links o) o stamp t)
-steps upper o stamp BadName t answered no_fault = (answered (λ e. cc), stays (refusal upper t.nodes t.links o) o stamp t)
-steps upper o stamp (NotFound part) t answered no_fault = (answered (λ e. cc), stays (refusal upper t.nodes t.links o) o stamp t)
-steps upper o stamp (NotDirectory part) t answered no_fault = (answered (λ e. cc), stays (refusal upper t.nodes t.links o) o stamp t)
-steps upper o stamp Fault t answered no_fault = absurd (no_fault refl)
-steps upper o stamp Memory t answered no_fault = refl
 
 -- ---- places in a script
 
@@ -91,8 +74,8 @@ takes_none client c name is = ap (λ (w : What). (c.client == client) && takes_t
 parts : (c : Command) (o : Op) (client number : ℕ) (asked : Op) → c.what ≡ Operation o → client ≡ c.client → number ≡ c.number → asked ≡ o → c ≡ record { client = client; number = number; what = Operation asked }
 parts c o client number asked what is_client is_number is_asked = rw (is_client, is_number, is_asked) (ap (λ (w : What). record { client = c.client; number = c.number; what = w }) what)
 
-abbrev pub fixed_of : List ℕ → List Command → ℕ → ℕ → RunStart
-fixed_of upper script time faults = record { upper = upper; script = script; base = time; faults = faults }
+abbrev pub fixed_of : List ℕ → List Command → ℕ → ℕ → ℕ → RunStart
+fixed_of upper script time faults next = record { upper = upper; script = script; base = time; faults = faults; next = next }
 
 -- the turn's command is its client's next
 next_command : (script : List Command) (i : ℕ) (d : Command) (turns : List Turn) (t : Turn) (o : Op) → i < length script
@@ -110,7 +93,7 @@ next_command script i d turns t o lt what client number asked each =
 next_turn : (upper : List ℕ) (nodes : List Node) (links : List Link) (next : ℕ) (script : List Command) (time moment faults i : ℕ) (d : Command) (turns : List Turn) (t : Turn) (o : Op) (journal : Option Journal) (spare : List FileRef) (count room : ℕ)
     → next_of journal ≡ next → i < length script → (get_or script i d).what ≡ Operation o
     → IsRunSoFar upper nodes links next script time moment faults i turns → IsTurnOf upper nodes links next moment faults (length turns + 1) (get_or script i d) o t
-    → IsTurn (fixed_of upper script time faults) turns t (tree_with nodes links journal spare count room) (tree_with nodes links journal spare count room)
+    → IsTreeTurn (fixed_of upper script time faults next) turns t (tree_with nodes links journal spare count room) (tree_with nodes links journal spare count room)
 next_turn upper nodes links next script time moment faults i d turns t o journal spare count room is lt what so_far it = record {
   serial = it.place;
   command = next_command script i d turns t o lt what it.client it.number it.asked (so_far.each t.client);
@@ -119,7 +102,7 @@ next_turn upper nodes links next script time moment faults i d turns t o journal
   since = omega (arith, so_far.fault t.client, it.before);
   later = omega (arith, it.before, it.after);
   fault = λ e. absurd (it.no_fault e);
-  step = steps upper t.op (time + t.serial) t.reply (tree_with nodes links journal spare count room) (λ other. rw it.asked (it.answered other)) it.no_fault;
+  step = look_takes_step upper time turns t t.op t.reply (tree_with nodes links journal spare count room) (ap is_look it.asked ∙ it.looks) (λ other. rw it.asked (it.answered other)) it.no_fault;
 }
 
 -- one turn more for its client
@@ -153,7 +136,7 @@ follows_by upper nodes links next script time moment faults i d turns new (Opera
     let t = follows.0 in
     let it = follows.1 in
     rw follows.2 (record {
-      run = λ journal is spare count room. segment_push (IsTurn (fixed_of upper script time faults)) [] turns t _ _ _ (so_far.run journal is spare count room) (next_turn upper nodes links next script time moment faults i d turns t o journal spare count room is lt what so_far it);
+      run = λ journal is spare count room. segment_push (IsTreeTurn (fixed_of upper script time faults next)) [] turns t _ _ _ (so_far.run journal is spare count room) (next_turn upper nodes links next script time moment faults i d turns t o journal spare count room is lt what so_far it);
       each = λ client. each_push script i d turns t o client lt what it.client (so_far.each client);
       moments = rw (last_moment_push 0 turns t) (omega (arith, it.time));
       fault = λ client. fault_push faults client turns t (so_far.fault client) it.after;

@@ -4,6 +4,8 @@ use Rattle.std.specs.Option.{option_map}
 use Rattle.host_base.specs.Answers.{◌>>=◌}
 use Rattle.volume_format.specs.declared.fault.FormatFault.{FormatFault}
 use Rattle.volume_format.specs.declared.fault.FormatFault.TheVariants as formats
+use Rattle.volume_format.specs.declared.fault.FormatRefusal.{FormatRefusal}
+use Rattle.volume_format.specs.declared.fault.FormatRefusal.TheVariants as sizes
 use Rattle.volume_format.specs.Answers.{format_answer}
 use Rattle.sector_device.specs.Moments.{Changes, Begins}
 use Rattle.volume_format.specs.Layouts.{layout_of, device_writes}
@@ -11,7 +13,7 @@ use Rattle.volume_format.specs.Images.{regions, formatted}
 use Rattle.volume_format.specs.Stopping.{PutsFront, KeepsOthers}
 use Rattle.volume_format.specs.Crashing.{IsSettledNow, KeepsLeft}
 use Rattle.image_open.specs.declared.refusal.Refusal.{Refusal}
-use Rattle.image_open.specs.declared.refusal.Refusal.TheVariants.{VolumeLarge, Short, Unbuilt}
+use Rattle.image_open.specs.declared.refusal.Refusal.TheVariants.{VolumeLarge, Short}
 use Rattle.image_open.specs.declared.refusal.MountFault.{MountFault}
 use Rattle.image_open.specs.declared.refusal.MountFault.TheVariants as errors
 use Rattle.image_open.specs.Errors.{refused_as}
@@ -41,16 +43,13 @@ check_answer disk = check_of disk >>= λ tree. Ok (check_text tree)
 abbrev pub journal_answer : List (List ℕ) → Result (List ℕ) Refusal
 journal_answer disk = journal_of disk >>= λ j. Ok (journal_text j.entries j.first j.next)
 
--- a refusal of a format is that of an image; the other faults are none
-abbrev pub format_refusal : FormatFault → Refusal
-format_refusal (formats.VolumeLarge clusters) = VolumeLarge clusters
-format_refusal (formats.Short sectors device) = Short sectors device
-format_refusal formats.Fault = Unbuilt 0
-format_refusal formats.Memory = Unbuilt 0
+-- a refusal of a format is that of an image
+abbrev pub format_refusal : FormatRefusal → Refusal
+format_refusal (sizes.VolumeLarge clusters) = VolumeLarge clusters
+format_refusal (sizes.Short sectors device) = Short sectors device
 
 abbrev pub error_of_format : FormatFault → MountFault
-error_of_format (formats.VolumeLarge clusters) = errors.Refused (VolumeLarge clusters)
-error_of_format (formats.Short sectors device) = errors.Refused (Short sectors device)
+error_of_format (formats.Refused refusal) = errors.Refused (format_refusal refusal)
 error_of_format formats.Fault = errors.Device
 error_of_format formats.Memory = errors.Memory
 

@@ -1,5 +1,5 @@
 -- A run without threads, on a tree that it doesn't change.
-use Rattle.std.specs.Prelude.{◌≡◌, ◌≢◌, ℕ, ◌+◌, ◌≤◌, List, [], ◌∷◌, ◌++◌, length, take, Option, All}
+use Rattle.std.specs.Prelude.{◌≡◌, ◌≢◌, ℕ, ◌+◌, ◌≤◌, true, List, [], ◌∷◌, ◌++◌, length, take, Option, All}
 use Rattle.host_base.specs.declared.file_ref.FileRef.{FileRef}
 use Rattle.file_tree.specs.declared.node.Node.{Node}
 use Rattle.file_tree.specs.declared.link.Link.{Link}
@@ -10,7 +10,7 @@ use Rattle.tree_model.specs.declared.script.What.{What}
 use Rattle.tree_model.specs.declared.script.What.TheVariants.{Op as Operation, Find}
 use Rattle.tree_model.specs.declared.script.Command.{Command}
 use Rattle.tree_model.specs.declared.reply.Reply.TheVariants.{Fault, Memory}
-use Rattle.tree_model.specs.Steps.{Replies}
+use Rattle.tree_model.specs.Steps.{is_look, Replies}
 use Rattle.run_model.specs.declared.turn.Turn.{Turn}
 use Rattle.run_model.specs.Runs.{SerialRun, IsWhole, IsCounted, own, turn_commands, moment_of_last, last_faults, next_of}
 
@@ -22,7 +22,7 @@ tree_with nodes links journal spare count room = record { nodes = nodes; links =
 -- command has its turn; the journal's next record goes to the USN `next`, or there is none and this is 0. No turn has counted more faults than the
 -- device, and none is answered by a fault.
 pub record IsRunOf (upper : List ℕ) (nodes : List Node) (links : List Link) (next : ℕ) (script : List Command) (time faults : ℕ) (turns : List Turn) : Type 0 where
-  pub run : (journal : Option Journal) → next_of journal ≡ next → (spare : List FileRef) (count room : ℕ) → SerialRun (record { upper = upper; script = script; base = time; faults = faults }) turns (tree_with nodes links journal spare count room) (tree_with nodes links journal spare count room)
+  pub run : (journal : Option Journal) → next_of journal ≡ next → (spare : List FileRef) (count room : ℕ) → SerialRun (record { upper = upper; script = script; base = time; faults = faults; next = next }) turns (tree_with nodes links journal spare count room) (tree_with nodes links journal spare count room)
   pub all : IsWhole script turns
   pub counted : IsCounted faults turns
   pub no_fault : All (λ (t : Turn). t.reply ≢ Fault) turns
@@ -37,6 +37,7 @@ pub record IsTurnOf (upper : List ℕ) (nodes : List Node) (links : List Link) (
   pub before : t.faults_before ≡ faults
   pub after : t.faults_after ≡ faults
   pub asked : t.op ≡ op
+  pub looks : is_look op ≡ true
   pub answered : t.reply ≢ Memory → Replies upper nodes links op t.reply
   pub no_fault : t.reply ≢ Fault
 
@@ -47,7 +48,7 @@ Follows upper nodes links next moment faults c (Find name) old new = new ≡ old
 
 -- the turns of the first commands of a script
 pub record IsRunSoFar (upper : List ℕ) (nodes : List Node) (links : List Link) (next : ℕ) (script : List Command) (time moment faults i : ℕ) (turns : List Turn) : Type 0 where
-  pub run : (journal : Option Journal) → next_of journal ≡ next → (spare : List FileRef) (count room : ℕ) → SerialRun (record { upper = upper; script = script; base = time; faults = faults }) turns (tree_with nodes links journal spare count room) (tree_with nodes links journal spare count room)
+  pub run : (journal : Option Journal) → next_of journal ≡ next → (spare : List FileRef) (count room : ℕ) → SerialRun (record { upper = upper; script = script; base = time; faults = faults; next = next }) turns (tree_with nodes links journal spare count room) (tree_with nodes links journal spare count room)
   pub each : (client : ℕ) → length (own turns client) ≡ length (turn_commands (take i script) client)
   pub moments : moment_of_last 0 turns ≤ moment
   pub fault : (client : ℕ) → last_faults faults (own turns client) ≤ faults

@@ -23,7 +23,7 @@ use image_open::{MountFault, Refusal};
 use image_read::{ReadJournal, check_image, read_journal, scan_image};
 use sector_device::Device;
 use std::alloc::Global;
-use volume_format::{FormatFault, Formatted, format};
+use volume_format::{FormatFault, FormatRefusal, Formatted, format};
 
 fn text_of_links(alloc: Global, links: &[Link]) -> Result<String, Memory>
     ensures text { IfOk result (λ text. string_bytes text ≡ scan_text links.now) }
@@ -114,16 +114,20 @@ fn journal_answer<D: Device>(alloc: Global, device: &mut D) -> Result<String, Mo
     Ok(text_of_journal(alloc, &journal)?)
 }
 
+fn format_refusal(refusal: FormatRefusal) -> Refusal
+    ensures value { result ≡ format_refusal refusal }
+{
+    match refusal {
+        FormatRefusal::VolumeLarge { clusters } => Refusal::VolumeLarge { clusters },
+        FormatRefusal::Short { sectors, device } => Refusal::Short { sectors, device },
+    }
+}
+
 fn error_of_format(fault: FormatFault) -> MountFault
     ensures value { result ≡ error_of_format fault }
 {
     match fault {
-        FormatFault::VolumeLarge { clusters } => {
-            MountFault::Refused(Refusal::VolumeLarge { clusters })
-        }
-        FormatFault::Short { sectors, device } => {
-            MountFault::Refused(Refusal::Short { sectors, device })
-        }
+        FormatFault::Refused(refusal) => MountFault::Refused(format_refusal(refusal)),
         FormatFault::Fault => MountFault::Device,
         FormatFault::Memory => MountFault::Memory,
     }

@@ -1,5 +1,6 @@
 //! A run of a script without threads, on a tree that no command changes.
-ghost use Rattle.std.specs.Prelude.{IfOk, OnOk};
+ghost use Rattle.std.specs.Prelude.{◌≡◌, true, IfOk, OnOk};
+ghost use Rattle.tree_model.specs.Steps.{is_look, OnlyLooks, AllLook};
 ghost use Rattle.ntfs_host.specs.SerialRuns.{IsRunOf, IsTurnOf, Follows};
 
 use host_base::{Gate, Memory};
@@ -21,6 +22,7 @@ fn turn_of<L: Lookup, D: Device>(
     command: &Command,
     op: &Op,
 ) -> Result<Turn, Memory>
+    requires looks { is_look op.now ≡ true }
     ensures { IfOk result (λ turn. IsTurnOf (L.upper tree.now) (L.nodes tree.now) (L.links tree.now) next (D.moment_of device.now) (D.fault_count device.now) serial command.now op.now turn) }
 {
     let op = op.clone()?;
@@ -48,6 +50,7 @@ fn take_turn<L: Lookup, D: Device>(
     command: &Command,
     turns: &mut Vec<Turn>,
 ) -> Result<(), Memory>
+    requires looks { OnlyLooks command.now.what }
     ensures { OnOk result (Follows (L.upper tree.now) (L.nodes tree.now) (L.links tree.now) next (D.moment_of device.now) (D.fault_count device.now) command.now command.now.what turns.old.items turns.new.items) }
 {
     let What::Op(op) = &command.what else {
@@ -74,6 +77,7 @@ pub fn serial_run<R: Threads + Wait, L: Lookup, D: Device, G: Gate>(
     device: &D,
     gate: &G,
 ) -> Result<Vec<Turn>, Memory>
+    requires looks { AllLook script.now }
     ensures { IfOk result (λ turns. IsRunOf (L.upper tree.now) (L.nodes tree.now) (L.links tree.now) next script.now time (D.fault_count device.now) turns.items) }
 {
     let mut turns: Vec<Turn> = Vec::new(alloc);

@@ -3,6 +3,7 @@ ghost use Rattle.std.specs.Prelude.{◌≡◌, ◌≢◌, ◌⊎◌, ◌<◌, �
 ghost use Rattle.std.specs.Io.KnownBytes.{Appends};
 ghost use Rattle.host_base.specs.Causes.{Rose, HasFailed, AppendsPart, last_moment};
 ghost use Rattle.script_text.specs.Scripts.{script_of};
+ghost use Rattle.tree_model.specs.Steps.{AllLook};
 ghost use Rattle.run_model.specs.Runs.{next_of};
 ghost use Rattle.run_model.specs.Texts.{IsRunText};
 ghost use Rattle.image_read.specs.Mounts.{mounted_of};
@@ -58,6 +59,7 @@ fn run_text<R: Threads + Wait, D: Device, G: Gate>(
     device: &D,
     gate: &G,
 ) -> Result<String, Memory>
+    requires looks { AllLook script.now }
     ensures { IfOk result (λ text. IsPrintedRun volume script.now time (D.fault_count device.now) (string_bytes text)) }
 {
     let Mounted { upper, tree } = volume;
@@ -78,6 +80,7 @@ fn print_run<R: Threads + Wait, K: Sink, D: Device, G: Gate>(
     device: &D,
     gate: &G,
 ) -> u8
+    requires looks { AllLook script.now }
     ensures status { (result ≡ 0) ⊎ (result ≡ 6) ⊎ (result ≡ 7) }
     ensures done { result ≡ 0 → PrintsVolume (K.taken sink.old) (K.taken sink.new) (Ok volume) script.now time (D.fault_count device.now) }
     ensures memory { result ≡ 6 → K.taken sink.new ≡ K.taken sink.old }
@@ -106,6 +109,7 @@ fn run_mounted<R: Threads + Wait, K: Sink, D: Device, G: Gate>(
     device: &mut D,
     gate: &G,
 ) -> u8
+    requires looks { AllLook script.now }
     ensures status { IsQuietStatus result }
     ensures done { result ≡ 0 → IfSome (D.gives device.old) (λ disk. IsOk (mounted_of disk) × PrintsVolume (K.taken sink.old) (K.taken sink.new) (mounted_of disk) script.now time (D.fault_count device.new)) }
     ensures refused { result ≡ 3 → IfSome (D.gives device.old) (λ disk. IsErr (mounted_of disk) × PrintsVolume (K.taken sink.old) (K.taken sink.new) (mounted_of disk) script.now time (D.fault_count device.new)) }

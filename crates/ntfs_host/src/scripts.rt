@@ -3,6 +3,7 @@ ghost use Rattle.std.specs.Prelude.{◌≡◌, ◌≤◌, IfSome, IfOk, IsErrOf}
 ghost use Rattle.host_base.specs.Answers.{GivesOrFails};
 ghost use Rattle.host_base.specs.Causes.{Rose, Counts};
 ghost use Rattle.script_text.specs.Scripts.{script_of};
+ghost use Rattle.tree_model.specs.Steps.{AllLook};
 ghost use Rattle.ntfs_host.specs.Scripts.{script_error_cause, IsAccepted, LosesAtMost, ReadsWhole};
 
 use crate::reading::{SourceError, read_source};
@@ -23,10 +24,11 @@ pub enum ScriptError {
 /// The script that the source has left, which is read to its end, or, where it is too large, a byte
 /// past the most that a script has.
 ///
-/// The errors are want of memory, a failure of the source, and what refuses the script. It takes
-/// time and memory linear in the bytes.
+/// Its commands only look. The errors are want of memory, a failure of the source, and what refuses
+/// the script. It takes time and memory linear in the bytes.
 pub fn read_script<S: Source>(alloc: Global, source: &mut S) -> Result<Script, ScriptError>
     ensures answer { IfSome (S.left source.old) (λ bytes. GivesOrFails (λ script. script) script_error_cause result (script_of bytes)) }
+    ensures looks { IfOk result AllLook }
     ensures accepted { IfOk result (λ _. IsAccepted (S.left source.old) (S.left source.new)) }
     ensures whole { ReadsWhole result (S.left source.old) (S.left source.new) }
     ensures most_read { LosesAtMost 16777217 (S.left source.old) (S.left source.new) }

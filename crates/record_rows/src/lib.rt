@@ -1,5 +1,6 @@
 //! Rows of inputs and answers of file records: how they are read and written, also of a list
-//! of attributes, and attributes that come and go in them. The crate has tests and what they share, and no more.
+//! of attributes, and attributes that come and go in them. The crate has tests and what they share,
+//! and no more.
 #![tactic(auto)]
 
 #[cfg(test)]

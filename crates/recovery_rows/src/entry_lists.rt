@@ -8,7 +8,7 @@ use block_view::{Block, BlockKind, Body, Held, MemoryView, View};
 use host_base::Bytes;
 use log_model::{Act, Entry};
 use log_recovery::{
-    RecoveredBlocks, RecoveredView, RecoveryFault, Shadow, places_of, recover_entries,
+    LogRefusal, RecoveredBlocks, RecoveredView, RecoveryFault, Shadow, places_of, recover_entries,
 };
 use std::alloc::{AllocError, Global};
 use std::test::Fail;
@@ -151,7 +151,7 @@ fn an_ended_update_after_a_loser_counts(rt: HostRuntime) -> Result<(), Fail> {
 // Three entries that are refused, and one whose sectors have numbers of more than 64 bits.
 #[test]
 fn foreign_entries_are_named(rt: HostRuntime) -> Result<(), Fail> {
-    let foreign = |lsn| RecoveryFault::ForeignLog { lsn };
+    let foreign = |lsn| RecoveryFault::Refused(LogRefusal::ForeignLog { lsn });
     for (lsn, change, clusters, fault) in [
         (100, Update(16, 0, 1, 1, 0), 2, foreign(100)),
         (101, Update(16, 0, 513, 1, 0), 3, foreign(101)),

@@ -11,7 +11,7 @@ use host_base::Bytes;
 use log_images::{EntryPage, FIRST, own, restart_page};
 use log_page::{Extent, LogPlace, LogRuns, Restart};
 use log_record::Act;
-use log_recovery::{RecoveryFault, recover_to_write, recover_view};
+use log_recovery::{LogRefusal, RecoveryFault, recover_to_write, recover_view};
 use sector_device::{Device, MemoryDevice};
 use std::alloc::{AllocError, Global};
 use std::process::Abort;
@@ -173,7 +173,7 @@ static BARRED: [Barred; 4] = [
 ];
 
 // The LSN of the first update of such a block behind one of a lawful sector, which takes 139 units.
-const NAMED: RecoveryFault = RecoveryFault::ForeignLog { lsn: FIRST + 139 };
+const NAMED: RecoveryFault = RecoveryFault::Refused(LogRefusal::ForeignLog { lsn: FIRST + 139 });
 
 // The body that a block of this kind is given. That of the file record `OTHER` begins as an update
 // sequence in shape, which fails at its first sector.
@@ -277,7 +277,7 @@ fn a_mount_takes_what_is_shadowed(rt: HostRuntime) -> Result<(), Fail> {
 fn the_lap_is_tried_before(rt: HostRuntime) -> Result<(), Fail> {
     let mut restart = own();
     restart.current = TOO_LATE;
-    let refused = RecoveryFault::ForeignLog { lsn: TOO_LATE };
+    let refused = RecoveryFault::Refused(LogRefusal::ForeignLog { lsn: TOO_LATE });
     for (block, _) in &BARRED {
         let mut device = device_of(&rt, &restart, *block, None)?;
         let reading = read(rt.alloc(), &mut device);

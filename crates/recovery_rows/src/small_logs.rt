@@ -5,7 +5,7 @@ ghost use Rattle.log_reading.specs.LogPages.{IsLogPlace};
 
 use disk_model::{put_bytes, put_u64};
 use log_page::{Extent, LogPlace, LogRuns};
-use log_recovery::{RecoveryFault, recover};
+use log_recovery::{LogRefusal, RecoveryFault, recover};
 use sector_device::MemoryDevice;
 use std::alloc::{AllocError, Global};
 use std::test::Fail;
@@ -95,14 +95,17 @@ fn refuses_a_log_with_no_restart_page(rt: HostRuntime) -> Result<(), Fail> {
     let place = place(rt.alloc())?;
     let mut device = device(rt.alloc(), 0, 0, &[])?;
     let found = recover(rt.alloc(), &mut device, &place);
-    assert_eq!(rt; found.err(), Some(RecoveryFault::NoRestart));
+    assert_eq!(rt;
+        found.err(),
+        Some(RecoveryFault::Refused(LogRefusal::NoRestart))
+    );
     Ok(())
 }
 
 #[test]
 fn refuses_a_log_without_laps(rt: HostRuntime) -> Result<(), Fail> {
     let place = place(rt.alloc())?;
-    let foreign = RecoveryFault::ForeignLog { lsn: TOO_LATE };
+    let foreign = RecoveryFault::Refused(LogRefusal::ForeignLog { lsn: TOO_LATE });
     for (lsn, wanted) in [
         (TOO_LATE - 1, Ok((1 << 52) - (1 << 16) - 1)),
         (TOO_LATE, Err(foreign)),

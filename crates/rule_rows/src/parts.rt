@@ -84,8 +84,8 @@ static HEADER: [u8; 0x38] = [
     0, 0, 0, 4, 0, 0, 0, 0, 0, 0, 0, 0, 0, 0, 9, 0, 0, 0, 0, 0, 0, 0, 0, 0, 0, 0, 0, 0, 0, 0,
 ];
 
-/// The record with this number, sequence, flags and base (0 for none), which uses so many bytes, and
-/// with these attributes, the end mark among them.
+/// The record with this number, sequence, flags and base (0 for none), which uses so many bytes,
+/// and with these attributes, the end mark among them.
 pub fn record_of(
     alloc: Global,
     [number, seq, flags, base]: [u8; 4],

@@ -1,1 +1,3 @@
 pub mod Segments
+pub mod Looked
+pub mod Kept

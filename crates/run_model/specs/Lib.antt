@@ -1,3 +1,5 @@
 pub mod Runs
 pub mod Texts
 pub mod Laws
+pub mod Leaving
+pub mod LeavingLaws

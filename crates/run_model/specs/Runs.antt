@@ -1,27 +1,31 @@
--- Serial runs: turns that lead from one tree to another, one step each.
-use Rattle.std.specs.Prelude.{◌≡◌, ℕ, ◌+◌, ◌≤◌, Bool, true, false, ◌&&◌, ◌==◌, List, [], ◌∷◌, ◌++◌, length, filter, slice_get, Option, Some, None, All}
+-- Serial runs: turns that lead from one state to another, one step each; and the runs of the file tree.
+use Rattle.std.specs.Prelude.{◌≡◌, ℕ, ◌+◌, ◌<◌, ◌≤◌, Bool, true, false, ◌&&◌, ◌==◌, List, [], ◌∷◌, ◌++◌, length, filter, slice_get, Option, Some, None, All}
 use Rattle.host_base.specs.Causes.{HasFailed}
 use Rattle.file_tree.specs.declared.tree.Tree.{Tree}
 use Rattle.file_tree.specs.declared.journal.Journal.{Journal}
 use Rattle.tree_model.specs.declared.script.What.{What}
-use Rattle.tree_model.specs.declared.script.What.TheVariants.{Op, Find}
+use Rattle.tree_model.specs.declared.script.Op.{Op}
+use Rattle.tree_model.specs.declared.script.Op.TheVariants as op
+use Rattle.tree_model.specs.declared.script.What.TheVariants.{Op as Operation, Find}
 use Rattle.tree_model.specs.declared.script.Command.{Command}
-use Rattle.tree_model.specs.declared.reply.Reply.TheVariants.{Fault}
+use Rattle.tree_model.specs.declared.reply.Reply.{Reply}
+use Rattle.tree_model.specs.declared.reply.Reply.TheVariants.{Synced, Fault}
 use Rattle.tree_model.specs.Steps.{IsStep}
 use Rattle.run_model.specs.declared.turn.Turn.{Turn}
 
--- What stays for a whole run: the table of upper-case units, the script, the time before the first turn, and the device's
--- count of faults at the start.
+-- What stays for a whole run: the table of upper-case units, the script, the time before the first turn, the device's count of
+-- faults at the start, and where the journal's next record went then, 0 without a journal.
 pub record RunStart : Type 0 where
   pub upper : List ℕ
   pub script : List Command
   pub base : ℕ
   pub faults : ℕ
+  pub next : ℕ
 
 -- ---- the commands of a client, and its turns
 
 abbrev pub takes_turn : What → Bool
-takes_turn (Op op) = true
+takes_turn (Operation op) = true
 takes_turn (Find name) = false
 
 abbrev pub is_turn_command : ℕ → Command → Bool
@@ -44,6 +48,11 @@ abbrev pub moment_of_last : ℕ → List Turn → ℕ
 moment_of_last start [] = start
 moment_of_last start (t ∷ past) = moment_of_last t.moment past
 
+-- the serial of the last of these turns
+abbrev pub serial_of_last : ℕ → List Turn → ℕ
+serial_of_last start [] = start
+serial_of_last start (t ∷ past) = serial_of_last t.serial past
+
 -- where the journal's next record goes, 0 without a journal
 abbrev pub next_of : Option Journal → ℕ
 next_of None = 0
@@ -51,18 +60,33 @@ next_of (Some j) = j.next
 
 -- ---- one turn
 
--- A turn after those of the past, from one tree to the next: it is its client's next command that takes a turn, and a step
--- at the time of its serial. Moments and counts of faults don't fall, and a fault comes only where the count rose, or from the
--- device's last moment on.
-pub record IsTurn (f : RunStart) (past : List Turn) (t : Turn) (x y : Tree) : Type 0 where
+-- What a turn does to the state, by its operation and reply. A `sync` leaves it, and says for how many turns the changes are on the
+-- disk: at least up to the client's last turn, and not up to this one; it never wants memory. Each other turn is one step.
+abbrev pub TakesStep : {S : Type 0} → (Op → ℕ → Reply → S → S → Type 0) → ℕ → List Turn → Turn → Op → Reply → S → S → Type 0
+TakesStep steps base past t op.Sync (Synced turns) x y = (serial_of_last 0 (own past t.client) ≤ turns) × (turns < t.serial) × (y ≡ x)
+TakesStep steps base past t op.Sync Fault x y = y ≡ x
+TakesStep steps base past t op.Sync other x y = ⊥
+TakesStep steps base past t op reply x y = steps op (base + t.serial) reply x y
+
+-- A turn after those of the past, from one state to the next, by these steps at the time of its serial: it is its client's next
+-- command that takes a turn. Moments and counts of faults don't fall, and a fault comes only where the count rose, or from the device's
+-- last moment on. Of a state, `next_in` says where its journal's next record goes.
+pub record IsTurn {S : Type 0} (next_in : S → ℕ) (steps : Op → ℕ → Reply → S → S → Type 0) (f : RunStart) (past : List Turn) (t : Turn) (x y : S) : Type 0 where
   pub serial : t.serial ≡ length past + 1
-  pub command : slice_get (turn_commands f.script t.client) (length (own past t.client)) ≡ Some (record { client = t.client; number = t.number; what = Op t.op })
-  pub usn : t.usn ≡ next_of y.journal
+  pub command : slice_get (turn_commands f.script t.client) (length (own past t.client)) ≡ Some (record { client = t.client; number = t.number; what = Operation t.op })
+  pub usn : t.usn ≡ next_in y
   pub moment : moment_of_last 0 past ≤ t.moment
   pub since : last_faults f.faults (own past t.client) ≤ t.faults_before
   pub later : t.faults_before ≤ t.faults_after
   pub fault : t.reply ≡ Fault → HasFailed t.faults_before t.faults_after t.moment
-  pub step : IsStep f.upper t.op (f.base + t.serial) t.reply x y
+  pub step : TakesStep steps f.base past t t.op t.reply x y
+
+abbrev pub next_in_tree : Tree → ℕ
+next_in_tree t = next_of t.journal
+
+-- a turn of the file tree
+abbrev pub IsTreeTurn : RunStart → List Turn → Turn → Tree → Tree → Type 0
+IsTreeTurn f past t x y = IsTurn next_in_tree (IsStep f.upper) f past t x y
 
 -- ---- runs
 
@@ -73,7 +97,7 @@ Segment {S} step past (t ∷ turns) x y = (z : S) × step past t x z × Segment 
 
 -- the turns of a serial run from the one tree to the other
 abbrev pub SerialRun : RunStart → List Turn → Tree → Tree → Type 0
-SerialRun f turns x y = Segment (IsTurn f) [] turns x y
+SerialRun f turns x y = Segment (IsTreeTurn f) [] turns x y
 
 -- each command that takes a turn has had it
 abbrev pub IsWhole : List Command → List Turn → Type 0

@@ -1,7 +1,7 @@
 //! What the file records of a volume stand for: the tree, and the rules under which they do.
 //!
-//! These are definitions, cited by the crates above. Records, names and indexes are those of the Linux-NTFS documentation, "FILE Record", "$FILE_NAME" and
-//! "$INDEX_ROOT".
+//! These are definitions, cited by the crates above. Records, names and indexes are those of the
+//! Linux-NTFS documentation, "FILE Record", "$FILE_NAME" and "$INDEX_ROOT".
 #![tactic(auto)]
 
 mod broken;

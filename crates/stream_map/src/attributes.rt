@@ -43,8 +43,8 @@ fn place_of(attributes: &[&Attr], attr: &Attr) -> usize
     attributes.len()
 }
 
-/// Puts an attribute behind those that begin at or before its first VCN. No attribute begins past `most`;
-/// the answer is that number afterwards. One that begins there or behind takes no search.
+/// Puts an attribute behind those that begin at or before its first VCN. No attribute begins past
+/// `most`; the answer is that number afterwards. One that begins there or behind takes no search.
 fn put_in<'a>(attributes: &mut Vec<&'a Attr>, most: u64, attr: &'a Attr) -> Result<u64, AllocError>
     requires { BeginUpTo most (behind attributes.old.items) }
     ensures attributes { OnOk result

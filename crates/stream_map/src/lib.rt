@@ -1,9 +1,9 @@
 //! The streams of a file record: where their blocks lie, and their bytes; and the entries of an
 //! attribute list, one after the other, wherever its bytes stand.
 //!
-//! A stream is the join of its attributes by rising first VCN; a block of it lies in the first run that
-//! holds all its clusters; its bytes are those of its value or of its clusters, and zeros from the
-//! initialised size on, in sparse runs and where no run is.
+//! A stream is the join of its attributes by rising first VCN; a block of it lies in the first run
+//! that holds all its clusters; its bytes are those of its value or of its clusters, and zeros from
+//! the initialised size on, in sparse runs and where no run is.
 //!
 //! The layouts are those of the Linux-NTFS documentation, "Attribute Header", "Data runs" and
 //! "$ATTRIBUTE_LIST".
@@ -27,4 +27,4 @@ pub use list_step::Step;
 pub use places::{block_at, has_cut_block, is_hole};
 pub use record_model::ListEntry;
 pub use state_model::{Extents, Stream};
-pub use stream::{real_size, stream_of};
+pub use stream::{no_extents, real_size, stream_of};

@@ -3,7 +3,8 @@ ghost use Rattle.std.specs.List.{flat_map};
 ghost use Rattle.record_model.specs.Pairs.{runs_of};
 ghost use Rattle.state_model.specs.Streams.{runs_or, form_runs, attribute_runs, joined, stream_of, real_size};
 ghost use Rattle.stream_map.specs.Attributes.{behind};
-ghost use Rattle.stream_map.specs.Runs.{HasSmallRuns};
+ghost use Rattle.state_model.specs.Loads.{no_extents};
+ghost use Rattle.stream_map.specs.Runs.{AreSmall, HasSmallRuns};
 
 use super::attributes::attributes_of;
 use host_base::Memory;
@@ -66,12 +67,12 @@ fn joined(alloc: Global, attributes: &[&Attr]) -> Result<Option<Stream>, Memory>
 }
 
 /// The stream with this type and name (in UTF-16 units) among a record's attributes, if there is
-/// one (Linux-NTFS documentation, "Attribute Header"): the value of its first attribute, where that is
-/// resident, else the runs of all its attributes by rising first VCN, with the sizes of the first. A
-/// attribute whose mapping pairs are at fault has no runs. The error is want of memory.
+/// one (Linux-NTFS documentation, "Attribute Header"): the value of its first attribute, where that
+/// is resident, else the runs of all its attributes by rising first VCN, with the sizes of the
+/// first. An attribute whose mapping pairs are at fault has no runs. The error is want of memory.
 ///
-/// Linear in the attributes and the runs where the attributes stand by rising first VCN; each attribute
-/// that does not takes one pass over the attributes before it.
+/// Linear in the attributes and the runs where the attributes stand by rising first VCN; each
+/// attribute that does not takes one pass over the attributes before it.
 #[tactic(auto, unfolding(state_model::specs::Streams::stream_of))]
 pub fn stream_of(
     alloc: Global,
@@ -86,7 +87,21 @@ pub fn stream_of(
     joined(alloc, &attributes)
 }
 
-/// The real size of a stream in bytes: that of its value, or the one that its first attribute states.
+/// No clusters, and no bytes; this takes no memory.
+pub fn no_extents(alloc: Global) -> Extents
+    ensures value { result ≡ no_extents }
+    ensures small { AreSmall result.runs }
+{
+    Extents {
+        runs: Runs::new(alloc),
+        allocated: 0,
+        real: 0,
+        initialised: 0,
+    }
+}
+
+/// The real size of a stream in bytes: that of its value, or the one that its first attribute
+/// states.
 pub fn real_size(stream: &Stream) -> u64
     ensures { result ≡ real_size stream.now }
 {

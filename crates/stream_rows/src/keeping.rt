@@ -3,7 +3,7 @@ use block_view::MemoryView;
 use record_model::{DATA, INDEX_ALLOCATION, NAMES_INDEX};
 use std::alloc::{AllocError, Global};
 use std::test::Fail;
-use stream_sizes::{Body, FileRec, SizesFault, first_broken, keeps_streams};
+use stream_rules::{Body, FileRec, SizesFault, first_broken, keeps_streams};
 use volume_images::{Kept, Part, index_view, per_cluster, put_file, record};
 
 // 8 clusters from cluster 16 on, or 8 that are sparse.

@@ -1,8 +1,8 @@
 //! Runs that share a cluster, and runs that the bitmap leaves out.
-use cluster_owners::{BitSet, Runs, first_shared, first_unmarked, volume_runs};
 use record_model::DATA;
 use std::alloc::{AllocError, Global};
 use std::test::Fail;
+use stream_rules::{BitSet, Runs, first_shared, first_unmarked, volume_runs};
 use volume_images::{Kept, Part, put_file, record, run};
 
 // Runs as first cluster and length, how many clusters there are, and the least shared one.

@@ -3,7 +3,9 @@ use run_model::{FindLine, Turn};
 use std::alloc::Global;
 use std::test::Fail;
 use transcript::text;
-use tree_model::{Kind, Name, NameList, Op, Path, Reply};
+use tree_model::{
+    Bytes, FileRef, Hit, HitList, Kind, Name, NameList, Op, Path, Reply, Usn, UsnList, Why,
+};
 
 // A turn with this reply; what was asked does not show in the text.
 fn turn(alloc: Global, client: u32, number: u32, serial: u64, reply: Reply) -> Turn {
@@ -54,6 +56,103 @@ fn three_names(alloc: Global) -> Result<Reply, Fail> {
         names.push(name(alloc, text)?)?;
     }
     Ok(Reply::Names { names })
+}
+
+// The reply of a journal with one record.
+fn one_record(alloc: Global) -> Result<Reply, Fail> {
+    let mut entries = UsnList::new(alloc);
+    entries.push(Usn {
+        usn: 12_288,
+        child: FileRef { number: 25, seq: 1 },
+        parent: FileRef { number: 5, seq: 5 },
+        reason: 0x8000_0001,
+        flags: 0x20,
+        time: 7,
+        source: 0,
+        security: 0,
+        name: name(alloc, "f")?,
+    })?;
+    Ok(Reply::Journal {
+        next: 12_352,
+        entries,
+    })
+}
+
+// The reply of a find that found one file.
+fn one_hit(alloc: Global) -> Result<Reply, Fail> {
+    let mut path = NameList::new(alloc);
+    for text in ["a", "f"] {
+        path.push(name(alloc, text)?)?;
+    }
+    let mut hits = HitList::new(alloc);
+    hits.push(Hit { child: 26, path })?;
+    Ok(Reply::Found { hits })
+}
+
+// Turns of one client with these replies.
+fn turns_of(alloc: Global, replies: Vec<Reply>) -> Result<Vec<Turn>, Fail> {
+    let mut turns = Vec::new(alloc);
+    for (at, reply) in replies.into_iter().enumerate() {
+        let number = (at % 100) as u32;
+        turns.push(turn(alloc, 1, number, u64::from(number), reply))?;
+    }
+    Ok(turns)
+}
+
+#[test]
+fn prints_a_run_that_changes(rt: HostRuntime) -> Result<(), Fail> {
+    let alloc = rt.alloc();
+    let bytes = Bytes::copy_of(alloc, b"Hello")?;
+    let mut replies = Vec::new(alloc);
+    replies.push(Reply::Created { number: 25, seq: 2 })?;
+    replies.push(Reply::Wrote { count: 5 })?;
+    replies.push(Reply::Bytes { bytes })?;
+    replies.push(Reply::Bytes {
+        bytes: Bytes::new(alloc),
+    })?;
+    replies.push(Reply::Synced { turns: 3 })?;
+    replies.push(one_record(alloc)?)?;
+    replies.push(one_hit(alloc)?)?;
+    let turns = turns_of(alloc, replies)?;
+    let mut out = String::new(alloc);
+    text(&turns, &[], &mut out)?;
+    let want = "1 0 0 0 created 25 2
+1 1 1 0 wrote 5
+1 2 2 0 bytes 48656c6c6f
+1 3 3 0 bytes -
+1 4 4 0 synced 3
+1 5 5 0 journal 12352 1 12288:80000001:25:f
+1 6 6 0 found 1 26:/a/f
+";
+    assert_eq!(rt; out.as_str(), want);
+    Ok(())
+}
+
+#[test]
+fn prints_what_refuses(rt: HostRuntime) -> Result<(), Fail> {
+    let alloc = rt.alloc();
+    let mut replies = Vec::new(alloc);
+    replies.push(Reply::FixedBy { why: Why::Reparse })?;
+    replies.push(Reply::TooLong { end: 100_001 })?;
+    replies.push(Reply::MftFull { records: 1_048_576 })?;
+    replies.push(Reply::NoSpace {
+        room: 81,
+        needed: 82,
+    })?;
+    replies.push(Reply::RecordFull { used: 1_480 })?;
+    replies.push(Reply::IntoItself)?;
+    let turns = turns_of(alloc, replies)?;
+    let mut out = String::new(alloc);
+    text(&turns, &[], &mut out)?;
+    let want = "1 0 0 0 fixed reparse
+1 1 1 0 too-long 100001
+1 2 2 0 mft-full 1048576
+1 3 3 0 no-space 81 82
+1 4 4 0 record-full 1480
+1 5 5 0 into-itself
+";
+    assert_eq!(rt; out.as_str(), want);
+    Ok(())
 }
 
 #[test]

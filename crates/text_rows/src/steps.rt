@@ -1,4 +1,7 @@
 //! What the plain step answers on a small tree, which stays as it was; and the same by its maps.
+ghost use Rattle.std.specs.Prelude.{◌≡◌, true, IfOk};
+ghost use Rattle.tree_model.specs.Steps.{is_look};
+
 use std::alloc::Global;
 use std::test::Fail;
 use tree_index::TreeIndex;
@@ -91,7 +94,9 @@ fn path(alloc: Global, parts: &[&str]) -> Result<Path, Fail> {
     Ok(path)
 }
 
-fn op(alloc: Global, row: &Row) -> Result<Op, Fail> {
+fn op(alloc: Global, row: &Row) -> Result<Op, Fail>
+    ensures looks { IfOk result (λ op. is_look op ≡ true) }
+{
     let path = path(alloc, row.0)?;
     match row.2 {
         Answer::File(..) => Ok(Op::Stat { path }),

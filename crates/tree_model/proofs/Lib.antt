@@ -1,1 +1,6 @@
 pub mod Refusing
+pub mod Looks
+pub mod FileNeeds
+pub mod WaysUp
+pub mod ByNumber
+pub mod Filling

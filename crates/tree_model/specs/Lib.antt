@@ -1,2 +1,6 @@
 pub mod Walks
+pub mod Needs
+pub mod Refusals
+pub mod Effects
 pub mod Steps
+pub mod Worked

@@ -4,7 +4,13 @@
 //! that applies, else as done. The tree itself is that of `file_tree`.
 #![tactic(auto)]
 
+mod file_bytes;
+mod file_effects;
+mod file_rows;
+mod filing;
+mod laws;
 mod looking;
+mod needs;
 mod path;
 mod plain;
 mod reply;
@@ -15,9 +21,10 @@ pub use file_tree::{
     Bytes, FileRef, FileRefList, Journal, Kind, Link, LinkList, Name, Node, NodeList, SHORT, Tree,
     Units, Usn, UsnList, WIN32, Why, chosen, compare_names, is_same_name, sort_links,
 };
+pub use laws::{worked_bytes, worked_changes, worked_names};
 pub use looking::Lookup;
 pub use path::Path;
 pub use plain::names_of;
-pub use reply::{NameList, Reply};
+pub use reply::{Hit, HitList, NameList, Reply};
 pub use script::{Command, Op, Script, What};
 pub use stepping::{answer, step};

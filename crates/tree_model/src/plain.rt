@@ -22,9 +22,9 @@ fn node_at(nodes: &[Node], number: u64) -> Option<&Node>
     nodes.iter().find(|node| node.number == number)
 }
 
-// The links of a directory whose name is the same.
+/// The links of a directory whose name is the same.
 #[tactic(auto, unfolding(file_tree::specs::Trees::same_links))]
-fn same_links(
+pub fn same_links(
     alloc: Global,
     upper: &[u16],
     links: &[Link],

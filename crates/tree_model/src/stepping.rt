@@ -1,10 +1,10 @@
-ghost use Rattle.std.specs.Prelude.{◌≡◌, ◌≢◌, ◌<◌, ◌^◌, ◌+◌, IfOk, length};
+ghost use Rattle.std.specs.Prelude.{◌≡◌, true, ◌≢◌, ◌<◌, ◌^◌, ◌+◌, IfOk, length};
 ghost use Rattle.std.specs.List.{list_any};
 ghost use Rattle.host_base.specs.Answers.{Gives};
 ghost use Rattle.file_tree.specs.Trees.{is_directory, is_directory_kind};
 ghost use Rattle.tree_model.specs.Walks.{entered, reached, reached_directory};
 ghost use Rattle.file_tree.specs.Walks.{is_bad_part, has_bad_part};
-ghost use Rattle.tree_model.specs.Steps.{stat_of, reply_cause, Lists, Replies, IsStep};
+ghost use Rattle.tree_model.specs.Steps.{is_look, stat_of, reply_cause, Lists, Replies, IsStep};
 
 use crate::looking::Lookup;
 use crate::path::Path;
@@ -16,8 +16,8 @@ use host_base::Memory;
 use std::alloc::{AllocError, Global};
 use utf16_name::{Units, check};
 
-// The root's number.
-const ROOT: u64 = 5;
+/// The root's number.
+pub const ROOT: u64 = 5;
 
 impl From<AllocError> for Reply {
     ghost use Rattle.std.specs.Prelude.{◌≡◌};
@@ -30,7 +30,8 @@ impl From<AllocError> for Reply {
     }
 }
 
-fn is_directory_kind(kind: Kind) -> bool
+/// Whether it is the kind of a directory.
+pub fn is_directory_kind(kind: Kind) -> bool
     ensures { result ≡ is_directory_kind kind }
 {
     kind == Kind::Directory
@@ -67,9 +68,9 @@ fn entered<L: Lookup>(
     }
 }
 
-// The node that a path names.
+/// The node that a path names, or what ends the walk.
 #[tactic(auto, unfolding(crate::specs::Walks::reached, crate::specs::Walks::walk))]
-fn reached<'a, L: Lookup>(alloc: Global, tree: &'a L, path: &[Units]) -> Result<&'a Node, Reply>
+pub fn reached<'a, L: Lookup>(alloc: Global, tree: &'a L, path: &[Units]) -> Result<&'a Node, Reply>
     ensures { Gives (λ node. node.now) reply_cause result (reached (L.upper tree.now) (L.nodes tree.now) (L.links tree.now) path.now) }
 {
     let mut number = ROOT;
@@ -102,9 +103,9 @@ fn reached_directory<'a, L: Lookup>(
     Ok(node)
 }
 
-// Whether a part of the path is no name.
+/// Whether a part of the path is no name.
 #[tactic(auto, unfolding(file_tree::specs::Walks::has_bad_part))]
-fn has_bad_part(path: &[Units]) -> bool
+pub fn has_bad_part(path: &[Units]) -> bool
     ensures { result ≡ has_bad_part path.now }
 {
     path.iter().any(|part| check(part.as_slice()).is_some())
@@ -171,12 +172,14 @@ fn list<L: Lookup>(alloc: Global, tree: &L, path: &Path) -> Reply
 /// what it asks for; or `Memory` for want of memory. It asks the tree two questions for each
 /// part of the path, and one or two more.
 pub fn answer<L: Lookup>(alloc: Global, tree: &L, op: &Op) -> Reply
+    requires looks { is_look op.now ≡ true }
     ensures value { result ≢ Reply.Memory → Replies (L.upper tree.now) (L.nodes tree.now) (L.links tree.now) op.now result }
     ensures fault { result ≢ Reply.Fault }
 {
     match op {
         Op::Stat { path } => stat(alloc, tree, path),
         Op::List { path } => list(alloc, tree, path),
+        _ => unreachable!(),
     }
 }
 
@@ -193,6 +196,7 @@ pub fn step(
 ) -> Result<(Tree, Reply), Memory>
     requires table { length upper.now ≡ 65536 }
     requires early { stamp < 2 ^ 63 }
+    requires looks { is_look op.now ≡ true }
     ensures value { IfOk result (λ step. IsStep upper.now op.now stamp step.1 tree.now step.0) }
     ensures given { IfOk result (λ step. (step.1 ≢ Reply.Memory) × (step.1 ≢ Reply.Fault)) }
 {

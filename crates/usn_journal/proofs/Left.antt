@@ -15,9 +15,9 @@ use Rattle.state_model.specs.Streams.{byte_at}
 use Rattle.journal_model.specs.Journals.{page_entries, pages_before, journal_from, journal_in}
 use Rattle.journal_model.proofs.JournalPages.{journal_next, journal_last}
 use Rattle.volume_state.specs.Journals.{journal_first, journal_entries}
-use Rattle.usn_journal.specs.declared.fault.PageFault.{PageFault}
-use Rattle.usn_journal.specs.declared.fault.PageFault.TheVariants.{Broken, View, Memory}
-use Rattle.usn_journal.specs.Errors.{journal_cause, page_cause}
+use Rattle.usn_journal.specs.declared.pull_fault.PageFault.{PageFault}
+use Rattle.usn_journal.specs.declared.pull_fault.PageFault.TheVariants.{Broken, View, Memory}
+use Rattle.usn_journal.specs.PullErrors.{journal_cause, page_cause}
 use Rattle.usn_journal.specs.Pulls.{from_on, read_entries}
 use Rattle.usn_journal.proofs.Ends.{EndBy, entries_end}
 

@@ -1,3 +1,6 @@
+pub mod PagesLeft
+pub mod Shapes
+pub mod WithoutRecords
 pub mod Ends
 pub mod PagesRead
 pub mod Left

@@ -14,7 +14,7 @@ use Rattle.journal_model.specs.UsnRecords.{usn_cause}
 use Rattle.journal_model.specs.Pages.{page_records}
 use Rattle.journal_model.specs.Journals.{bytes_between, placed, page_entries}
 use Rattle.journal_model.proofs.JournalPages.{page_from_offset}
-use Rattle.usn_journal.specs.Errors.{page_cause, of_record}
+use Rattle.usn_journal.specs.PullErrors.{page_cause, of_record}
 
 -- the bytes that were read are those of the page
 page_there : (byte : ℕ → ℕ) (first next k n : ℕ) (page : List ℕ) → first < 4096 * k + 4096 → n ≡ min next (4096 * k + 4096) - 4096 * k → page ≡ map byte (range_with_len (4096 * k) n)

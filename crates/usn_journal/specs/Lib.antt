@@ -1,2 +1,5 @@
-pub mod Errors
+pub mod JournalErrors
+pub mod Judging
+pub mod Places
+pub mod PullErrors
 pub mod Pulls

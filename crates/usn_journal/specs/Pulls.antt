@@ -7,8 +7,8 @@ use Rattle.state_model.specs.declared.stream.Extents.{Extents}
 use Rattle.journal_model.specs.UsnRecords.{usn_size}
 use Rattle.volume_state.specs.Journals.{journal_first, journal_entries}
 use Rattle.usn_journal.specs.declared.pulling.Pulled.{Pulled}
-use Rattle.usn_journal.specs.declared.fault.PullFault.{PullFault}
-use Rattle.usn_journal.specs.declared.fault.PullFault.TheVariants.{Trimmed, Ahead}
+use Rattle.usn_journal.specs.declared.pull_fault.PullRefusal.{PullRefusal}
+use Rattle.usn_journal.specs.declared.pull_fault.PullRefusal.TheVariants.{Trimmed, Ahead}
 
 -- where a record ends, which begins at its USN
 abbrev pub usn_end : Usn → ℕ
@@ -33,6 +33,6 @@ abbrev pub pulled_in : ℕ → ℕ → ℕ → List Usn → Pulled
 pulled_in next from most entries = let some = take most (from_on from entries) in record { entries = some; end = end_of next some }
 
 -- the same of a journal, or where it begins or ends, where the position lies before or after it
-unfoldable pub pulled_of : Content → ℕ → Extents → ℕ → ℕ → Result Pulled PullFault
+unfoldable pub pulled_of : Content → ℕ → Extents → ℕ → ℕ → Result Pulled PullRefusal
 pulled_of c per e from most =
     needs (nat_le (journal_first per e) from) (Trimmed (journal_first per e)) >>= λ _. needs (nat_le from e.real) (Ahead e.real) >>= λ _. Ok (pulled_in e.real from most (read_entries (journal_entries c per e)))

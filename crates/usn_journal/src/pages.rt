@@ -7,10 +7,10 @@ ghost use Rattle.state_model.specs.Streams.{byte_at};
 ghost use Rattle.stream_map.specs.Runs.{AreSmall};
 ghost use Rattle.block_view.specs.Views.{AsksView};
 ghost use Rattle.volume_state.specs.Journals.{journal_first, journal_entries};
-ghost use Rattle.usn_journal.specs.Errors.{journal_cause, page_cause};
+ghost use Rattle.usn_journal.specs.PullErrors.{journal_cause, page_cause};
 ghost use Rattle.usn_journal.specs.Pulls.{usn_end, from_on, read_entries};
 
-use crate::fault::PageFault;
+use crate::pull_fault::PageFault;
 use block_view::View;
 use disk_model::Body;
 use file_tree::{Usn, UsnList};

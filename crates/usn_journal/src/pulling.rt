@@ -6,11 +6,12 @@ ghost use Rattle.block_view.specs.Views.{AsksView};
 ghost use Rattle.std.specs.Option.{option_copied};
 ghost use Rattle.volume_model.specs.Sizes.{is_hole};
 ghost use Rattle.volume_state.specs.Journals.{run_place, journal_first, journal_entries};
-ghost use Rattle.usn_journal.specs.Errors.{pull_cause, IsInside};
+ghost use Rattle.usn_journal.specs.PullErrors.{journal_cause, page_cause, pull_cause, IsInside};
+ghost use Rattle.usn_journal.specs.declared.pull_fault.PullRefusal.TheVariants.{Trimmed, Ahead};
 ghost use Rattle.usn_journal.specs.Pulls.{usn_end, end_of, read_entries, pulled_in, pulled_of};
 
-use crate::fault::PullFault;
 use crate::pages::read_pages;
+use crate::pull_fault::{PageFault, PullFault, PullRefusal};
 use block_view::View;
 use disk_model::Body;
 use file_tree::{Usn, UsnList};
@@ -87,9 +88,16 @@ fn end_of(next: u64, entries: &[Usn]) -> u64
     end
 }
 
-// At most `most` of the records of a whole journal, which begins at its byte `first`, from a
-// position in it on, and the place after the last of them, or the journal's next one.
-fn pull_inside<V: View>(
+/// At most `most` of the records of a whole journal, which begins at its byte `first`, from a
+/// position in it on, and the place after the last of them, or the journal's next one: as
+/// [`read_from`], of which this is the part behind the two tests of the position.
+///
+/// - [`PageFault::Broken`]: the view gives a record that is at fault, which no view does that is
+///   known to hold whole records.
+/// - [`PageFault::View`]: the view failed.
+/// - [`PageFault::Memory`]: want of memory. It comes too where the real size of `$J` is within
+///   8,192 bytes of 2^64, which no lawful sizes allow.
+pub fn pull_inside<V: View>(
     alloc: Global,
     view: &mut V,
     per: ClusterSize,
@@ -98,19 +106,18 @@ fn pull_inside<V: View>(
     from: u64,
     most: u32,
     body: &mut Body,
-) -> Result<Pulled, PullFault>
+) -> Result<Pulled, PageFault>
     requires small { AreSmall extents.now.runs }
     requires first { first ≡ journal_first per extents.now }
     requires begun { first ≤ from }
     requires left { from ≤ extents.now.real }
     requires whole { IfSome (V.content view.old) (λ c. IsOk (journal_entries c per extents.now)) }
-    ensures value { IfSome (V.content view.old) (λ c. GivesOrFails (λ pulled. pulled) pull_cause result (Ok (pulled_in extents.now.real from most (read_entries (journal_entries c per extents.now))))) }
-    ensures inside { IfErr result IsInside }
-    ensures kept { AsksView V.content V.kept V.faults pull_cause view.old view.new result }
+    ensures value { IfSome (V.content view.old) (λ c. GivesOrFails (λ pulled. pulled) journal_cause result (Ok (pulled_in extents.now.real from most (read_entries (journal_entries c per extents.now))))) }
+    ensures kept { AsksView V.content V.kept V.faults page_cause view.old view.new result }
 {
     let next = extents.real;
     if next >= MOST_READ {
-        return Err(PullFault::Memory);
+        return Err(PageFault::Memory);
     }
     let mut room = page_room(alloc)?;
     let found = read_pages(
@@ -129,12 +136,14 @@ fn pull_inside<V: View>(
 /// `$J` in these clusters, and begins at its first cluster that isn't sparse, within its real size;
 /// its records are whole. A volume has `per` sectors a cluster; `body` is room for a body.
 ///
-/// - `Trimmed`: exactly where `from` lies before the journal, which begins there.
-/// - `Ahead`: exactly where `from` lies after the journal's next place, which is there.
-/// - `View`: the view failed.
-/// - `Memory`: want of memory. It comes too where the real size of `$J` is within 8,192 bytes of
-///   2^64, which no lawful sizes allow; and where the view gives a record that is at fault, which
-///   no view does that is known to hold whole records.
+/// - [`PullRefusal::Trimmed`]: exactly where `from` lies before the journal, which begins there.
+/// - [`PullRefusal::Ahead`]: exactly where `from` lies after the journal's next place, which is
+///   there.
+/// - [`PullRefusal::Broken`]: the view gives a record that is at fault, which no view does that is
+///   known to hold whole records.
+/// - [`PullFault::View`]: the view failed.
+/// - [`PullFault::Memory`]: want of memory. It comes too where the real size of `$J` is within
+///   8,192 bytes of 2^64, which no lawful sizes allow.
 ///
 /// It reads the pages from that of `from` on until it has `most` records, each once, and keeps one
 /// of them: linear in their bytes, each of whose sectors takes one pass over the runs, and one pass
@@ -154,8 +163,8 @@ pub fn read_from<V: View>(
     requires whole { IfSome (V.content view.old) (λ c. IsOk (journal_entries c per extents.now)) }
     ensures value { IfSome (V.content view.old) (λ c. GivesOrFails (λ pulled. pulled) pull_cause result (pulled_of c per extents.now from most)) }
     ensures trimmed { from < journal_first per extents.now
-        → result ≡ Err (PullFault.Trimmed (journal_first per extents.now)) }
-    ensures ahead { extents.now.real < from → result ≡ Err (PullFault.Ahead extents.now.real) }
+        → result ≡ Err (PullFault.Refused (Trimmed (journal_first per extents.now))) }
+    ensures ahead { extents.now.real < from → result ≡ Err (PullFault.Refused (Ahead extents.now.real)) }
     ensures unasked { from < journal_first per extents.now ⊎ extents.now.real < from → view.new ≡ view.old }
     ensures inside { journal_first per extents.now ≤ from → from ≤ extents.now.real → IfErr result IsInside }
     ensures kept { AsksView V.content V.kept V.faults pull_cause view.old view.new result }
@@ -163,10 +172,10 @@ pub fn read_from<V: View>(
     let next = extents.real;
     let first = first_place(per, extents) as u64;
     if from < first {
-        return Err(PullFault::Trimmed { first });
+        return Err(PullFault::Refused(PullRefusal::Trimmed { first }));
     }
     if next < from {
-        return Err(PullFault::Ahead { next });
+        return Err(PullFault::Refused(PullRefusal::Ahead { next }));
     }
-    pull_inside(alloc, view, per, extents, first, from, most, body)
+    Ok(pull_inside(alloc, view, per, extents, first, from, most, body)?)
 }

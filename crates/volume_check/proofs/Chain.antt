@@ -14,7 +14,7 @@ use Rattle.volume_model.specs.Nodes.{bare_nodes}
 use Rattle.volume_state.specs.Journals.{journal_of, fault_of, some_journal}
 use Rattle.volume_state.specs.Rules.{broken_1, broken_2, broken_3, broken_4, broken_5, broken_6, broken_7, broken_8, broken_9, first_broken}
 use Rattle.volume_state.specs.Trees.{volume_journal, tree_with, without_records, report_of, reported, checked}
-use Rattle.volume_journal.specs.Judging.{bare, bare_journal}
+use Rattle.usn_journal.specs.Judging.{bare, bare_journal}
 use Rattle.volume_check.specs.declared.fault.CheckFault.{CheckFault}
 use Rattle.volume_map.specs.declared.map.VolumeMap.{VolumeMap}
 use Rattle.volume_map.specs.Maps.{volume_in, IsMapOf}

@@ -9,7 +9,7 @@ use Rattle.volume_model.specs.Volumes.{Volume, upper_of}
 use Rattle.volume_model.specs.Nodes.{bare_nodes}
 use Rattle.volume_state.specs.Rules.{broken_1, broken_2, broken_3, broken_4, broken_5, broken_6, broken_7, broken_8}
 use Rattle.volume_state.specs.Trees.{tree_with}
-use Rattle.volume_journal.specs.Judging.{bare_journal}
+use Rattle.usn_journal.specs.Judging.{bare_journal}
 
 unfoldable pub from_8 : Volume → Option Broken
 from_8 v = broken_or 8 (broken_8 v) None

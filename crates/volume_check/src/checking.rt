@@ -5,10 +5,10 @@ ghost use Rattle.volume_map.specs.Maps.{volume_in, IsMap, IsMapOf};
 ghost use Rattle.block_view.specs.Views.{AsksView};
 ghost use Rattle.volume_state.specs.Trees.{checked};
 ghost use Rattle.volume_check.specs.Errors.{check_cause};
-ghost use Rattle.volume_check.specs.Parts.{AreParts, AreNames};
+ghost use Rattle.volume_check.specs.Parts.{AreParts};
+ghost use Rattle.volume_tree.specs.Names.{AreNames};
 
 use crate::fault::CheckFault;
-use crate::names::{Names, names_of};
 use crate::report::report;
 use crate::rules::from_1;
 use block_view::View;
@@ -19,6 +19,7 @@ use std::alloc::Global;
 use system_files::upper_table;
 use upcase_order::Upcase;
 use volume_map::VolumeMap;
+use volume_tree::{Names, names_of};
 
 // The same, by the volume's table of upper-case units.
 fn check_ordered<V: View>(
@@ -78,10 +79,11 @@ fn check_named<V: View>(
 /// The tree is that of the view's content where the map was loaded of it: the heads of the records
 /// and the bits of the bitmaps are taken from the map, and not read again. It reads the table of
 /// upper-case units and `$J` once, each block of an index that a node lies in twice, for its names
-/// and for whether it is torn, and each record of the file table and of its mirror once, for whether
-/// it is torn. It takes time linear in the records and the names, in the bytes of the indexes' nodes
-/// and in the clusters' bits, and n log n in the runs and the nodes; memory is linear in the records,
-/// the names and the runs. Blocks of an index that no node lies in cost nothing.
+/// and for whether it is torn, and each record of the file table and of its mirror once, for
+/// whether it is torn. It takes time linear in the records and the names, in the bytes of the
+/// indexes' nodes and in the clusters' bits, and n log n in the runs and the nodes; memory is
+/// linear in the records, the names and the runs. Blocks of an index that no node lies in cost
+/// nothing.
 pub fn check<V: View>(alloc: Global, view: &mut V, map: &VolumeMap) -> Result<Tree, CheckFault>
     requires map { IsMap map.now }
     ensures value { IfSome (V.content view.old) (λ c. IsMapOf c map.now → GivesOrFails (λ tree. tree) check_cause result (checked c (volume_in map.now))) }

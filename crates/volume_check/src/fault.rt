@@ -2,10 +2,9 @@ use directory_index::IndexFault;
 use host_base::Memory;
 use state_model::Broken;
 use std::alloc::AllocError;
-use stream_sizes::SizesFault;
+use stream_rules::SizesFault;
 use thiserror::Error;
-use volume_journal::JournalFault;
-use volume_map::MapFault;
+use usn_journal::JournalFault;
 
 /// Why a check found no tree.
 #[derive(Clone, Copy, Debug, PartialEq, Eq, Error)]
@@ -39,22 +38,6 @@ impl From<Memory> for CheckFault {
 
     fn from(_error: Memory) -> Self {
         CheckFault::Memory
-    }
-}
-
-impl From<MapFault> for CheckFault {
-    ghost use Rattle.std.specs.Prelude.{◌≡◌};
-    ghost use Rattle.volume_check.specs.Errors.{of_map};
-
-    ghost from_gives = { λ fault error. error ≡ of_map fault };
-
-    fn from(fault: MapFault) -> Self {
-        match fault {
-            // The files of a loaded volume are refused no more.
-            MapFault::Refused(_) => CheckFault::Memory,
-            MapFault::View => CheckFault::View,
-            MapFault::Memory => CheckFault::Memory,
-        }
     }
 }
 

@@ -9,7 +9,6 @@
 
 mod checking;
 mod fault;
-mod names;
 mod report;
 mod rules;
 

@@ -9,50 +9,23 @@ ghost use Rattle.volume_map.specs.Maps.{volume_in, IsMap, IsMapOf};
 ghost use Rattle.block_view.specs.Views.{AsksView};
 ghost use Rattle.volume_state.specs.Trees.{tree_with};
 ghost use Rattle.volume_check.specs.Errors.{check_cause};
-ghost use Rattle.volume_check.specs.Parts.{AreParts, AreNames};
+ghost use Rattle.volume_check.specs.Parts.{AreParts};
+ghost use Rattle.volume_tree.specs.Names.{AreNames};
 ghost use Rattle.volume_check.specs.Steps.{ninth};
 
 use crate::fault::CheckFault;
-use crate::names::Names;
 use block_view::View;
 use disk_model::Body;
-use file_tree::{Journal, LinkList, Tree};
+use file_tree::{LinkList, Tree};
 use host_base::Memory;
 use record_rules::{Climber, all_links};
 use std::alloc::Global;
 use upcase_order::Upcase;
-use volume_journal::volume_journal;
-use volume_map::{VolumeMap, spare_numbers};
-use volume_nodes::bare_nodes;
+use usn_journal::volume_journal;
+use volume_map::VolumeMap;
+use volume_tree::{Names, tree_with};
 
-// The tree with these links and this journal.
-#[tactic(auto, unfolding(volume_state::specs::Trees::tree_with, volume_model::specs::Nodes::free_clusters))]
-fn tree_with(
-    alloc: Global,
-    map: &VolumeMap,
-    names: &Names,
-    climber: &Climber,
-    links: LinkList,
-    journal: Option<Journal>,
-) -> Result<Tree, Memory>
-    requires names { AreNames map.now.files.items names.now }
-    requires records { climber.now.records.now ≡ map.now.files.items }
-    requires links { links ≡ all_links (table_in map.now.files.items) (length map.now.files.items) }
-    ensures { (c : the_content) → IsMapOf c map.now → IfOk result (λ tree. tree ≡ tree_with c (volume_in map.now) (bare_nodes (volume_in map.now)) journal) }
-{
-    let nodes = bare_nodes(alloc, map, climber, &names.links)?;
-    let spare = spare_numbers(alloc, &map.heads, &map.record_bits)?;
-    Ok(Tree {
-        nodes,
-        links,
-        spare,
-        count: map.files.len() as u64,
-        journal,
-        room: map.cluster_bits.count_clear(),
-    })
-}
-
-// The same, with the volume's own journal.
+// The tree with these links and the volume's own journal.
 #[tactic(auto, unfolding(crate::specs::Steps::ninth))]
 fn with_journal<V: View>(
     alloc: Global,
@@ -77,9 +50,9 @@ fn with_journal<V: View>(
 
 /// The tree of a loaded volume that keeps the rules before the ninth, without the bytes of its
 /// nodes and the records of its journal; or the ninth rule, where its journal is at fault. `names`
-/// are the names of its files, `climber` climbs over these, `upper` is its table of upper-case units,
-/// and `body` is room for a body. It takes time and memory linear in the records, and reads the
-/// journal once.
+/// are the names of its files, `climber` climbs over these, `upper` is its table of upper-case
+/// units, and `body` is room for a body. It takes time and memory linear in the records, and reads
+/// the journal once.
 pub fn report<V: View>(
     alloc: Global,
     view: &mut V,

@@ -5,23 +5,24 @@ ghost use Rattle.volume_model.specs.Owners.{volume_runs};
 ghost use Rattle.volume_map.specs.Maps.{volume_in, IsMap, IsMapOf};
 ghost use Rattle.block_view.specs.Views.{AsksView};
 ghost use Rattle.volume_check.specs.Errors.{check_cause, NeverBroken};
-ghost use Rattle.volume_check.specs.Parts.{AreParts, AreNames};
+ghost use Rattle.volume_check.specs.Parts.{AreParts};
+ghost use Rattle.volume_tree.specs.Names.{AreNames};
 ghost use Rattle.volume_model.specs.Sizes.{is_at, placed_record, keeps_place};
 ghost use Rattle.volume_state.specs.Rules.{broken_1, broken_2, broken_4};
 ghost use Rattle.volume_check.specs.Steps.{from_1, from_2, from_3, from_4, from_5, from_6, from_7, from_8};
 
 use crate::fault::CheckFault;
-use crate::names::Names;
 use block_view::View;
-use cluster_owners::{Run, volume_runs};
 use disk_model::{BlockKind, Body};
 use host_base::Memory;
 use record_rules::{Climber, first_misnamed, first_misplaced, first_unrooted};
 use state_model::Broken;
 use std::alloc::Global;
 use stream_map::block_at;
+use stream_rules::{Run, volume_runs};
 use upcase_order::Upcase;
 use volume_map::VolumeMap;
+use volume_tree::Names;
 
 // Rule 8: the way up of each directory.
 #[tactic(auto, unfolding(crate::specs::Steps::from_8, volume_state::specs::Rules::broken_8))]
@@ -59,7 +60,7 @@ fn from_6(
     requires runs { runs.now ≡ volume_runs map.now.files.items }
     ensures { (c : the_content) → IsMapOf c map.now → IfOk result (λ broken. broken ≡ from_6 c (volume_in map.now)) }
 {
-    match cluster_owners::first_unmarked(alloc, runs, &map.cluster_bits)? {
+    match stream_rules::first_unmarked(alloc, runs, &map.cluster_bits)? {
         Some(number) => Ok(Some(Broken { rule: 6, number })),
         None => Ok(from_7(map, climber)),
     }
@@ -72,7 +73,7 @@ fn from_5(alloc: Global, map: &VolumeMap, climber: &Climber) -> Result<Option<Br
     ensures { (c : the_content) → IsMapOf c map.now → IfOk result (λ broken. broken ≡ from_5 c (volume_in map.now)) }
 {
     let runs = volume_runs(alloc, &map.files)?;
-    match cluster_owners::first_shared(alloc, runs.as_slice(), map.clusters)? {
+    match stream_rules::first_shared(alloc, runs.as_slice(), map.clusters)? {
         Some(number) => Ok(Some(Broken { rule: 5, number })),
         None => from_6(alloc, map, climber, runs.as_slice()),
     }
@@ -118,7 +119,7 @@ fn first_unfit<V: View>(
         return Ok(Some(0));
     }
     let (per, clusters) = (map.per_cluster, map.clusters);
-    let number = stream_sizes::first_broken(alloc, view, per, clusters, &map.files, body)?;
+    let number = stream_rules::first_broken(alloc, view, per, clusters, &map.files, body)?;
     Ok(number)
 }
 

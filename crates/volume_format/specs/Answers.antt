@@ -5,11 +5,13 @@ use Rattle.boot_sector.specs.BootSectors.{most_clusters}
 use Rattle.sector_device.specs.Moments.{Changes}
 use Rattle.volume_format.specs.declared.fault.Formatted.{Formatted}
 use Rattle.volume_format.specs.declared.fault.FormatFault.{FormatFault}
-use Rattle.volume_format.specs.declared.fault.FormatFault.TheVariants.{VolumeLarge, Short, Fault, Memory}
+use Rattle.volume_format.specs.declared.fault.FormatFault.TheVariants.{Refused, Fault, Memory}
+use Rattle.volume_format.specs.declared.fault.FormatRefusal.{FormatRefusal}
+use Rattle.volume_format.specs.declared.fault.FormatRefusal.TheVariants.{VolumeLarge, Short}
 use Rattle.volume_format.specs.Layouts.{clusters_of, least_sectors, layout_of, room}
 
 -- No sector can't hold a boot sector; then the volume may be too large; then the device too short for what is written.
-unfoldable pub format_answer : ℕ → Result Formatted FormatFault
+unfoldable pub format_answer : ℕ → Result Formatted FormatRefusal
 format_answer device =
     needs (nat_lt 0 device) (Short 1 0)
     >>= λ _. needs (nat_le (clusters_of device) most_clusters) (VolumeLarge (clusters_of device))
@@ -17,9 +19,8 @@ format_answer device =
     >>= λ _. Ok (record { clusters = clusters_of device; room = room (layout_of device) })
 
 -- where an error of a call comes from
-abbrev pub format_cause : FormatFault → Cause FormatFault
-format_cause (VolumeLarge clusters) = refused (VolumeLarge clusters)
-format_cause (Short sectors device) = refused (Short sectors device)
+abbrev pub format_cause : FormatFault → Cause FormatRefusal
+format_cause (Refused refusal) = refused refusal
 format_cause Fault = failed
 format_cause Memory = no_memory
 

@@ -1,5 +1,5 @@
 ghost use Rattle.std.specs.Prelude.{◌≡◌};
-ghost use Rattle.volume_format.specs.declared.fault.FormatFault.TheVariants.{Fault as device_failed, Memory as no_memory};
+ghost use Rattle.volume_format.specs.declared.fault.FormatFault.TheVariants.{Fault as device_failed, Memory as no_memory, Refused as is_refused};
 
 use host_base::{Failed, Memory};
 use std::alloc::AllocError;
@@ -12,9 +12,9 @@ pub struct Formatted {
     pub room: u64,
 }
 
-/// Why a volume isn't made.
+/// What refuses a device.
 #[derive(Clone, Copy, Debug, PartialEq, Eq, Error)]
-pub enum FormatFault {
+pub enum FormatRefusal {
     /// The volume would have more than 16,777,216 clusters.
     #[error("{clusters} clusters are too many")]
     VolumeLarge { clusters: u64 },
@@ -22,6 +22,14 @@ pub enum FormatFault {
     /// asked for.
     #[error("{sectors} sectors are needed and the device has {device}")]
     Short { sectors: u64, device: u64 },
+}
+
+/// Why a volume isn't made.
+#[derive(Clone, Copy, Debug, PartialEq, Eq, Error)]
+pub enum FormatFault {
+    /// The device is refused.
+    #[error("the device is refused: {0}")]
+    Refused(FormatRefusal),
     #[error("the device failed")]
     Fault,
     #[error("no memory")]
@@ -33,6 +41,14 @@ impl From<AllocError> for FormatFault {
 
     fn from(_: AllocError) -> Self {
         FormatFault::Memory
+    }
+}
+
+impl From<FormatRefusal> for FormatFault {
+    ghost from_gives = { λ refusal e. e ≡ is_refused refusal };
+
+    fn from(refusal: FormatRefusal) -> Self {
+        FormatFault::Refused(refusal)
     }
 }
 

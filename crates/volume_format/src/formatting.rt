@@ -1,16 +1,16 @@
-ghost use Rattle.std.specs.Prelude.{◌≡◌, ◌+◌, ◌*◌, ◌≤◌, ◌⊎◌, IfOk, OnOk, IsErr, IsErrOf};
+ghost use Rattle.std.specs.Prelude.{◌≡◌, ◌+◌, ◌*◌, ◌≤◌, ◌⊎◌, IfOk, OnOk, Err, IfErr, IsErr, IsErrOf};
 ghost use Rattle.std.specs.Option.{option_map};
 ghost use Rattle.host_base.specs.Answers.{GivesOrFails};
 ghost use Rattle.host_base.specs.Causes.{HasFailed};
 ghost use Rattle.sector_device.specs.Moments.{Begins};
-ghost use Rattle.volume_format.specs.declared.fault.FormatFault.TheVariants.{Fault as device_failed, Memory as no_memory};
+ghost use Rattle.volume_format.specs.declared.fault.FormatFault.TheVariants.{Fault as device_failed, Memory as no_memory, Refused as is_refused};
 ghost use Rattle.volume_format.specs.Layouts.{IsLayout, layout_of, used_clusters, device_calls, device_writes};
 ghost use Rattle.volume_format.specs.Answers.{format_answer, format_cause, IsUntouched};
 ghost use Rattle.volume_format.specs.Images.{formatted, Puts, regions};
 ghost use Rattle.volume_format.specs.Stopping.{PutsFront, KeepsOthers};
 ghost use Rattle.volume_format.specs.Crashing.{IsSettledNow, StaysFrom, KeepsLeft};
 
-use crate::fault::{FormatFault, Formatted};
+use crate::fault::{FormatFault, FormatRefusal, Formatted};
 use crate::layout::{Layout, clusters_of, layout_of};
 use crate::parts::make_parts;
 use crate::writing::{PIECE_BYTES, put_image};
@@ -24,24 +24,22 @@ const LEAST_SECTORS: u64 = 4537;
 
 // The answer for a device of so many sectors, before anything is written.
 #[tactic(auto, unfolding(crate::specs::Answers::format_answer))]
-fn check(device: u64) -> Result<Formatted, FormatFault>
+fn check(device: u64) -> Result<Formatted, FormatRefusal>
     ensures answer { result ≡ format_answer device }
     ensures layout { OnOk result (IsLayout (layout_of device)) }
-    ensures never_failed { ¬ IsErrOf result device_failed }
-    ensures never_wanting { ¬ IsErrOf result no_memory }
 {
     if device == 0 {
-        return Err(FormatFault::Short {
+        return Err(FormatRefusal::Short {
             sectors: 1,
             device: 0,
         });
     }
     let clusters = clusters_of(device);
     if clusters > MOST_CLUSTERS {
-        return Err(FormatFault::VolumeLarge { clusters });
+        return Err(FormatRefusal::VolumeLarge { clusters });
     }
     if device < LEAST_SECTORS {
-        return Err(FormatFault::Short {
+        return Err(FormatRefusal::Short {
             sectors: LEAST_SECTORS,
             device,
         });
@@ -98,8 +96,8 @@ fn write_volume<D: Device>(
 /// during a format: the regions of the volume may have old and new sectors in any mixture. The
 /// boot sector is written last, but no sync is before it, so it may be there without the rest.
 ///
-/// - [`FormatFault::Short`]: the device has no sector, or fewer than 4,537.
-/// - [`FormatFault::VolumeLarge`]: there would be more than 16,777,216 clusters. It comes before
+/// - [`FormatRefusal::Short`]: the device has no sector, or fewer than 4,537.
+/// - [`FormatRefusal::VolumeLarge`]: there would be more than 16,777,216 clusters. It comes before
 ///   the second case of `Short`. After these two the device wasn't called.
 /// - [`FormatFault::Fault`]: the device failed; what was written until then stands there, region by
 ///   region in their order, of which the boot sector's is the last. Of the region that failed any
@@ -119,7 +117,7 @@ pub fn format<D: Device>(
     ensures changes { IfOk result (λ _. Begins (device_writes (layout_of (D.sector_count device.old))) 1 (D.changes_of device.old) (D.changes_of device.new)) }
     ensures settled { IfOk result (λ _. IsSettledNow (D.changes_of device.new)) }
     ensures others_left { KeepsLeft (layout_of (D.sector_count device.old)) (D.sector_count device.old) (D.moment_of device.old) (D.changes_of device.old) (D.changes_of device.new) }
-    ensures only { IsErr (format_answer (D.sector_count device.old)) → result ≡ format_answer (D.sector_count device.old) }
+    ensures only { IfErr (format_answer (D.sector_count device.old)) (λ refusal. result ≡ Err (is_refused refusal)) }
     ensures memory { IsErrOf result no_memory → IsUntouched (D.gives device.old) (D.gives device.new) (D.moment_of device.old) (D.moment_of device.new) (D.changes_of device.old) (D.changes_of device.new) (D.fault_count device.old) (D.fault_count device.new) }
     ensures refused { IsErr (format_answer (D.sector_count device.old)) → IsUntouched (D.gives device.old) (D.gives device.new) (D.moment_of device.old) (D.moment_of device.new) (D.changes_of device.old) (D.changes_of device.new) (D.fault_count device.old) (D.fault_count device.new) }
     ensures sectors { D.sector_count device.new ≡ D.sector_count device.old }

@@ -18,5 +18,5 @@ mod streams;
 mod writing;
 mod zeros;
 
-pub use fault::{FormatFault, Formatted};
+pub use fault::{FormatFault, FormatRefusal, Formatted};
 pub use formatting::format;

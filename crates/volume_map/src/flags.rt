@@ -57,8 +57,8 @@ fn flags_or(attribute: Option<&Attr>) -> u16
 }
 
 /// The flags of the stream with this type and name (in UTF-16 units) of a file, which are those of
-/// its first attribute (Linux-NTFS documentation, "Attribute Header"); 0 where there is none. Linear in
-/// the attributes.
+/// its first attribute (Linux-NTFS documentation, "Attribute Header"); 0 where there is none.
+/// Linear in the attributes.
 #[tactic(auto, using(crate::proofs::Firsts::flags_first))]
 pub fn stream_flags(kind: u32, name: &[u16], file: &FileRec) -> u16
     ensures value { result ≡ first_flags (attributes_of kind name.now file.now.attrs) }

@@ -39,4 +39,4 @@ pub use slot::is_used;
 pub use spare::{first_unmarked, spare_numbers};
 pub use state_model::{Geometry, MapRefusal};
 pub use streams::{file_stream, stream_or_empty};
-pub use table::{boot_record, has_type, table_of};
+pub use table::{boot_block, boot_record, has_type, table_of};

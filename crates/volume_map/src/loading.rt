@@ -143,10 +143,10 @@ pub fn files_in<V: View>(
 /// fault; the first record that is torn; the first record that breaks a rule, and the least one
 /// that it breaks.
 ///
-/// It reads each record once, and then each attribute list, and no bitmap. Its time is linear in the records of
-/// the table, for each of them in the runs of the table, which stand in record 0, and in the
-/// entries of lists, for each attribute of a record that refers to a file in the entries of that
-/// file's list. Its memory is linear in the records and in these entries.
+/// It reads each record once, and then each attribute list, and no bitmap. Its time is linear in
+/// the records of the table, for each of them in the runs of the table, which stand in record 0,
+/// and in the entries of lists, for each attribute of a record that refers to a file in the entries
+/// of that file's list. Its memory is linear in the records and in these entries.
 pub fn load<V: View>(
     alloc: Global,
     view: &mut V,

@@ -3,7 +3,7 @@ ghost use Rattle.std.specs.Prelude.{◌≡◌, ◌+◌, ◌*◌, ◌^◌, ◌<�
 ghost use Rattle.host_base.specs.Answers.{Gives, GivesOrFails};
 ghost use Rattle.record_model.specs.Records.{record_at};
 ghost use Rattle.state_model.specs.Files.{has_type};
-ghost use Rattle.state_model.specs.Loads.{boot_block, judged, most_records, no_extents, extents_or, record_count, table_extents, extents_in, table_of, slot_by, slot_of};
+ghost use Rattle.state_model.specs.Loads.{boot_block, judged, most_records, extents_or, record_count, table_extents, extents_in, table_of, slot_by, slot_of};
 ghost use Rattle.stream_map.specs.Runs.{AreSmall};
 ghost use Rattle.volume_map.specs.Errors.{map_cause};
 ghost use Rattle.volume_map.specs.Slots.{seen};
@@ -16,10 +16,10 @@ use block_view::View;
 use disk_model::{Block, BlockKind, Body};
 use file_record::FileRec;
 use host_base::Memory;
-use record_model::{ATTRIBUTE_LIST, DATA, Runs};
+use record_model::{ATTRIBUTE_LIST, DATA};
 use state_model::{Extents, Geometry, MapRefusal, Stream};
 use std::alloc::Global;
-use stream_map::stream_of;
+use stream_map::{no_extents, stream_of};
 
 const MOST_RECORDS: u64 = 1_048_576;
 
@@ -53,8 +53,9 @@ fn read_own_slot<V: View>(
     Ok(own_slot_of(alloc, body)?)
 }
 
-// Where the record of that number lies, by the place that the boot sector gives the table.
-fn boot_block(geometry: &Geometry, number: u64) -> Block
+/// Where the record of that number lies, by the place that the boot sector gives the table, whose
+/// records stand one behind the other there (Linux-NTFS documentation, "$Boot", "$MFT").
+pub fn boot_block(geometry: &Geometry, number: u64) -> Block
     requires place { geometry.now.mft * geometry.now.per_cluster < 2 ^ 62 }
     requires number { number < most_records }
     ensures value { result ≡ boot_block geometry.now number }
@@ -87,18 +88,6 @@ pub fn has_type(file: &FileRec, kind: u32) -> bool
         .as_slice()
         .iter()
         .any(|attr| attr.head.kind == kind)
-}
-
-fn no_extents(alloc: Global) -> Extents
-    ensures value { result ≡ no_extents }
-    ensures small { AreSmall result.runs }
-{
-    Extents {
-        runs: Runs::new(alloc),
-        allocated: 0,
-        real: 0,
-        initialised: 0,
-    }
 }
 
 // The clusters of a stream; a value in a record is too short for records.

@@ -13,8 +13,8 @@ use state_model::Extents;
 use std::alloc::{AllocError, Global};
 use std::test::Fail;
 use upcase_order::Upcase;
+use usn_journal::{JournalFault, volume_journal};
 use volume_images::{Kept, Part, per_cluster, put_file, record, sectors_view};
-use volume_journal::{JournalFault, volume_journal};
 use volume_map::VolumeMap;
 
 // The flag of sparse data.

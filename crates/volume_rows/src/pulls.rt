@@ -9,7 +9,7 @@ use record_model::Runs;
 use state_model::Extents;
 use std::alloc::{AllocError, Global};
 use std::test::Fail;
-use usn_journal::{PullFault, read_from};
+use usn_journal::{PullFault, PullRefusal, read_from};
 use volume_images::{per_cluster, run};
 
 // File 26/1 in 25/1 with the name `f` was created and closed; its record stands at 0.
@@ -68,14 +68,14 @@ static PULLS: [Row; 6] = [
         true,
         (8, 64),
         (65, 9),
-        Err(PullFault::Ahead { next: 64 }),
+        Err(PullFault::Refused(PullRefusal::Ahead { next: 64 })),
         None,
     ),
     Row(
         false,
         (8, 4096),
         (0, 9),
-        Err(PullFault::Trimmed { first: 4096 }),
+        Err(PullFault::Refused(PullRefusal::Trimmed { first: 4096 })),
         None,
     ),
     // pages that are not needed are not read

@@ -16,8 +16,8 @@ returns-in_err-file-clause-answer g c =
 pub returns-in_err-found-clause-answer : goal.returns-in_err-found-clause-answer
 returns-in_err-found-clause-answer g c =
     let p = err_from_is_err_and c.from_residual-in_err-found.result c.from_residual-in_err-found.ensures.1 in
-    rw (p.1, p.2) (log_fails _ c.args.geometry c.args.total c.args.sectors c.in_ok-file.file c.in_ok-place.place c.in_ok-place.ensures.value _ c.in_ok-file.ensures.answer (rw (c.in_ok-file.ensures.kept.same, c.log_block.ensures.value) at c.in_err-found.ensures.answer))
+    rw (p.1, p.2) (log_fails _ c.args.geometry c.args.total c.args.sectors c.in_ok-file.file c.in_ok-place.place c.in_ok-place.ensures.value _ c.in_ok-file.ensures.answer (rw (c.in_ok-file.ensures.kept.same, c.boot_block.ensures.value) at c.in_err-found.ensures.answer))
 
 pub returns-clause-answer : goal.returns-clause-answer
 returns-clause-answer g c =
-    opened _ c.args.geometry c.args.total c.args.sectors c.in_ok-file.file c.in_ok-place.place c.in_ok-place.ensures.value c.in_ok-found.found c.in_ok-file.ensures.answer (rw (c.in_ok-file.ensures.kept.same, c.log_block.ensures.value) at c.in_ok-found.ensures.answer)
+    opened _ c.args.geometry c.args.total c.args.sectors c.in_ok-file.file c.in_ok-place.place c.in_ok-place.ensures.value c.in_ok-found.found c.in_ok-file.ensures.answer (rw (c.in_ok-file.ensures.kept.same, c.boot_block.ensures.value) at c.in_ok-found.ensures.answer)

@@ -1,18 +1,21 @@
+use Rattle.std.proofs.Common.{Ok}
 use Rattle.std.proofs.lemmas.Result.{err_from_is_err_and}
+use Rattle.file_tree.specs.declared.tree.Tree.{Tree}
+use Rattle.volume_model.specs.Volumes.{upper_of}
 use Rattle.volume_map.specs.Maps.{volume_in}
+use Rattle.image_open.proofs.Steps.{fails_first, goes_on}
 use Rattle.image_read.specs.declared.mounting.Mounted.{Mounted}
-use Rattle.image_read.specs.Checks.{has_version}
-use Rattle.image_read.specs.Mounts.{mounted_on, volume_mounted}
-use Rattle.image_open.proofs.Steps.{fails_at_once, goes_on_at_once}
+use Rattle.image_read.specs.Checks.{volume_tree}
+use Rattle.image_read.specs.Mounts.{volume_mounted}
 use Rattle.image_read.proofs.mounting.volume_mounted.Goals as goal
 
-pub returns-in_err-check_version-clause-answer : goal.returns-in_err-check_version-clause-answer
+pub returns-in_err-tree-clause-answer : goal.returns-in_err-tree-clause-answer
 unfolding volume_mounted
-returns-in_err-check_version-clause-answer g c =
+returns-in_err-tree-clause-answer g c =
     let p = err_from_is_err_and c.from_residual.result c.from_residual.ensures.1 in
-    rw (p.1, p.2) (fails_at_once _ (λ (x : Unit {0}). x) (λ (m : Mounted). m) _ (has_version (volume_in c.args.map.now)) (λ content _. mounted_on content (volume_in c.args.map.now)) c.in_err-check_version.ensures.answer)
+    rw (p.1, p.2) (fails_first _ (λ (t : Tree). t) (λ (m : Mounted). m) _ (λ content. volume_tree content (volume_in c.args.map.now)) (λ content t. Ok (record { upper = upper_of content (volume_in c.args.map.now); tree = t })) c.in_err-tree.ensures.answer)
 
 pub returns-clause-answer : goal.returns-clause-answer
 unfolding volume_mounted
 returns-clause-answer g c =
-    goes_on_at_once _ (λ (m : Mounted). m) c.in_ok-check_version.field-0 c.mounted_on.result (has_version (volume_in c.args.map.now)) (λ content _. mounted_on content (volume_in c.args.map.now)) c.in_ok-check_version.ensures.answer c.mounted_on.ensures.answer
+    goes_on _ (λ (m : Mounted). m) c.in_ok-tree.tree c.with_upper.result (λ content. volume_tree content (volume_in c.args.map.now)) (λ content t. Ok (record { upper = upper_of content (volume_in c.args.map.now); tree = t })) c.in_ok-tree.ensures.answer (rw c.in_ok-tree.ensures.kept.same at c.with_upper.ensures.answer)

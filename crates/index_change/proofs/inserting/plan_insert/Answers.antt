@@ -5,7 +5,7 @@ use Rattle.file_tree.specs.declared.link.Link.{Link}
 use Rattle.index_plan.specs.Lists.{own_key}
 use Rattle.disk_model.specs.Content.{Content}
 use Rattle.index_model.specs.Walks.{find_of}
-use Rattle.index_change.specs.Orders.{is_of, link_of}
+use Rattle.index_change.specs.Orders.{names_file, link_of}
 use Rattle.index_tree.specs.Places.{place_of}
 use Rattle.index_change.proofs.Insertions.{link_known, not_found, has_known, insert_known}
 use Rattle.index_tree.specs.declared.fault.TreeFault.TheVariants.{Present}
@@ -22,7 +22,7 @@ returns-in_err-links-clause-value g c =
 pub returns-then-names_file-clause-value : goal.returns-then-names_file-clause-value
 returns-then-names_file-clause-value g c =
     let l = link_known c.args.key.now _ c.in-Some.link c.requires.name c.in_ok-link.ensures c.in-Some.is in
-    has_known (place_of c.args.dir.now) c.args.up.now c.args.dir.now.root c.in-Some.link.name c.args.dir.now.used (own_key c.args.key.now) c.args.fresh.now (ap (λ (k : Link). k.name) l) _ c.in_ok-links.links true (ap (list_any (is_of c.args.key.now.child)) (sym c.as_slice.ensures) ∙ sym c.names_file.ensures ∙ c.if-names_file.true) c.in_ok-links.ensures.found
+    has_known (place_of c.args.dir.now) c.args.up.now c.args.dir.now.root c.in-Some.link.name c.args.dir.now.used (own_key c.args.key.now) c.args.fresh.now (ap (λ (k : Link). k.name) l) _ c.in_ok-links.links true (ap (list_any (names_file c.args.key.now.child)) (sym c.as_slice.ensures) ∙ sym c.names_file.ensures ∙ c.if-names_file.true) c.in_ok-links.ensures.found
 
 pub put_in-requires-clause-name : goal.put_in-requires-clause-name
 put_in-requires-clause-name g c =
@@ -33,7 +33,7 @@ pub returns-clause-value : goal.returns-clause-value
 returns-clause-value g c =
     let l = link_known c.args.key.now _ c.in-Some.link c.requires.name c.in_ok-link.ensures c.in-Some.is in
     insert_known (place_of c.args.dir.now) c.args.up.now c.args.dir.now.root c.in-Some.link.name c.args.dir.now.used (own_key c.args.key.now) c.args.fresh.now (ap (λ (k : Link). k.name) l) _ _ c.put_in.result c.in_ok-links.ensures.same
-    (has_known (place_of c.args.dir.now) c.args.up.now c.args.dir.now.root c.in-Some.link.name c.args.dir.now.used (own_key c.args.key.now) c.args.fresh.now (ap (λ (k : Link). k.name) l) _ c.in_ok-links.links false (ap (list_any (is_of c.args.key.now.child)) (sym c.as_slice.ensures) ∙ sym c.names_file.ensures ∙ c.if-names_file.false) c.in_ok-links.ensures.found) c.put_in.ensures.value
+    (has_known (place_of c.args.dir.now) c.args.up.now c.args.dir.now.root c.in-Some.link.name c.args.dir.now.used (own_key c.args.key.now) c.args.fresh.now (ap (λ (k : Link). k.name) l) _ c.in_ok-links.links false (ap (list_any (names_file c.args.key.now.child)) (sym c.as_slice.ensures) ∙ sym c.names_file.ensures ∙ c.if-names_file.false) c.in_ok-links.ensures.found) c.put_in.ensures.value
 
 pub returns-in_err-links-clause-search : goal.returns-in_err-links-clause-search
 returns-in_err-links-clause-search g c =

@@ -13,7 +13,10 @@ returns-in_err-add_line c =
     let commands = c.loop-line.commands in
     let pieces = slice_split (λ (b : ℕ). b == 10) c.in-Some.behind.now in
     let so_far = ap (λ (lines : List (List ℕ)). commands_from number commands lines) (sym c.in-Some.ensures.0) ∙ c.loop-line.invariant.read in
-    rw (p.1, p.2) (line_at_fault number commands c.in-Some.line.now pieces c.in_err-add_line.field-0.0 (commands_in c.args.bytes.now) (some_piece c.in-Some.behind.now) c.in_err-add_line.ensures.err so_far)
+    rw (p.1, p.2) (record {
+      value = line_at_fault number commands c.in-Some.line.now pieces c.in_err-add_line.field-0.0 (commands_in c.args.bytes.now) (some_piece c.in-Some.behind.now) c.in_err-add_line.ensures.err so_far;
+      looks = tt;
+    })
 
 pub loop-line-preserved : goal.loop-line-preserved
 loop-line-preserved c =
@@ -24,5 +27,6 @@ loop-line-preserved c =
     record {
       read = next_line number commands c.add_line.new.commands c.in-Some.line.now pieces (commands_in c.args.bytes.now) (some_piece c.in-Some.behind.now) c.in_ok-add_line.ensures.ok so_far;
       counts = c.in_ok-add_line.ensures.counts;
+      looks = c.in_ok-add_line.ensures.looks;
       lines = omega (arith, c.in-Some.ensures.1);
     }

@@ -7,7 +7,7 @@ use Rattle.index_tree.proofs.Listed.{nothing_counted, none_listed}
 use Rattle.index_tree.proofs.blocks.BlockList.of_blocks.Goals as goal
 
 pub invariant_of-result : goal.invariant_of-result
-invariant_of-result c = subst (λ (e : Extents). IsCounted c.unwrap.result e true 0) (sym c.no_extents.ensures) (nothing_counted c.unwrap.result)
+invariant_of-result c = subst (λ (e : Extents). IsCounted c.unwrap.result e true 0) (sym c.no_extents.ensures.value) (nothing_counted c.unwrap.result)
 
 pub returns : goal.returns
-returns c = ap (λ (e : Extents). blocks_of c.unwrap.result e ++ c.args.blocks.items) c.no_extents.ensures ∙ none_listed c.unwrap.result no_extents c.args.blocks.items refl
+returns c = ap (λ (e : Extents). blocks_of c.unwrap.result e ++ c.args.blocks.items) c.no_extents.ensures.value ∙ none_listed c.unwrap.result no_extents c.args.blocks.items refl

@@ -1,8 +1,0 @@
-use Rattle.std.proofs.Common.{◌≡◌, ◌++◌, drop}
-use Rattle.std.specs.List.{flat_map}
-use Rattle.state_model.specs.Streams.{attribute_runs}
-use Rattle.cluster_owners.proofs.gathering.push_attrs.Given as goal
-
--- the runs so far and those of the attributes that are left are all
-abbrev pub invariant-loop-attr : goal.invariant-loop-attr
-invariant-loop-attr l = l.out.items ++ flat_map attribute_runs (drop l.attr-index l.attrs) ≡ l.initial.out.items ++ flat_map attribute_runs l.attrs

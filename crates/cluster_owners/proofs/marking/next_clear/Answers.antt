@@ -1,9 +1,0 @@
-use Rattle.std.proofs.Common.{◌∙◌}
-use Rattle.cluster_owners.proofs.Clear.{next_is, next_none}
-use Rattle.cluster_owners.proofs.marking.next_clear.Goals as goal
-
-pub returns-in-Some : goal.returns-in-Some
-returns-in-Some c = next_is c.args.bits.now c.args.from c.in-Some.at c.in-Some.ensures
-
-pub returns-in-None : goal.returns-in-None
-returns-in-None c = c.bits.ensures ∙ next_none c.args.bits.now c.args.from c.in-None.ensures

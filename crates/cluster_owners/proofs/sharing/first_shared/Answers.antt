@@ -1,5 +1,0 @@
-use Rattle.cluster_owners.proofs.Judging.{shared_called}
-use Rattle.cluster_owners.proofs.sharing.first_shared.Goals as goal
-
-pub returns : goal.returns
-returns c = shared_called c.args.clusters c.args.runs.now c.in_ok-places.places.items c.deref.result.now c.least_shared.result c.in_ok-places.ensures.below c.in_ok-places.ensures.same c.deref.ensures.value c.least_shared.ensures

@@ -1,0 +1,28 @@
+-- Steps of a choice of clusters.
+use Rattle.std.specs.Prelude.{◌≡◌, ℕ, ◌+◌, ◌-◌, ◌<◌, ◌≤◌, Bool, not, List, ◌++◌, count_by, Option}
+use Rattle.record_model.specs.declared.runs.Run.{Run}
+use Rattle.bit_set.specs.Bits.{IsClearRun}
+use Rattle.space_model.specs.Choosing.{at_once, lowest_fit, chosen_anywhere, chosen, with_runs}
+
+-- the run that is taken next where so many are wanted
+pub record IsNextRun (bits : List Bool) (wanted first len : ℕ) : Type 0 where
+  pub some : 0 < len
+  pub once : at_once wanted bits ≡ len
+  pub fit : lowest_fit len bits ≡ first
+  pub few : len ≤ wanted
+  pub clear : IsClearRun bits first len
+
+-- A run of so many was added: it and what is chosen from now on are what was chosen before.
+pub record TakesRun (old new : List Bool) (before after : List Run) (vcn wanted len : ℕ) : Type 0 where
+  pub some : 0 < len
+  pub few : len ≤ wanted
+  pub room : count_by not new + len ≡ count_by not old
+  pub runs : after ++ chosen_anywhere (wanted - len) new (vcn + len) (wanted - len) ≡ before ++ chosen_anywhere wanted old vcn wanted
+  pub bits : with_runs (chosen_anywhere (wanted - len) new (vcn + len) (wanted - len)) new ≡ with_runs (chosen_anywhere wanted old vcn wanted) old
+
+-- The same of what lies directly behind the last cluster: so many, or none.
+pub record TakesBehind (old new : List Bool) (after : List Run) (last : Option ℕ) (wanted len : ℕ) : Type 0 where
+  pub few : len ≤ wanted
+  pub room : wanted ≤ count_by not old → wanted - len ≤ count_by not new
+  pub runs : after ++ chosen_anywhere (wanted - len) new len (wanted - len) ≡ chosen old last wanted
+  pub bits : with_runs (chosen_anywhere (wanted - len) new len (wanted - len)) new ≡ with_runs (chosen old last wanted) old

@@ -1,0 +1,9 @@
+//! Which clusters a stream gets that grows.
+//!
+//! The contract: the laws of these definitions, as functions with no body. Clusters and their bits
+//! are those of the Linux-NTFS documentation, "Data runs" and "File - $Bitmap".
+#![tactic(auto)]
+
+mod laws;
+
+pub use laws::chosen_are_free;

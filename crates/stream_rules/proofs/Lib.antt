@@ -1,0 +1,11 @@
+pub mod Following
+pub mod Numbers
+pub mod Passing
+pub mod Steps
+pub mod Clear
+pub mod Counting
+pub mod Failing
+pub mod FileRuns
+pub mod Judging
+pub mod Overlaps
+pub mod RunPlaces

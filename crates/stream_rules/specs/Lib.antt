@@ -1,0 +1,4 @@
+pub mod Errors
+pub mod Volumes
+pub mod Breaches
+pub mod Places

@@ -1,4 +1,0 @@
-pub mod Following
-pub mod Numbers
-pub mod Passing
-pub mod Steps

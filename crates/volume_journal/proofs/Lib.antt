@@ -1,3 +1,0 @@
-pub mod PagesLeft
-pub mod Shapes
-pub mod WithoutRecords

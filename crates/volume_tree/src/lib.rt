@@ -1,0 +1,17 @@
+//! What the files of a loaded volume stand for: their names, the nodes with their kinds, why these
+//! can't be changed, and the sizes of their data, and the tree of them with the spare numbers.
+//!
+//! The contract: names, nodes and tree are those of the definitions; nodes are without their bytes.
+//! The layouts are those of the Linux-NTFS documentation, "FILE Record", "Attribute Header",
+//! "$FILE_NAME" and "$STANDARD_INFORMATION".
+#![tactic(auto)]
+
+mod kind;
+mod names;
+mod node;
+mod stream;
+mod tree;
+
+pub use names::{Names, names_of};
+pub use node::bare_nodes;
+pub use tree::tree_with;
