@@ -103,7 +103,7 @@ not_partial own geometry volume s sound image left whole b known =
         not_other own geometry volume (list_of s image) image.sectors b (image_level geometry s sound image) whole known claimed
         (stands_alone geometry s sound image left b j.0 (omega (arith, j.1, size_known own geometry volume b known)) (claimed_is (list_of s image) b claimed) j.2)
 
-none_partial : (own : ℕ → Bool) (geometry : Geometry) → IsVolume own geometry → (disk : Content) (log l : List Entry) → ((b : Block) → is_known own b ≡ true → is_partial disk log b ≡ false) → AllByRecursion (IsStored geometry) l
+pub none_partial : (own : ℕ → Bool) (geometry : Geometry) → IsVolume own geometry → (disk : Content) (log l : List Entry) → ((b : Block) → is_known own b ≡ true → is_partial disk log b ≡ false) → AllByRecursion (IsStored geometry) l
     → find (λ (e : Entry). updates_partial disk log e.act) l ≡ None
 none_partial own geometry volume disk log [] never stored = refl
 none_partial own geometry volume disk log (e ∷ l) never stored = rw (here e.act stored.0.known) (none_partial own geometry volume disk log l never stored.1)

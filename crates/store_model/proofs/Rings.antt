@@ -180,7 +180,7 @@ entries_front (page ∷ pages) (suc n) = front page (entries_on (take n pages)) 
     front (x ∷ xs) ys zs h = ap (λ (l : List Entry). x ∷ l) (front xs ys zs h)
 
 -- more pages have no fewer entries
-entries_longer : (pages : List (List Entry)) (m n : ℕ) → m ≤ n → length (entries_on (take m pages)) ≤ length (entries_on (take n pages))
+pub entries_longer : (pages : List (List Entry)) (m n : ℕ) → m ≤ n → length (entries_on (take m pages)) ≤ length (entries_on (take n pages))
 entries_longer pages zero n le = omega arith
 entries_longer [] (suc m) zero le = absurd (omega (arith, le))
 entries_longer [] (suc m) (suc n) le = omega arith
@@ -290,7 +290,7 @@ restarts-step r r' (sync_after d) are = record {
 -- ---- the images of a store
 
 -- pages behind some from the front have the entries behind theirs
-drop_entries : (pages : List (List Entry)) (n : ℕ) → drop (length (entries_on (take n pages))) (entries_on pages) ≡ entries_on (drop n pages)
+pub drop_entries : (pages : List (List Entry)) (n : ℕ) → drop (length (entries_on (take n pages))) (entries_on pages) ≡ entries_on (drop n pages)
 drop_entries pages zero = none (entries_on pages) pages refl
   where
     none : (l : List Entry) (pages : List (List Entry)) → l ≡ entries_on pages → drop (length (entries_on (take 0 pages))) l ≡ entries_on pages
@@ -306,7 +306,7 @@ drop_entries (page ∷ pages) (suc n) =
     behind (x ∷ xs) ys k = ap (λ (n : ℕ). drop n (x ∷ xs ++ ys)) (let e : length (x ∷ xs) + k ≡ suc (length xs + k) = omega arith in e) ∙ behind xs ys k
 
 -- the entries of pages in two parts
-take_entries : (pages : List (List Entry)) (m n : ℕ) → length (entries_on (take (m + n) pages)) ≡ length (entries_on (take m pages)) + length (entries_on (take n (drop m pages)))
+pub take_entries : (pages : List (List Entry)) (m n : ℕ) → length (entries_on (take (m + n) pages)) ≡ length (entries_on (take m pages)) + length (entries_on (take n (drop m pages)))
 take_entries pages zero n = ap (λ (k : ℕ). length (entries_on (take k pages))) (let e : 0 + n ≡ n = omega arith in e) ∙ none pages
   where
     none : (pages : List (List Entry)) → length (entries_on (take n pages)) ≡ length (entries_on (take 0 pages)) + length (entries_on (take n (drop 0 pages)))

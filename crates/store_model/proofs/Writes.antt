@@ -29,7 +29,7 @@ use Rattle.store_model.proofs.Volumes.{size_known, known_sized, claimed_is, none
 use Rattle.store_model.proofs.Images.{image_entries, image_level, not_partial}
 
 -- a block with an update in the list of a store is known
-some_known : (geometry : Geometry) (l : List Entry) (b : Block) → AllByRecursion (IsStored geometry) l → has_update l b ≡ true → 0 < geometry.size b
+pub some_known : (geometry : Geometry) (l : List Entry) (b : Block) → AllByRecursion (IsStored geometry) l → has_update l b ≡ true → 0 < geometry.size b
 some_known geometry [] b stored has = absurd (true≢false (sym has))
 some_known geometry (e ∷ l) b stored has = go (λ h. some_known geometry l b stored.1 h) (updates b e.act) refl
   where

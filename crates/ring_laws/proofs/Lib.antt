@@ -1,0 +1,14 @@
+pub mod Numbering
+pub mod LogSectors
+pub mod Mixing
+pub mod RingFacts
+pub mod RingWrites
+pub mod RingCalls
+pub mod RingReads
+pub mod RestartFacts
+pub mod RestartWrites
+pub mod RestartCalls
+pub mod StoreImages
+pub mod StoreEvents
+pub mod SeenDisks
+pub mod StoreRecovers

@@ -1,0 +1,8 @@
+pub mod Numbers
+pub mod PageBytes
+pub mod RingPages
+pub mod RestartPages
+pub mod Laws
+pub mod StoreLogs
+pub mod StoreDisks
+pub mod DeviceImages
