@@ -142,7 +142,7 @@ module _ (touched : ℕ → Bool) (streams : StreamKey → Bool) (records : ℕ 
       (of_file (LeavesIndex writes v.per) index_allocation names_index (file_in v m) r is
       (planned_index streams records c g clusters v writes s k (spares.indexes m r other is directory) (other_kind m index_allocation names_index (λ equal. omega (arith, equal))) spares.void))
 
-  same_shown_at : (m : ℕ) → touched m ≡ false → SameShownAt c (overlay c writes) v m
+  pub same_shown_at : (m : ℕ) → touched m ≡ false → SameShownAt c (overlay c writes) v m
   unfolding data_stream
   same_shown_at m other r is =
       let s : StreamKey = record { file = m; kind = data_type; name = [] } in

@@ -1,0 +1,7 @@
+ghost use Rattle.plan_owners.specs.States.{StatesStand};
+
+/// Law: in a state the file table begins where the boot sector says, no cluster lies twice in the
+/// volume, and no attribute list names a record that isn't one of its own file's.
+pub fn states_stand()
+    ensures { StatesStand }
+{}
