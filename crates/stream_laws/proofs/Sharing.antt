@@ -123,7 +123,7 @@ attribute_kind kind name a is =
 
 -- ---- streams of one file
 
-stream_of_file : (kind : ℕ) (name : List ℕ) (o : Option Record) (x : ℕ) → uses (runs_in (file_stream kind name o)) x ≤ file_uses x o
+pub stream_of_file : (kind : ℕ) (name : List ℕ) (o : Option Record) (x : ℕ) → uses (runs_in (file_stream kind name o)) x ≤ file_uses x o
 stream_of_file kind name None x = omega arith
 stream_of_file kind name (Some r) x = omega (arith, stream_uses kind name r.attrs x, filter_of_all (attr_uses x) (is_attribute_of kind name) r.attrs, uses-flat_map attribute_runs r.attrs x)
 

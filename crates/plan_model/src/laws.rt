@@ -1,0 +1,14 @@
+ghost use Rattle.plan_model.specs.Edits.{FilesEdited};
+ghost use Rattle.plan_model.specs.Attributes.{ValuesRewritten};
+
+/// Law: an edit whose new files keep the rules leads from a state to a state, and leaves the nodes
+/// and spare numbers of all other files.
+pub fn files_edited()
+    ensures { FilesEdited }
+{}
+
+/// Law: where values that stand in a record are written anew, its streams in clusters, its types and
+/// all that its other attributes say stay.
+pub fn values_rewritten()
+    ensures { ValuesRewritten }
+{}
