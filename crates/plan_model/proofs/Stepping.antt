@@ -158,7 +158,7 @@ module _ (streams : StreamKey → Bool) (c : Content) (g : Geometry) (clusters :
       volume_written c writes g clusters v (is_edited edits) k.spares.sized s.loaded boot_left rewrites
       ∙ ap (λ (w : Volume). Ok w) (edits_changed (overlay c writes) v edits k.distinct k.files)
 
-tree_nodes : (c : Content) (v : Volume) (m : ℕ) → node_by_number (tree_of c v).nodes m ≡ node_at (bytes_or c v.per) v m
+pub tree_nodes : (c : Content) (v : Volume) (m : ℕ) → node_by_number (tree_of c v).nodes m ≡ node_at (bytes_or c v.per) v m
 unfolding tree_of tree_with
 tree_nodes c v m = found_by_number (bytes_or c v.per) v m
 

@@ -1,2 +1,4 @@
 pub mod Edits
 pub mod Attributes
+pub mod Bodies
+pub mod Informed

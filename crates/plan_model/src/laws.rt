@@ -1,4 +1,6 @@
+ghost use Rattle.plan_model.specs.Bodies.{BodiesPut};
 ghost use Rattle.plan_model.specs.Edits.{FilesEdited};
+ghost use Rattle.plan_model.specs.Informed.{TimesChanged};
 ghost use Rattle.plan_model.specs.Attributes.{ValuesRewritten};
 
 /// Law: an edit whose new files keep the rules leads from a state to a state, and leaves the nodes
@@ -11,4 +13,16 @@ pub fn files_edited()
 /// all that its other attributes say stay.
 pub fn values_rewritten()
     ensures { ValuesRewritten }
+{}
+
+/// Law: whole bodies over one content, each of its own block, stand in their blocks; more of them are
+/// put into the one list.
+pub fn bodies_put()
+    ensures { BodiesPut }
+{}
+
+/// Law: where a file's record is put whole with other standard information, a state becomes one of a
+/// tree that differs in this alone.
+pub fn times_changed()
+    ensures { TimesChanged }
 {}

@@ -134,7 +134,7 @@ module _ (touched : ℕ → Bool) (streams : StreamKey → Bool) (records : ℕ 
   same_record : (m : ℕ) → m < count_of v → touched m ≡ false → bit (record_bits c v) m ≡ false → SameRecordIn c (overlay c writes) v.per v.table m
   same_record m below other clear = record_agrees c writes v.per v.table m spares.sized (planned_record streams records c g clusters v writes m k (spares.free m below other clear))
 
-  same_index_at : (m : ℕ) → touched m ≡ false → SameIndexAt c (overlay c writes) v m
+  pub same_index_at : (m : ℕ) → touched m ≡ false → SameIndexAt c (overlay c writes) v m
   unfolding index_stream
   same_index_at m other r is directory =
       let s : StreamKey = record { file = m; kind = index_allocation; name = names_index } in
