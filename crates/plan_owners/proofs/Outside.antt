@@ -209,12 +209,15 @@ rule_5 : (v : Volume) → broken_5 v ≡ None → (x : ℕ) → x < v.clusters �
 unfolding broken_5
 rule_5 v none x below = passes_below (keeps_owner (volume_runs v.files)) v.clusters none x below
 
+pub unused_outside : (c : Content) (g : Geometry) (clusters : ℕ) (v : Volume) (x : ℕ) → Stands c g clusters v → v.clusters ≤ x → uses (volume_runs v.files) x ≡ 0
+unused_outside c g clusters v x s past =
+    let none = none_in_all (file_uses x) v.files (λ n o is. file_outside c g clusters v x n o s past (slice_at v.files n o None is)) in
+    volume_sum v.files x ∙ none
+
 pub once : (c : Content) (g : Geometry) (clusters : ℕ) (v : Volume) → Stands c g clusters v → AreOnce (volume_runs v.files)
 once c g clusters v s x = elim (cases_lt x v.clusters) [
   | inl below ↦ within (rule_5 v (rules_of c v s.kept).rule_5 x below)
-  | inr past ↦
-      (let none = none_in_all (file_uses x) v.files (λ n o is. file_outside c g clusters v x n o s past (slice_at v.files n o None is)) in
-      omega (arith, volume_sum v.files x, none))
+  | inr past ↦ (let none = unused_outside c g clusters v x s past in omega arith)
 ]
   where
     within : keeps_owner (volume_runs v.files) x ≡ true → uses (volume_runs v.files) x ≤ 1
