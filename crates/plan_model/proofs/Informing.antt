@@ -20,7 +20,7 @@ use Rattle.state_model.specs.Indexes.{is_names_root}
 use Rattle.state_model.specs.Loads.{Slot, Free, Used, slot_of, slot_at, is_used, whole_record, table_slot, table_in}
 use Rattle.state_model.specs.Rules.{first_failing, implies, at_file, is_directory_with, keeps_names, keeps_1, keeps_2, keeps_8}
 use Rattle.state_model.specs.Trees.{is_system}
-use Rattle.volume_model.specs.Volumes.{Volume, count_of, file_in, files_by_number, bytes_or, block_bytes, record_bytes, record_block, is_in_use, cluster_bitmap, record_bits, cluster_bits, table_file, bitmap_file, upcase_file, upper_of}
+use Rattle.volume_model.specs.Volumes.{Volume, count_of, file_in, files_by_number, bytes_or, block_bytes, record_bytes, record_block, is_in_use, file_stream, cluster_bitmap, record_bits, cluster_bits, table_file, bitmap_file, upcase_file, upper_of}
 use Rattle.volume_model.specs.Indexes.{index_place, index_links, index_stream, stream_blocks, links_below, lists_names, keeps_index}
 use Rattle.volume_model.specs.Nodes.{first_flags, kind_in, data_shown, some_node, node_at, free_clusters}
 use Rattle.volume_model.specs.Owners.{file_runs, volume_runs, uses, keeps_cluster_bit, keeps_record_bit}
@@ -31,7 +31,11 @@ use Rattle.volume_state.specs.Trees.{tree_with, tree_of, volume_journal}
 use Rattle.index_model.specs.Indexes.{Place}
 use Rattle.stream_laws.specs.Replacing.{FileEdit, OneFileDiffers, with_edits}
 use Rattle.stream_laws.specs.Rewrites.{StandsAlone, is_edited}
-use Rattle.stream_laws.specs.Sharing.{StreamKey}
+use Rattle.stream_laws.specs.Owners.{initialised_in}
+use Rattle.stream_laws.specs.Sharing.{StreamKey, runs_in}
+use Rattle.stream_laws.proofs.Replacing.{clusters_replaced}
+use Rattle.plan_model.specs.Drafts.{GoesOn}
+use Rattle.plan_model.proofs.Quiet.{KeepsExtents, owns_as_before, live_before, record_owned}
 use Rattle.stream_laws.specs.Tables.{table_key}
 use Rattle.record_model.specs.declared.runs.Run.{Run}
 use Rattle.state_model.specs.Files.{is_base_record}
@@ -53,7 +57,7 @@ use Rattle.tree_laws.proofs.Climbing.{system_everywhere}
 use Rattle.tree_laws.proofs.Keeping.{rules_of, passes_below}
 use Rattle.tree_laws.proofs.Naming.{this_or_other, names_everywhere, file_elsewhere, links_kept}
 use Rattle.tree_laws.proofs.Owning.{same_5, same_6}
-use Rattle.tree_laws.proofs.Parting.{record_bits_stay, spare_stay, room_stays, upper_stays, number_stays}
+use Rattle.tree_laws.proofs.Parting.{record_bits_stay, cluster_bits_stay, spare_stay, room_stays, upper_stays, number_stays}
 use Rattle.tree_laws.proofs.Planning.{planned_agree, planned_bytes, same_index_at, same_shown_at}
 use Rattle.stream_laws.proofs.Changing.{bytes_agree}
 use Rattle.tree_laws.proofs.Ruling.{same_listed, same_name_in, same_count, keeps_both, rule_7}
@@ -65,7 +69,7 @@ use Rattle.plan_model.specs.Edits.{WritesFiles, LeadsTo}
 use Rattle.plan_model.specs.Informed.{is_info, IsApart, PutsRecord, with_record, with_info, InfoDiffers}
 use Rattle.plan_model.proofs.OneRecord.{OnlySmall, small_data, small_pieces, small_blocks, small_names, small_1, small_4, sizes_from, OwnRecord, own_record, slot_begins, slot_put, uncut, small_alone, small_base, file_slot, void_elsewhere, small_some}
 use Rattle.plan_model.proofs.Putting.{block_itself}
-use Rattle.plan_model.proofs.Rewriting.{same_uses, same_directory, same_root}
+use Rattle.plan_model.proofs.Rewriting.{same_runs, same_initialised, same_uses, same_directory, same_root}
 use Rattle.plan_model.proofs.Stepping.{written_within, files_edited, tree_nodes}
 
 only_info : OnlySmall is_info
@@ -408,3 +412,43 @@ module _ (c : Content) (g : Geometry) (clusters : ℕ) (v : Volume) (n : ℕ) (r
     journal = ap some_journal journal_now;
     room = room_stays d v files n differs apart.bitmap ∙ ap (count_by not) clusters_same;
   }
+
+  -- ---- as an edit of a plan
+
+  with_same : (kind : ℕ) (name : List ℕ) (m : ℕ) → runs_in (file_stream kind name (file_in w m)) ≡ runs_in (file_stream kind name (file_in v m))
+  with_same kind name m =
+      this_or_other (λ (x : ℕ). runs_in (file_stream kind name (file_in w x)) ≡ runs_in (file_stream kind name (file_in v x))) n m
+      (ap (λ (o : Option Record). runs_in (file_stream kind name o)) at_n ∙ same_runs is_info r s kind name k ∙ sym (ap (λ (o : Option Record). runs_in (file_stream kind name o)) p.file))
+      (λ other. ap (λ (o : Option Record). runs_in (file_stream kind name o)) (file_elsewhere (table_in v.files) (table_in files) n m differs.others other))
+
+  sizes_same : (kind : ℕ) (name : List ℕ) (m : ℕ) → initialised_in (file_stream kind name (file_in w m)) ≡ initialised_in (file_stream kind name (file_in v m))
+  sizes_same kind name m =
+      this_or_other (λ (x : ℕ). initialised_in (file_stream kind name (file_in w x)) ≡ initialised_in (file_stream kind name (file_in v x))) n m
+      (ap (λ (o : Option Record). initialised_in (file_stream kind name o)) at_n ∙ same_initialised is_info r s kind name k ∙ sym (ap (λ (o : Option Record). initialised_in (file_stream kind name o)) p.file))
+      (λ other. ap (λ (o : Option Record). initialised_in (file_stream kind name o)) (file_elsewhere (table_in v.files) (table_in files) n m differs.others other))
+
+  extents_kept : KeepsExtents v w
+  extents_kept = record { per = refl; runs = λ t. with_same t.kind t.name t.file; sizes = λ t. sizes_same t.kind t.name t.file }
+
+  all_clusters : (x : ℕ) → uses (volume_runs files) x ≡ uses (volume_runs v.files) x
+  all_clusters x = let sum = clusters_replaced v.files files n x differs in let same = same_clusters x in omega arith
+
+  pub goes_on_informed : (first : Content) (start : Volume) (gave : ℕ → Option BlockKind) → ((kind : BlockKind) (x : ℕ) → gave x ≡ Some kind → bit (cluster_bits first start) x ≡ false) → GoesOn first start c g clusters v (b ∷ []) (with_record v n s) gave gave
+  goes_on_informed first start gave clear = record {
+    whole = bodies;
+    stands = leads_to.stands;
+    marks = record {
+      cleared = λ x low less. (let same = all_clusters x in absurd (omega arith));
+      set = λ x low less. (let same = all_clusters x in absurd (omega arith));
+      others = λ x low equal. ap (λ (l : List Bool). bit l x) (cluster_bits_stay d v files n differs apart.bitmap ∙ clusters_same);
+    };
+    kept = λ kind x given. given;
+    takes = λ kind x owns. inl (owns_as_before v w extents_kept kind x owns);
+    clear = clear;
+    touched = (inl (record_owned c g clusters v n b.block state p.place), tt);
+    covers = λ x live. inl (live_before v w extents_kept x live);
+  }
+
+pub times_go_on : (c : Content) (v : Volume) (d : Content) (g : Geometry) (clusters : ℕ) (w : Volume) (n : ℕ) (r s : Record) (p : NewBody) (gave : ℕ → Option BlockKind) → HasSizes d → Stands d g clusters w → IsApart n → PutsRecord w n r s p
+    → RewritesValues is_info r s → ((kind : BlockKind) (x : ℕ) → gave x ≡ Some kind → bit (cluster_bits c v) x ≡ false) → GoesOn c v d g clusters w (p ∷ []) (with_record w n s) gave gave
+times_go_on c v d g clusters w n r s p gave sized state apart puts_it k clear = goes_on_informed d g clusters w n r s p sized state apart puts_it k c v gave clear

@@ -3,3 +3,5 @@ pub mod Rewriting
 pub mod Putting
 pub mod OneRecord
 pub mod Informing
+pub mod Drafting
+pub mod Quiet

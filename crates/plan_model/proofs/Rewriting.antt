@@ -20,6 +20,7 @@ use Rattle.state_model.specs.Streams.{form_first, first_vcn, is_attribute_of, wi
 use Rattle.volume_model.specs.Indexes.{attr_value, root_value}
 use Rattle.volume_model.specs.Owners.{file_runs}
 use Rattle.volume_model.specs.Sizes.{follow, are_joined, fits_volume, keeps_stream}
+use Rattle.stream_laws.specs.Owners.{initialised_in}
 use Rattle.stream_laws.specs.Sharing.{runs_in}
 use Rattle.plan_model.specs.Attributes.{IsValue, IsRewritten, AreRewritten, RewritesValues, SparesAll}
 
@@ -303,3 +304,29 @@ reads_root a b same_kind same_name = ap₂ (λ (k : ℕ) (l : List ℕ). eqb k i
 pub same_root : (may : Attr → Bool) (r s : Record) → RewritesValues may r s → SparesAll may is_names_root → root_value s ≡ root_value r
 unfolding root_value
 same_root may r s k spares = ap attr_value (find_spared may is_names_root spares reads_root r.attrs s.attrs k.attrs)
+
+-- ---- initialised sizes
+
+value_size : (form : OwnForm) (runs : List Run) → IsValue form → initialised_in (Some (form_stream form runs)) ≡ 0
+value_size (Resident value indexed) runs is = refl
+value_size (Mapped sizes pairs) runs is = absurd is
+
+form_size : (form : OwnForm) (runs others : List Run) → initialised_in (Some (form_stream form runs)) ≡ initialised_in (Some (form_stream form others))
+form_size (Resident value indexed) runs others = refl
+form_size (Mapped sizes pairs) runs others = refl
+
+joined_size : (may : Attr → Bool) (attrs others : List Attr) → AreRewritten may attrs others → initialised_in (joined others) ≡ initialised_in (joined attrs)
+joined_size may [] [] all = refl
+joined_size may [] (y ∷ others) all = absurd all
+joined_size may (x ∷ attrs) [] all = absurd all
+joined_size may (x ∷ attrs) (y ∷ others) all = by all.0
+  where
+    by : (y ≡ x) ⊎ ((may x ≡ true) × IsRewritten x y) → initialised_in (joined (y ∷ others)) ≡ initialised_in (joined (x ∷ attrs))
+    by (inl same) =
+        ap (λ (a : Attr). initialised_in (Some (form_stream a.form (flat_map attribute_runs (y ∷ others))))) same
+        ∙ form_size x.form (flat_map attribute_runs (y ∷ others)) (flat_map attribute_runs (x ∷ attrs))
+    by (inr anew) = value_size y.form (flat_map attribute_runs (y ∷ others)) anew.1.new ∙ sym (value_size x.form (flat_map attribute_runs (x ∷ attrs)) anew.1.old)
+
+pub same_initialised : (may : Attr → Bool) (r s : Record) (kind : ℕ) (name : List ℕ) → RewritesValues may r s → initialised_in (stream_of kind name s.attrs) ≡ initialised_in (stream_of kind name r.attrs)
+unfolding stream_of
+same_initialised may r s kind name k = joined_size may (attributes_of kind name r.attrs) (attributes_of kind name s.attrs) (attributes_alike may kind name r.attrs s.attrs k.attrs)

@@ -2,3 +2,4 @@ pub mod Edits
 pub mod Attributes
 pub mod Bodies
 pub mod Informed
+pub mod Drafts

@@ -1,4 +1,5 @@
 ghost use Rattle.plan_model.specs.Bodies.{BodiesPut};
+ghost use Rattle.plan_model.specs.Drafts.{DraftsGoOn};
 ghost use Rattle.plan_model.specs.Edits.{FilesEdited};
 ghost use Rattle.plan_model.specs.Informed.{TimesChanged};
 ghost use Rattle.plan_model.specs.Attributes.{ValuesRewritten};
@@ -25,4 +26,10 @@ pub fn bodies_put()
 /// tree that differs in this alone.
 pub fn times_changed()
     ensures { TimesChanged }
+{}
+
+/// Law: a plan begins empty and goes on edit by edit, into one list of whole bodies, and no block of
+/// it is a rival of one that the first state owns or of another of its own.
+pub fn drafts_go_on()
+    ensures { DraftsGoOn }
 {}

@@ -6,4 +6,4 @@
 
 mod laws;
 
-pub use laws::{bodies_put, files_edited, times_changed, values_rewritten};
+pub use laws::{bodies_put, drafts_go_on, files_edited, times_changed, values_rewritten};
