@@ -161,7 +161,7 @@ planned_agrees touched streams records c g clusters v w writes k spares bits = r
   free = same_record touched streams records c g clusters v writes k spares;
 }
 
-journal_agrees : (streams : StreamKey → Bool) (records : ℕ → Bool) (c : Content) (g : Geometry) (clusters : ℕ) (v : Volume) (writes : List Write) → WritesWithin streams records c g clusters v writes
+pub journal_agrees : (streams : StreamKey → Bool) (records : ℕ → Bool) (c : Content) (g : Geometry) (clusters : ℕ) (v : Volume) (writes : List Write) → WritesWithin streams records c g clusters v writes
     → ((m : ℕ) → journal_number (upper_of c v) v ≡ Some m → streams (record { file = m; kind = data_type; name = entries_name }) ≡ false) → SameEntries c (overlay c writes) (upper_of c v) v
 unfolding entries_name
 journal_agrees streams records c g clusters v writes k apart r is =
