@@ -1,5 +1,16 @@
 -- A file is made in a directory.
-use Rattle.std.proofs.Common.{◌≡◌, ◌≢◌, ◌⊎◌, ℕ, ◌*◌, ◌<◌, ◌≤◌, Bool, true, false, not, ◌&&◌, ◌||◌, cond, eqb, nat_eq, List, [], ◌∷◌, ◌++◌, length, Option, Some, None, refl, sym, ap, ap₂, subst, ◌∙◌, inl, inr, arith}
+use Rattle.stream_laws.specs.Owners.{stream_kind, initialised_in, Owns, IsLive}
+use Rattle.stream_laws.specs.Sharing.{stream_at, runs_in}
+use Rattle.stream_laws.proofs.Changing.{has_sectors}
+use Rattle.stream_laws.proofs.Placing.{lies, lies_in_cluster, is_used}
+use Rattle.stream_laws.proofs.Replacing.{clusters_replaced}
+use Rattle.stream_laws.proofs.Sharing.{file_uses, stream_of_file}
+use Rattle.plan_model.specs.Drafts.{GoesOn}
+use Rattle.plan_model.proofs.Quiet.{record_owned}
+use Rattle.disk_model.specs.declared.block.Block.{Block}
+use Rattle.disk_model.specs.declared.block.BlockKind.{BlockKind}
+use Rattle.state_model.specs.Streams.{block_at}
+use Rattle.std.proofs.Common.{◌≡◌, ◌≢◌, ◌⊎◌, ℕ, ◌*◌, ◌<◌, ◌≤◌, Bool, true, false, not, ◌&&◌, ◌||◌, cond, eqb, nat_eq, List, [], ◌∷◌, ◌++◌, length, Option, Some, None, refl, sym, ap, ap₂, subst, ◌∙◌, inl, inr, arith, ◌/◌}
 use Rattle.std.specs.Prelude.{count_by}
 use Rattle.std.specs.List.{list_all, list_any, AllByRecursion}
 use Rattle.std.specs.Option.{option_map}
@@ -7,6 +18,7 @@ use Rattle.std.specs.Cmp.Lexicographic.{pointwise}
 use Rattle.std.proofs.lemmas.Bool.{cases_Bool, cases_eq, and_parts, and_from, or_from, or_left, or_right, both_ways, eqb-true, ne_eqb, eq-eqb, le-ltb}
 use Rattle.host_base.specs.declared.file_ref.FileRef.{FileRef}
 use Rattle.host_base.specs.FileRefs.{same_reference}
+use Rattle.disk_model.specs.Sectors.{sectors}
 use Rattle.disk_model.specs.Content.{Content, HasSizes}
 use Rattle.disk_model.specs.Writes.{Write}
 use Rattle.record_model.specs.declared.runs.Run.{Run}
@@ -17,11 +29,9 @@ use Rattle.file_tree.specs.declared.node.Kind.{Kind}
 use Rattle.file_tree.specs.declared.node.Kind.TheVariants.{Directory}
 use Rattle.bit_set.specs.Bits.{bit}
 use Rattle.state_model.specs.declared.geometry.Geometry.{Geometry}
-use Rattle.state_model.specs.declared.stream.Extents.{Extents}
 use Rattle.state_model.specs.declared.stream.Stream.{Stream}
-use Rattle.state_model.specs.declared.stream.Stream.TheVariants.{Held, Placed}
 use Rattle.state_model.specs.Files.{file_at, reference, links_of, links_at, record_links, is_directory_record, info_of}
-use Rattle.state_model.specs.Loads.{Slot, Used, table_slot, table_in, record_count, extents_or, has_cut_index_block}
+use Rattle.state_model.specs.Loads.{Slot, Used, table_slot, table_in, has_cut_index_block}
 use Rattle.state_model.specs.Rules.{first_failing, implies, at_file, same_link, keeps_names, keeps_1, is_directory_with, is_directory_at, keeps_2, is_name_in, is_index, keeps_8}
 use Rattle.state_model.specs.Streams.{stream_of}
 use Rattle.state_model.specs.Trees.{all_links, leads, is_system, first_user_record}
@@ -29,7 +39,7 @@ use Rattle.volume_model.specs.Volumes.{Volume, count_of, file_in, files_by_numbe
 use Rattle.volume_model.specs.Indexes.{void_block, index_links, keeps_index}
 use Rattle.volume_model.specs.Nodes.{first_flags, kind_in, data_shown, node_by, some_node, node_at, spare_at, free_clusters}
 use Rattle.volume_model.specs.Owners.{file_runs, volume_runs, uses, keeps_cluster_bit, keeps_record_bit}
-use Rattle.volume_model.specs.Sizes.{keeps_stream, keeps_whole, keeps_untorn, is_initialised, keeps_table, keeps_streams, keeps_sizes}
+use Rattle.volume_model.specs.Sizes.{keeps_stream, keeps_whole, keeps_untorn, keeps_streams, keeps_sizes}
 use Rattle.volume_state.specs.Journals.{entries_name, limits_name, extend_file, entries_flags, file_or_none, journal_file, journal_of_streams, journal_of_file, journal_of, fault_of, some_journal}
 use Rattle.volume_state.specs.Rules.{broken_1, broken_3, broken_5, broken_6, broken_9}
 use Rattle.volume_state.specs.Trees.{tree_with, tree_of, volume_journal}
@@ -39,7 +49,7 @@ use Rattle.stream_laws.specs.Sharing.{StreamKey}
 use Rattle.stream_laws.proofs.Changing.{bytes_agree}
 use Rattle.stream_laws.proofs.Editing.{length-with_edits, other_file, edited_files}
 use Rattle.stream_laws.proofs.Loading.{same_cluster_bits}
-use Rattle.stream_laws.proofs.Tabling.{inside_list, no_list_stream, table_extents_is}
+use Rattle.stream_laws.proofs.Tabling.{inside_list, no_list_stream}
 use Rattle.tree_laws.specs.Changed.{KeepsPlaces, TouchesFiles, KeepsTouched}
 use Rattle.tree_laws.specs.Contents.{SameEntries}
 use Rattle.stream_laws.specs.Frames.{SameBytesInSome}
@@ -49,27 +59,29 @@ use Rattle.tree_laws.specs.Parts.{journal_number}
 use Rattle.tree_laws.specs.Planned.{IsInStream, IsInRecord, WritesWithin}
 use Rattle.tree_laws.specs.Ways.{IsOutside}
 use Rattle.tree_laws.proofs.Agreeing.{no_more_torn, same_upper, kept_sizes, same_journal}
-use Rattle.tree_laws.proofs.Ascending.{of_system_kept, own_children}
+use Rattle.tree_laws.proofs.Ascending.{of_system_kept, own_children, all_by}
 use Rattle.tree_laws.proofs.Changing.{all_but, places_ways}
 use Rattle.tree_laws.proofs.Holding.{no_index}
 use Rattle.tree_laws.proofs.Keeping.{rules_of, passes_below}
 use Rattle.tree_laws.proofs.Listing.{index_listed, index_kept_by, index_more}
 use Rattle.tree_laws.proofs.Naming.{this_or_other, names_everywhere, file_elsewhere, links_of_all, links_kept}
 use Rattle.tree_laws.proofs.Owning.{same_5, same_6}
-use Rattle.tree_laws.proofs.Parting.{record_bits_stay, room_stays, upper_stays, number_stays}
+use Rattle.tree_laws.proofs.Parting.{record_bits_stay, cluster_bits_stay, room_stays, upper_stays, number_stays}
 use Rattle.tree_laws.proofs.Planning.{planned_bytes, journal_agrees}
 use Rattle.tree_laws.proofs.Ruling.{same_index, same_name_in, same_count, keeps_both}
 use Rattle.tree_laws.proofs.Standing.{no_directory_leaf, leaf_journal}
+use Rattle.plan_owners.specs.Kinds.{OwnsAs}
 use Rattle.plan_owners.specs.States.{Stands}
-use Rattle.plan_owners.proofs.Standing.{counted, file_parts, listed_file, some_file, as_file, rule_4_at, streams_at, begins}
+use Rattle.plan_owners.proofs.Agreed.{table_begins}
+use Rattle.plan_owners.proofs.Standing.{file_parts, listed_file, some_file, as_file, rule_4_at}
 use Rattle.plan_model.specs.Bodies.{NewBody, whole_write, writes_in, content_with}
-use Rattle.plan_model.specs.Edits.{WritesFiles, edited, LeadsTo}
+use Rattle.plan_model.specs.Edits.{IsOwnedIn, WritesFiles, edited, LeadsTo}
 use Rattle.plan_model.specs.Informed.{with_info}
 use Rattle.plan_model.specs.Made.{is_info_or_root, made_streams, made_edits, MakesFile, HasMade}
 use Rattle.plan_model.proofs.Informing.{slot_in_use, marked_in_use, implied}
 use Rattle.plan_model.proofs.OneRecord.{OnlySmall, small_data, small_pieces, small_names, small_1, small_4, sizes_from, OwnRecord, own_record, slot_put, uncut, small_alone, small_base, file_slot, small_some}
 use Rattle.plan_model.proofs.Putting.{none_elsewhere}
-use Rattle.plan_model.proofs.Rewriting.{same_uses, same_directory}
+use Rattle.plan_model.proofs.Rewriting.{same_runs, same_initialised, same_uses, same_directory}
 use Rattle.plan_model.proofs.Stepping.{written_within, files_edited, tree_nodes}
 
 info_or_root : OnlySmall is_info_or_root
@@ -81,31 +93,6 @@ info_or_root a anew = elim (cases_Bool (eqb a.head.kind standard_information)) [
 none_if : (o : Option Record) → ((q : Record) → o ≡ Some q → ⊥) → o ≡ None
 none_if None never = refl
 none_if (Some q) never = absurd (never q refl)
-
--- ---- each record of the table begins below its initialised size
-
-initialised_all : (s : Option Stream) (e : Extents) (n : ℕ) → is_initialised s ≡ true → extents_or s ≡ e → n < record_count e → 1024 * n < e.initialised
-initialised_all None e n is same below = let none : 0 ≡ e.real = ap (λ (x : Extents). x.real) same in absurd (omega arith)
-initialised_all (Some (Held value)) e n is same below = let none : 0 ≡ e.real = ap (λ (x : Extents). x.real) same in absurd (omega arith)
-initialised_all (Some (Placed x)) e n is same below =
-    let equal = eqb-true x.initialised x.real is in
-    let one : x.initialised ≡ e.initialised = ap (λ (y : Extents). y.initialised) same in
-    let two : x.real ≡ e.real = ap (λ (y : Extents). y.real) same in
-    omega arith
-
-table_kept : (c : Content) (v : Volume) (r : Record) → keeps_streams c v table_file r ≡ true → is_initialised (stream_of data_type [] r.attrs) ≡ true
-unfolding keeps_streams
-table_kept c v r kept = table_rule (and_parts _ _ (and_parts _ _ kept).0).1
-  where
-    table_rule : keeps_table table_file r ≡ true → is_initialised (stream_of data_type [] r.attrs) ≡ true
-    table_rule is = is
-
-pub table_begins : (c : Content) (g : Geometry) (clusters : ℕ) (v : Volume) (n : ℕ) → Stands c g clusters v → n < count_of v → 1024 * n < v.table.initialised
-table_begins c g clusters v n s below =
-    let start = begins c g clusters v s in
-    let kept = table_kept c v start.file (streams_at c g clusters v table_file start.file s start.is_file) in
-    let extents : extents_or (stream_of data_type [] start.file.attrs) ≡ v.table = sym (ap (λ (o : Option Record). extents_or (file_stream data_type [] o)) start.is_file) ∙ table_extents_is c g clusters v start in
-    initialised_all (stream_of data_type [] start.file.attrs) v.table n kept extents (omega (arith, counted c g clusters v s.loaded))
 
 -- ---- names
 
@@ -322,9 +309,13 @@ module _ (c : Content) (g : Geometry) (clusters : ℕ) (v : Volume) (n dir : ℕ
       neither true = refl
       neither false = refl
 
-  each_write : (more : List NewBody) → AllByRecursion (λ p. IsInStream streams v (whole_write p) ⊎ IsInRecord touched v (whole_write p)) more → AllByRecursion (λ x. IsInStream streams v x ⊎ IsInRecord touched v x) (writes_in more)
+  as_write : (p : NewBody) → IsOwnedIn streams v p.block ⊎ IsInRecord touched v (whole_write p) → IsInStream streams v (whole_write p) ⊎ IsInRecord touched v (whole_write p)
+  as_write p (inl owned) = inl (record { stream = owned.stream; chosen = owned.chosen; kind = stream_kind owned.stream; number = owned.number; lies = owned.lies })
+  as_write p (inr its) = inr its
+
+  each_write : (more : List NewBody) → AllByRecursion (λ p. IsOwnedIn streams v p.block ⊎ IsInRecord touched v (whole_write p)) more → AllByRecursion (λ x. IsInStream streams v x ⊎ IsInRecord touched v x) (writes_in more)
   each_write [] all = tt
-  each_write (p ∷ more) all = (all.0, each_write more all.1)
+  each_write (p ∷ more) all = (as_write p all.0, each_write more all.1)
 
   alone_n : StandsAlone v.per (Used f)
   alone_n = (no_list_stream f k.no_list, ap (λ (t : Bool). t && has_cut_index_block v.per (stream_of index_allocation names_index f.attrs)) k.no_directory)
@@ -633,4 +624,88 @@ module _ (c : Content) (g : Geometry) (clusters : ℕ) (v : Volume) (n dir : ℕ
     count = count_now;
     journal = ap some_journal journal_now;
     room = room_stays d (with_files v middle) files dir then_differs k.apart.bitmap ∙ room_stays d v middle n first_differs (n_apart bitmap_file (omega arith)) ∙ ap (count_by not) clusters_same;
+  }
+
+  -- ---- as an edit of a plan
+
+  all_clusters : (x : ℕ) → uses (volume_runs files) x ≡ uses (volume_runs v.files) x
+  all_clusters x =
+      let one = clusters_replaced v.files middle n x first_differs in
+      let two = clusters_replaced middle files dir x then_differs in
+      let first = first_clusters x in
+      let second = second_clusters x in
+      omega arith
+
+  none_used : (x kind : ℕ) (name : List ℕ) → uses (runs_in (file_stream kind name (file_in w n))) x ≡ 0
+  unfolding uses
+  none_used x kind name =
+      let part = stream_of_file kind name (file_in w n) x in
+      let none : file_uses x (file_in w n) ≡ 0 = ap (file_uses x) made_in ∙ ap (λ (l : List Run). uses l x) k.no_clusters in
+      omega arith
+
+  runs_kept : (kind : ℕ) (name : List ℕ) (m : ℕ) → m ≢ n → runs_in (file_stream kind name (file_in w m)) ≡ runs_in (file_stream kind name (file_in v m))
+  runs_kept kind name m other = elim (cases_eq m dir) [
+    | inl same ↦
+        ap (λ (x : ℕ). runs_in (file_stream kind name (file_in w x))) same
+        ∙ ap (λ (o : Option Record). runs_in (file_stream kind name o)) dir_in
+        ∙ same_runs is_info_or_root r s kind name k.values
+        ∙ sym (ap (λ (x : ℕ). runs_in (file_stream kind name (file_in v x))) same ∙ ap (λ (o : Option Record). runs_in (file_stream kind name o)) k.file)
+    | inr more ↦ ap (λ (o : Option Record). runs_in (file_stream kind name o)) (other_file_at m other more)
+  ]
+
+  sizes_kept : (kind : ℕ) (name : List ℕ) (m : ℕ) → m ≢ n → initialised_in (file_stream kind name (file_in w m)) ≡ initialised_in (file_stream kind name (file_in v m))
+  sizes_kept kind name m other = elim (cases_eq m dir) [
+    | inl same ↦
+        ap (λ (x : ℕ). initialised_in (file_stream kind name (file_in w x))) same
+        ∙ ap (λ (o : Option Record). initialised_in (file_stream kind name o)) dir_in
+        ∙ same_initialised is_info_or_root r s kind name k.values
+        ∙ sym (ap (λ (x : ℕ). initialised_in (file_stream kind name (file_in v x))) same ∙ ap (λ (o : Option Record). initialised_in (file_stream kind name o)) k.file)
+    | inr more ↦ ap (λ (o : Option Record). initialised_in (file_stream kind name o)) (other_file_at m other more)
+  ]
+
+  not_new : (t : StreamKey) (x : ℕ) → 0 < uses (runs_in (stream_at w t)) x → t.file ≢ n
+  not_new t x some same =
+      let none : uses (runs_in (stream_at w t)) x ≡ 0 = ap (λ (m : ℕ). uses (runs_in (file_stream t.kind t.name (file_in w m))) x) same ∙ none_used x t.kind t.name in
+      omega arith
+
+  owned_as_before : (kind : BlockKind) (x : ℕ) → OwnsAs w kind x → OwnsAs v kind x
+  owned_as_before kind x owns = record { stream = owns.stream; is_kind = owns.is_kind; has = subst (λ (l : List Run). 0 < uses l x) (runs_kept owns.stream.kind owns.stream.name owns.stream.file (not_new owns.stream x owns.has)) owns.has }
+
+  in_stream : (b : Block) (owns : Owns w b) → owns.stream.file ≢ n
+  in_stream b owns =
+      let runs = runs_in (stream_at w owns.stream) in
+      let kind = stream_kind owns.stream in
+      let l = lies v.per runs kind owns.number b owns.lies in
+      let some = has_sectors b.kind in
+      let covered = lies_in_cluster v.per runs kind owns.number b l b.first state.some (omega arith) (omega arith) in
+      not_new owns.stream (b.first / v.per) (is_used _ runs l.run (b.first / v.per) l.found covered)
+
+  live_as_before : (b : Block) → IsLive w b → IsLive v b
+  live_as_before b live =
+      let t = live.owned.stream in
+      let other = in_stream b live.owned in
+      record {
+        owned = record { stream = t; number = live.owned.number; lies = sym (ap (λ (l : List Run). block_at v.per l (stream_kind t) live.owned.number) (runs_kept t.kind t.name t.file other)) ∙ live.owned.lies };
+        begins = subst (λ (x : ℕ). 512 * (sectors (stream_kind t) * live.owned.number) < x) (sizes_kept t.kind t.name t.file other) live.begins;
+      }
+
+  was_owned : (p : NewBody) → IsOwnedIn streams v p.block ⊎ IsInRecord touched v (whole_write p) → Owns v p.block ⊎ Owns w p.block
+  was_owned p (inl owned) = inl (record { stream = owned.stream; number = owned.number; lies = owned.lies })
+  was_owned p (inr its) = inl (record_owned c g clusters v its.number p.block state its.lies)
+
+  pub goes_on_made : (first : Content) (start : Volume) (gave : ℕ → Option BlockKind) → ((kind : BlockKind) (x : ℕ) → gave x ≡ Some kind → bit (cluster_bits first start) x ≡ false) → GoesOn first start c g clusters v bodies (edited v (made_edits n f dir s)) gave gave
+  goes_on_made first start gave clear = record {
+    whole = k.whole;
+    stands = leads_to_made.stands;
+    marks = record {
+      cleared = λ x low less. (let same = all_clusters x in absurd (omega arith));
+      set = λ x low less. (let same = all_clusters x in absurd (omega arith));
+      others = λ x low equal.
+          ap (λ (l : List Bool). bit l x) (cluster_bits_stay d (with_files v middle) files dir then_differs k.apart.bitmap ∙ cluster_bits_stay d v middle n first_differs (n_apart bitmap_file (omega arith)) ∙ clusters_same);
+    };
+    kept = λ kind x given. given;
+    takes = λ kind x owns. inl (owned_as_before kind x owns);
+    clear = clear;
+    touched = all_by (λ p. IsOwnedIn streams v p.block ⊎ IsInRecord touched v (whole_write p)) (λ p. Owns v p.block ⊎ Owns w p.block) was_owned bodies k.each;
+    covers = λ x live. inl (live_as_before x live);
   }

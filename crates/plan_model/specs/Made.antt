@@ -1,8 +1,9 @@
 -- A file is made in a directory whose index has room; its number is spare, and no cluster changes hands.
-use Rattle.std.specs.Prelude.{◌≡◌, ◌≢◌, ◌⊎◌, ℕ, ◌<◌, ◌≤◌, ◌==◌, ◌&&◌, ◌||◌, Bool, true, false, List, [], ◌∷◌, Some, None}
+use Rattle.std.specs.Prelude.{◌≡◌, ◌≢◌, ◌⊎◌, ℕ, ◌<◌, ◌≤◌, ◌==◌, ◌&&◌, ◌||◌, Bool, true, false, List, [], ◌∷◌, Some, None, Option}
 use Rattle.std.specs.List.{list_all, AllByRecursion}
 use Rattle.std.specs.Option.{option_map}
 use Rattle.disk_model.specs.declared.block.Block.{Block}
+use Rattle.disk_model.specs.declared.block.BlockKind.{BlockKind}
 use Rattle.disk_model.specs.declared.block.BlockKind.TheVariants.{FileRec}
 use Rattle.disk_model.specs.Content.{Content, HasSizes}
 use Rattle.record_model.specs.declared.attribute.Attr.{Attr}
@@ -17,7 +18,7 @@ use Rattle.state_model.specs.Loads.{Used, slot_of}
 use Rattle.state_model.specs.Rules.{keeps_names, is_rising}
 use Rattle.state_model.specs.Streams.{block_at}
 use Rattle.state_model.specs.Trees.{first_user_record}
-use Rattle.volume_model.specs.Volumes.{Volume, count_of, file_in, bytes_or, table_file, record_bits, upper_of}
+use Rattle.volume_model.specs.Volumes.{Volume, count_of, file_in, bytes_or, table_file, cluster_bits, record_bits, upper_of}
 use Rattle.volume_model.specs.Indexes.{void_block, index_links}
 use Rattle.volume_model.specs.Nodes.{node_by, spare_at}
 use Rattle.volume_model.specs.Owners.{file_runs}
@@ -28,11 +29,12 @@ use Rattle.stream_laws.specs.Replacing.{FileEdit}
 use Rattle.stream_laws.specs.Rewrites.{is_edited}
 use Rattle.stream_laws.specs.Sharing.{StreamKey}
 use Rattle.tree_laws.specs.Keeping.{PartReplaced}
-use Rattle.tree_laws.specs.Planned.{IsInStream, IsInRecord}
+use Rattle.tree_laws.specs.Planned.{IsInRecord}
 use Rattle.plan_owners.specs.States.{Stands}
 use Rattle.plan_model.specs.Attributes.{RewritesValues}
 use Rattle.plan_model.specs.Bodies.{NewBody, whole_write, content_with, AreBodies, body_in}
-use Rattle.plan_model.specs.Edits.{edited}
+use Rattle.plan_model.specs.Drafts.{GoesOn}
+use Rattle.plan_model.specs.Edits.{IsOwnedIn, edited}
 use Rattle.plan_model.specs.Informed.{IsApart, with_info}
 
 -- standard information, or the root of an index
@@ -87,7 +89,7 @@ pub record MakesFile (c : Content) (v : Volume) (n dir : ℕ) (f r s : Record) (
   pub marked : (m : ℕ) → m < count_of v → bit (record_bits (content_with c bodies) v) m ≡ (m == n || bit (record_bits c v) m)
   pub whole : AreBodies bodies
   pub void : body_in bodies void_block ≡ None
-  pub each : AllByRecursion (λ p. IsInStream (made_streams dir) v (whole_write p) ⊎ IsInRecord (is_edited (made_edits n f dir s)) v (whole_write p)) bodies
+  pub each : AllByRecursion (λ p. IsOwnedIn (made_streams dir) v p.block ⊎ IsInRecord (is_edited (made_edits n f dir s)) v (whole_write p)) bodies
 
 -- The tree has one node more, one name more and one spare number less; the directory's node has its new standard information, and
 -- all else stays.
@@ -102,9 +104,11 @@ pub record HasMade (c : Content) (v : Volume) (n dir : ℕ) (f s : Record) (link
   pub journal : (tree_of d w).journal ≡ (tree_of c v).journal
   pub room : (tree_of d w).room ≡ (tree_of c v).room
 
--- Where a file is made so, a state becomes one of the tree with the file.
+-- Where a file is made so, a state becomes one of the tree with the file; it is an edit of a plan that gives no cluster.
 pub record FileIsMade : Type 0 where
   pub stands : (c : Content) (g : Geometry) (clusters : ℕ) (v : Volume) (n dir : ℕ) (f r s : Record) (link : Link) (bodies : List NewBody) → HasSizes c → Stands c g clusters v → MakesFile c v n dir f r s link bodies
       → Stands (content_with c bodies) g clusters (edited v (made_edits n f dir s))
   pub tree : (c : Content) (g : Geometry) (clusters : ℕ) (v : Volume) (n dir : ℕ) (f r s : Record) (link : Link) (bodies : List NewBody) → HasSizes c → Stands c g clusters v → MakesFile c v n dir f r s link bodies
       → HasMade c v n dir f s link (content_with c bodies) (edited v (made_edits n f dir s))
+  pub goes_on : (first : Content) (start : Volume) (c : Content) (g : Geometry) (clusters : ℕ) (v : Volume) (n dir : ℕ) (f r s : Record) (link : Link) (bodies : List NewBody) (gave : ℕ → Option BlockKind) → HasSizes c → Stands c g clusters v
+      → MakesFile c v n dir f r s link bodies → ((kind : BlockKind) (x : ℕ) → gave x ≡ Some kind → bit (cluster_bits first start) x ≡ false) → GoesOn first start c g clusters v bodies (edited v (made_edits n f dir s)) gave gave
