@@ -1,6 +1,7 @@
 ghost use Rattle.plan_model.specs.Bodies.{BodiesPut};
 ghost use Rattle.plan_model.specs.Drafts.{DraftsGoOn};
 ghost use Rattle.plan_model.specs.Edits.{FilesEdited};
+ghost use Rattle.plan_model.specs.Indexed.{IndexWalked};
 ghost use Rattle.plan_model.specs.Informed.{TimesChanged};
 ghost use Rattle.plan_model.specs.Made.{FileIsMade};
 ghost use Rattle.plan_model.specs.Attributes.{ValuesRewritten};
@@ -39,4 +40,10 @@ pub fn drafts_go_on()
 /// with the file.
 pub fn file_is_made()
     ensures { FileIsMade }
+{}
+
+/// Law: a directory lists what a walk below its new root gives, in a content with the nodes of a
+/// plan.
+pub fn index_walked()
+    ensures { IndexWalked }
 {}

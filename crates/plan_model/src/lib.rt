@@ -7,5 +7,5 @@
 mod laws;
 
 pub use laws::{
-    bodies_put, drafts_go_on, file_is_made, files_edited, times_changed, values_rewritten,
+    bodies_put, drafts_go_on, file_is_made, files_edited, index_walked, times_changed, values_rewritten,
 };
