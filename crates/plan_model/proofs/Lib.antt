@@ -7,3 +7,4 @@ pub mod Drafting
 pub mod Quiet
 pub mod Making
 pub mod Indexing
+pub mod Parting

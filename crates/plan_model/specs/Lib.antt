@@ -5,3 +5,4 @@ pub mod Informed
 pub mod Drafts
 pub mod Made
 pub mod Indexed
+pub mod Parts

@@ -1,6 +1,7 @@
 ghost use Rattle.plan_model.specs.Bodies.{BodiesPut};
 ghost use Rattle.plan_model.specs.Drafts.{DraftsGoOn};
 ghost use Rattle.plan_model.specs.Edits.{FilesEdited};
+ghost use Rattle.plan_model.specs.Parts.{AttrsReplaced, PiecesJoined};
 ghost use Rattle.plan_model.specs.Indexed.{IndexWalked};
 ghost use Rattle.plan_model.specs.Informed.{TimesChanged};
 ghost use Rattle.plan_model.specs.Made.{FileIsMade};
@@ -46,4 +47,15 @@ pub fn file_is_made()
 /// plan.
 pub fn index_walked()
     ensures { IndexWalked }
+{}
+
+/// Law: where attributes of a record are put in, taken out or replaced, its names and clusters go and
+/// come with them, and what reads the others stays.
+pub fn attrs_replaced()
+    ensures { AttrsReplaced }
+{}
+
+/// Law: a stream stays where its attributes in one record are joined into one.
+pub fn pieces_joined()
+    ensures { PiecesJoined }
 {}
