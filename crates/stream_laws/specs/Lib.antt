@@ -9,3 +9,4 @@ pub mod Volumes
 pub mod Rewrites
 pub mod Tables
 pub mod Leaving
+pub mod Owners

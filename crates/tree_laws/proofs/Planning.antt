@@ -123,7 +123,7 @@ by_number : (v : Volume) (r : Record) (o : Option ℕ) → file_or_none v o ≡ 
 by_number v r None is = absurd cc
 by_number v r (Some m) is = (m, refl, is)
 
-holder_number : (v : Volume) (upper : List ℕ) (r : Record) → journal_file upper v ≡ Some r → (m : ℕ) × (journal_number upper v ≡ Some m) × (file_in v m ≡ Some r)
+pub holder_number : (v : Volume) (upper : List ℕ) (r : Record) → journal_file upper v ≡ Some r → (m : ℕ) × (journal_number upper v ≡ Some m) × (file_in v m ≡ Some r)
 unfolding journal_file
 holder_number v upper r is = by_number v r (journal_number upper v) is
 
@@ -134,7 +134,7 @@ module _ (touched : ℕ → Bool) (streams : StreamKey → Bool) (records : ℕ 
   same_record : (m : ℕ) → m < count_of v → touched m ≡ false → bit (record_bits c v) m ≡ false → SameRecordIn c (overlay c writes) v.per v.table m
   same_record m below other clear = record_agrees c writes v.per v.table m spares.sized (planned_record streams records c g clusters v writes m k (spares.free m below other clear))
 
-  same_index_at : (m : ℕ) → touched m ≡ false → SameIndexAt c (overlay c writes) v m
+  pub same_index_at : (m : ℕ) → touched m ≡ false → SameIndexAt c (overlay c writes) v m
   unfolding index_stream
   same_index_at m other r is directory =
       let s : StreamKey = record { file = m; kind = index_allocation; name = names_index } in
@@ -142,7 +142,7 @@ module _ (touched : ℕ → Bool) (streams : StreamKey → Bool) (records : ℕ 
       (of_file (LeavesIndex writes v.per) index_allocation names_index (file_in v m) r is
       (planned_index streams records c g clusters v writes s k (spares.indexes m r other is directory) (other_kind m index_allocation names_index (λ equal. omega (arith, equal))) spares.void))
 
-  same_shown_at : (m : ℕ) → touched m ≡ false → SameShownAt c (overlay c writes) v m
+  pub same_shown_at : (m : ℕ) → touched m ≡ false → SameShownAt c (overlay c writes) v m
   unfolding data_stream
   same_shown_at m other r is =
       let s : StreamKey = record { file = m; kind = data_type; name = [] } in
@@ -161,7 +161,7 @@ planned_agrees touched streams records c g clusters v w writes k spares bits = r
   free = same_record touched streams records c g clusters v writes k spares;
 }
 
-journal_agrees : (streams : StreamKey → Bool) (records : ℕ → Bool) (c : Content) (g : Geometry) (clusters : ℕ) (v : Volume) (writes : List Write) → WritesWithin streams records c g clusters v writes
+pub journal_agrees : (streams : StreamKey → Bool) (records : ℕ → Bool) (c : Content) (g : Geometry) (clusters : ℕ) (v : Volume) (writes : List Write) → WritesWithin streams records c g clusters v writes
     → ((m : ℕ) → journal_number (upper_of c v) v ≡ Some m → streams (record { file = m; kind = data_type; name = entries_name }) ≡ false) → SameEntries c (overlay c writes) (upper_of c v) v
 unfolding entries_name
 journal_agrees streams records c g clusters v writes k apart r is =

@@ -1,0 +1,5 @@
+pub mod Standing
+pub mod Outside
+pub mod Unnamed
+pub mod ByKind
+pub mod Agreed
