@@ -3,6 +3,7 @@ pub mod Changes
 pub mod Places
 pub mod Records
 pub mod Sharing
+pub mod Owners
 pub mod Replacing
 pub mod Puts
 pub mod Volumes

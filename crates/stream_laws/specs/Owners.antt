@@ -1,0 +1,38 @@
+-- The blocks that a volume owns.
+use Rattle.std.specs.Prelude.{◌≡◌, ℕ, ◌*◌, ◌<◌, ◌==◌, ◌&&◌, ◌||◌, Bool, nat_eq, [], if◌then◌else◌, Option, Some, None}
+use Rattle.std.specs.Cmp.Lexicographic.{pointwise}
+use Rattle.disk_model.specs.declared.block.Block.{Block}
+use Rattle.disk_model.specs.declared.block.BlockKind.{BlockKind}
+use Rattle.disk_model.specs.declared.block.BlockKind.TheVariants.{Plain, FileRec, Index}
+use Rattle.disk_model.specs.Sectors.{sectors}
+use Rattle.record_model.specs.Constants.{data_type, index_allocation}
+use Rattle.state_model.specs.declared.stream.Stream.{Stream}
+use Rattle.state_model.specs.declared.stream.Stream.TheVariants.{Held, Placed}
+use Rattle.state_model.specs.Streams.{block_at}
+use Rattle.volume_model.specs.Volumes.{Volume, table_file, mirror_file}
+use Rattle.stream_laws.specs.Sharing.{StreamKey, stream_at, runs_in}
+
+-- the unnamed data of $MFT or of $MFTMirr
+abbrev pub holds_records : StreamKey → Bool
+holds_records s = (s.file == table_file || s.file == mirror_file) && s.kind == data_type && pointwise nat_eq s.name []
+
+-- the kind of a stream's blocks: file records in the data of $MFT and $MFTMirr, index blocks in an index allocation, sectors elsewhere
+unfoldable pub stream_kind : StreamKey → BlockKind
+stream_kind s = if holds_records s then FileRec else if s.kind == index_allocation then Index else Plain
+
+-- the initialised size of a stream in clusters; a value in a record has no clusters
+abbrev pub initialised_in : Option Stream → ℕ
+initialised_in None = 0
+initialised_in (Some (Held value)) = 0
+initialised_in (Some (Placed e)) = e.initialised
+
+-- The volume owns the block: it is a block of a stream's kind, in clusters of that stream, also past its sizes.
+pub record Owns (v : Volume) (b : Block) : Type 0 where
+  pub stream : StreamKey
+  pub number : ℕ
+  pub lies : block_at v.per (runs_in (stream_at v stream)) (stream_kind stream) number ≡ Some b
+
+-- It is owned, and not wholly past its stream's initialised size.
+pub record IsLive (v : Volume) (b : Block) : Type 0 where
+  pub owned : Owns v b
+  pub begins : 512 * (sectors (stream_kind owned.stream) * owned.number) < initialised_in (stream_at v owned.stream)
