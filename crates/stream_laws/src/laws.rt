@@ -8,7 +8,7 @@ ghost use Rattle.stream_laws.specs.Replacing.{FileReplaced, FilesReplaced};
 ghost use Rattle.stream_laws.specs.Sharing.{AttributesApart, StreamsApart};
 ghost use Rattle.stream_laws.specs.Tables.{TableIsStream};
 ghost use Rattle.stream_laws.specs.Volumes.{FrameOfVolumes, FrameOfNodes};
-ghost use Rattle.stream_laws.specs.Rewrites.{VolumeRewritten};
+ghost use Rattle.stream_laws.specs.Rewrites.{TablesGoOn, VolumeRewritten};
 
 /// Law: a stream has the same bytes in two contents that agree on the blocks of its sectors below
 /// its sizes.
@@ -95,7 +95,14 @@ pub fn frame_of_nodes()
     ensures { FrameOfNodes }
 {}
 
-/// Law: where some records are rewritten, a volume has the new files in the places of the old ones.
+/// Law: the extents of a file table go on from themselves, and initialised ones from initialised
+/// ones.
+pub fn tables_go_on()
+    ensures { TablesGoOn }
+{}
+
+/// Law: where some records are rewritten and the file table may grow, a volume has the new files in
+/// the places of the old ones, and none behind them.
 pub fn volume_rewritten()
     ensures { VolumeRewritten }
 {}
