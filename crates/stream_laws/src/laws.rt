@@ -1,6 +1,6 @@
 ghost use Rattle.stream_laws.specs.Changes.{BytesAfterWrites, StaysElsewhere};
 ghost use Rattle.stream_laws.specs.Frames.{FrameOfStreams, FrameOfRecords, FrameOfIndexes};
-ghost use Rattle.stream_laws.specs.Leaving.{OtherStreamsStay};
+ghost use Rattle.stream_laws.specs.Leaving.{FreeBlocksApart, OtherStreamsStay};
 ghost use Rattle.stream_laws.specs.Places.{NoBlockTwice, OnceByRule};
 ghost use Rattle.stream_laws.specs.Records.{OthersStay, OneRecordChanged};
 ghost use Rattle.stream_laws.specs.Puts.{PutsAreWritten};
@@ -112,8 +112,13 @@ pub fn table_is_stream()
     ensures { TableIsStream }
 {}
 
-/// Law: writes to the blocks of other streams leave a stream, where no cluster lies twice in the
-/// volume.
+/// Law: a block in clusters that no run of a volume has shares no sector with its streams.
+pub fn free_blocks_apart()
+    ensures { FreeBlocksApart }
+{}
+
+/// Law: writes to the blocks of other streams and to free clusters leave a stream, where no cluster
+/// lies twice in the volume.
 pub fn other_streams_stay()
     ensures { OtherStreamsStay }
 {}

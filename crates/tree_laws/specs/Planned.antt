@@ -1,4 +1,4 @@
--- What writes leave that go to the blocks of a few streams and of a few file records.
+-- What writes leave that go to the blocks of a few streams and of a few file records, and to free clusters.
 use Rattle.std.specs.Prelude.{◌≡◌, ◌≢◌, ◌⊎◌, ℕ, ◌<◌, ◌==◌, Bool, true, false, List, [], Some}
 use Rattle.std.specs.List.{AllByRecursion}
 use Rattle.disk_model.specs.declared.block.BlockKind.{BlockKind}
@@ -17,6 +17,7 @@ use Rattle.volume_model.specs.Nodes.{kind_in, shows_data}
 use Rattle.volume_model.specs.Owners.{volume_runs}
 use Rattle.volume_state.specs.Journals.{entries_name}
 use Rattle.stream_laws.specs.Changes.{AreElsewhere, LeavesBytes, LeavesRecord, LeavesIndex}
+use Rattle.stream_laws.specs.Leaving.{LiesFree}
 use Rattle.stream_laws.specs.Places.{AreOnce}
 use Rattle.stream_laws.specs.Sharing.{StreamKey, stream_at, runs_in}
 use Rattle.stream_laws.specs.Tables.{table_key, BeginsAtBoot}
@@ -38,14 +39,14 @@ pub record IsInRecord (records : ℕ → Bool) (v : Volume) (w : Write) : Type 0
   pub chosen : records number ≡ true
   pub lies : block_at v.per v.table.runs FileRec number ≡ Some w.block
 
--- Each write is to a block of one of these streams, none of which is the file table, or to one of these records. No cluster lies
--- twice in the volume, which begins where the boot sector says.
+-- Each write is to a block of one of these streams, none of which is the file table, to one of these records, or to clusters that
+-- no stream has. No cluster lies twice in the volume, which begins where the boot sector says.
 pub record WritesWithin (streams : StreamKey → Bool) (records : ℕ → Bool) (c : Content) (g : Geometry) (clusters : ℕ) (v : Volume) (writes : List Write) : Type 0 where
   pub begins : BeginsAtBoot c g clusters v
   pub some : 0 < v.per
   pub once : AreOnce (volume_runs v.files)
   pub no_table : streams table_key ≡ false
-  pub each : AllByRecursion (λ w. IsInStream streams v w ⊎ IsInRecord records v w) writes
+  pub each : AllByRecursion (λ w. IsInStream streams v w ⊎ IsInRecord records v w ⊎ LiesFree v w.block) writes
 
 -- The streams have none of these: the data of $UpCase and the records of the change journal; and of each file that isn't touched
 -- the index, and the data that its node shows. No record is written to that isn't in use, but for those that are touched; no
