@@ -11,3 +11,5 @@ pub mod Loading
 pub mod Rewriting
 pub mod Tabling
 pub mod Leaving
+pub mod Growing
+pub mod Bitmapping

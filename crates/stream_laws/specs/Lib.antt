@@ -10,3 +10,5 @@ pub mod Volumes
 pub mod Rewrites
 pub mod Tables
 pub mod Leaving
+pub mod Growth
+pub mod Bitmaps

@@ -1,5 +1,7 @@
 ghost use Rattle.stream_laws.specs.Changes.{BytesAfterWrites, StaysElsewhere};
+ghost use Rattle.stream_laws.specs.Bitmaps.{BitsOfBitmaps, BitsAfterPuts};
 ghost use Rattle.stream_laws.specs.Frames.{FrameOfStreams, FrameOfRecords, FrameOfIndexes};
+ghost use Rattle.stream_laws.specs.Growth.{BytesAfterPuts, StreamsGrow};
 ghost use Rattle.stream_laws.specs.Leaving.{FreeBlocksApart, OtherStreamsStay};
 ghost use Rattle.stream_laws.specs.Places.{NoBlockTwice, OnceByRule};
 ghost use Rattle.stream_laws.specs.Records.{OthersStay, OneRecordChanged};
@@ -121,4 +123,26 @@ pub fn free_blocks_apart()
 /// lies twice in the volume.
 pub fn other_streams_stay()
     ensures { OtherStreamsStay }
+{}
+
+/// Law: a byte after puts is that of the last put that covers it, else that from before.
+pub fn bytes_after_puts()
+    ensures { BytesAfterPuts }
+{}
+
+/// Law: a stream that grows has its bytes from before and zeros behind them, after the puts that
+/// cover all that comes to be initialised; so has a value that leaves its record.
+pub fn streams_grow()
+    ensures { StreamsGrow }
+{}
+
+/// Law: the bits of the clusters and of the records are those of the bitmaps' bytes.
+pub fn bits_of_bitmaps()
+    ensures { BitsOfBitmaps }
+{}
+
+/// Law: each bit of a bitmap after puts is that of the byte which is put there last, else the one
+/// from before.
+pub fn bits_after_puts()
+    ensures { BitsAfterPuts }
 {}
