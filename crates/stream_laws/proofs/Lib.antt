@@ -13,3 +13,4 @@ pub mod Tabling
 pub mod Leaving
 pub mod Growing
 pub mod Bitmapping
+pub mod Weighing

@@ -26,7 +26,7 @@ use Rattle.stream_laws.proofs.Counting.{weight, one_of_all, two_of_all, weight_a
 
 -- ---- sums of uses
 
-uses-none : (x : ℕ) → uses [] x ≡ 0
+pub uses-none : (x : ℕ) → uses [] x ≡ 0
 unfolding uses
 uses-none x = refl
 
@@ -99,7 +99,7 @@ joined_uses [] x = omega (arith, uses-none x)
 joined_uses (a ∷ attributes) x = omega (arith, form_uses a.form (flat_map attribute_runs (a ∷ attributes)) x, uses-flat_map attribute_runs (a ∷ attributes) x)
 
 -- the clusters of a stream are those of its attributes
-stream_uses : (kind : ℕ) (name : List ℕ) (attrs : List Attr) (x : ℕ) → uses (runs_in (stream_of kind name attrs)) x ≤ sum_by (attr_uses x) (filter (is_attribute_of kind name) attrs)
+pub stream_uses : (kind : ℕ) (name : List ℕ) (attrs : List Attr) (x : ℕ) → uses (runs_in (stream_of kind name attrs)) x ≤ sum_by (attr_uses x) (filter (is_attribute_of kind name) attrs)
 unfolding stream_of
 stream_uses kind name attrs x = omega (arith, joined_uses (attributes_of kind name attrs) x, attributes_sum (attr_uses x) kind name attrs)
 
@@ -115,7 +115,7 @@ same_from_test (x ∷ xs) (y ∷ ys) same =
     let rest : xs ≡ ys = same_from_test xs ys parts.1 in
     cc
 
-attribute_kind : (kind : ℕ) (name : List ℕ) (a : Attr) → is_attribute_of kind name a ≡ true → (a.head.kind ≡ kind) × (a.name ≡ name)
+pub attribute_kind : (kind : ℕ) (name : List ℕ) (a : Attr) → is_attribute_of kind name a ≡ true → (a.head.kind ≡ kind) × (a.name ≡ name)
 unfolding is_attribute_of
 attribute_kind kind name a is =
     let parts = and_parts (eqb a.head.kind kind) (pointwise nat_eq a.name name) is in

@@ -12,3 +12,4 @@ pub mod Tables
 pub mod Leaving
 pub mod Growth
 pub mod Bitmaps
+pub mod Weights

@@ -11,6 +11,7 @@ ghost use Rattle.stream_laws.specs.Sharing.{AttributesApart, StreamsApart};
 ghost use Rattle.stream_laws.specs.Tables.{TableIsStream};
 ghost use Rattle.stream_laws.specs.Volumes.{FrameOfVolumes, FrameOfNodes};
 ghost use Rattle.stream_laws.specs.Rewrites.{TablesGoOn, VolumeRewritten};
+ghost use Rattle.stream_laws.specs.Weights.{WeightsReplaced, ClustersByKind};
 
 /// Law: a stream has the same bytes in two contents that agree on the blocks of its sectors below
 /// its sizes.
@@ -145,4 +146,16 @@ pub fn bits_of_bitmaps()
 /// from before.
 pub fn bits_after_puts()
     ensures { BitsAfterPuts }
+{}
+
+/// Law: where files are replaced, the clusters of each kind of block, the live blocks and the names
+/// that are a link change by what the new files add and the old ones took away.
+pub fn weights_replaced()
+    ensures { WeightsReplaced }
+{}
+
+/// Law: each cluster is used for blocks of one kind or another, and those of a block that a volume
+/// owns for blocks of its kind.
+pub fn clusters_by_kind()
+    ensures { ClustersByKind }
 {}
