@@ -112,7 +112,7 @@ found_there directory l there (k ∷ links) = elim (cases_Bool (same_reference k
 abbrev pub KeepsThere : FileRef → Table → Table → Type 0
 KeepsThere directory p q = (j : ℕ) → names_there directory (links_at q j) ≡ names_there directory (links_at p j)
 
-same_names_there : (p q : Table) (directory : FileRef) → KeepsThere directory p q → (l : Link) → is_name_in q directory l ≡ is_name_in p directory l
+pub same_names_there : (p q : Table) (directory : FileRef) → KeepsThere directory p q → (l : Link) → is_name_in q directory l ≡ is_name_in p directory l
 unfolding is_name_in
 same_names_there p q directory same l = elim (cases_Bool (same_reference l.parent directory)) [
   | inl there ↦
@@ -125,7 +125,7 @@ pub count_there : (directory : FileRef) (links : List Link) → count_in directo
 unfolding count_in
 count_there directory links = sym (length-filter (λ (l : Link). same_reference l.parent directory) links)
 
-same_counts : (p q : Table) (directory : FileRef) (count : ℕ) → KeepsThere directory p q → names_in q directory count ≡ names_in p directory count
+pub same_counts : (p q : Table) (directory : FileRef) (count : ℕ) → KeepsThere directory p q → names_in q directory count ≡ names_in p directory count
 unfolding names_in
 same_counts p q directory zero same = refl
 same_counts p q directory (suc count) same =
