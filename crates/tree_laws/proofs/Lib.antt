@@ -14,3 +14,5 @@ pub mod Owning
 pub mod Planning
 pub mod Listing
 pub mod Shortening
+pub mod Journaling
+pub mod Counting

@@ -11,3 +11,5 @@ pub mod Changed
 pub mod Owners
 pub mod Planned
 pub mod Listed
+pub mod Journal
+pub mod Room

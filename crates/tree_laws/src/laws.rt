@@ -6,6 +6,8 @@ ghost use Rattle.tree_laws.specs.Leaves.{LeavesOfVolume, LeafReplaced, FileMade,
 ghost use Rattle.tree_laws.specs.Ways.{WaysKept, WaysAreShort};
 ghost use Rattle.tree_laws.specs.Contents.{FrameOfState};
 ghost use Rattle.tree_laws.specs.Links.{LinksReplaced};
+ghost use Rattle.tree_laws.specs.Journal.{JournalKept};
+ghost use Rattle.tree_laws.specs.Room.{RoomCounted};
 ghost use Rattle.tree_laws.specs.Nodes.{NodeReplaced, NodesByNumber};
 ghost use Rattle.tree_laws.specs.Parts.{PartsElsewhere};
 ghost use Rattle.tree_laws.specs.Rules.{RulesElsewhere};
@@ -103,4 +105,16 @@ pub fn index_listed()
 /// Law: a way up that reaches the root reaches it within as many steps as there are files.
 pub fn ways_are_short()
     ensures { WaysAreShort }
+{}
+
+/// Law: the change journal stays, and its rule is kept, where several files change and none of
+/// them is the journal's, nor gets or loses a name in `$Extend`.
+pub fn journal_kept()
+    ensures { JournalKept }
+{}
+
+/// Law: the clusters that are free and those that were taken are those that were free and those
+/// that were given back.
+pub fn room_counted()
+    ensures { RoomCounted }
 {}
