@@ -191,7 +191,7 @@ up_to {B} f a (suc n) more each =
     ap (λ (k : ℕ). flat_map f (range_with_len a k)) next ∙ ap (λ (l : List B). f a ++ l) (up_to f (a + 1) n more (λ k above. each k (omega arith)))
 
 -- the values at numbers where there are none add nothing
-same_up_to : {B : Type 0} (f : ℕ → List B) (n m : ℕ) → n ≤ m → ((k : ℕ) → n ≤ k → f k ≡ []) → flat_map f (range_with_len 0 m) ≡ flat_map f (range_with_len 0 n)
+pub same_up_to : {B : Type 0} (f : ℕ → List B) (n m : ℕ) → n ≤ m → ((k : ℕ) → n ≤ k → f k ≡ []) → flat_map f (range_with_len 0 m) ≡ flat_map f (range_with_len 0 n)
 same_up_to {B} f n m le each =
     let size : m ≡ n + (m - n) = omega arith in
     ap (λ (k : ℕ). flat_map f (range_with_len 0 k)) size ∙ up_to f 0 n (m - n) (λ k above. each k (omega arith))
@@ -542,7 +542,7 @@ goes_on_whole per e f old new size places uncut = record {
 
 -- ---- the files by number
 
-none_behind : (count : ℕ) (files : List (Option Record)) (m : ℕ) → length files ≤ m → table_in (filled_up count files) m ≡ None
+pub none_behind : (count : ℕ) (files : List (Option Record)) (m : ℕ) → length files ≤ m → table_in (filled_up count files) m ≡ None
 none_behind count files m past =
     get_or-append_right files (replicate (count - length files) None) (length files) m None refl past
     ∙ elim (cases_lt (m - length files) (count - length files)) [

@@ -16,3 +16,4 @@ pub mod Listing
 pub mod Shortening
 pub mod Journaling
 pub mod Counting
+pub mod Growing

@@ -310,7 +310,7 @@ pub every_one : (test : Link → Bool) (links : List Link) → list_all test lin
 every_one test [] is = tt
 every_one test (l ∷ links) is = let parts = and_parts _ _ is in (parts.0, every_one test links parts.1)
 
-kept_parents : (v : Volume) → broken_2 v ≡ None → (m : ℕ) → AllByRecursion (λ l. is_directory_at (files_by_number v) l.parent ≡ true) (links_at (files_by_number v) m)
+pub kept_parents : (v : Volume) → broken_2 v ≡ None → (m : ℕ) → AllByRecursion (λ l. is_directory_at (files_by_number v) l.parent ≡ true) (links_at (files_by_number v) m)
 unfolding broken_2 keeps_2
 kept_parents v none m =
     let p = files_by_number v in

@@ -13,3 +13,4 @@ pub mod Planned
 pub mod Listed
 pub mod Journal
 pub mod Room
+pub mod Growth

@@ -6,6 +6,7 @@ ghost use Rattle.tree_laws.specs.Leaves.{LeavesOfVolume, LeafReplaced, FileMade,
 ghost use Rattle.tree_laws.specs.Ways.{WaysKept, WaysAreShort};
 ghost use Rattle.tree_laws.specs.Contents.{FrameOfState};
 ghost use Rattle.tree_laws.specs.Links.{LinksReplaced};
+ghost use Rattle.tree_laws.specs.Growth.{TableGrown};
 ghost use Rattle.tree_laws.specs.Journal.{JournalKept};
 ghost use Rattle.tree_laws.specs.Room.{RoomCounted};
 ghost use Rattle.tree_laws.specs.Nodes.{NodeReplaced, NodesByNumber};
@@ -117,4 +118,10 @@ pub fn journal_kept()
 /// that were given back.
 pub fn room_counted()
     ensures { RoomCounted }
+{}
+
+/// Law: where the file table of a volume grows, the volume stands for the tree from before with the
+/// new numbers, which are spare and have the sequence 1.
+pub fn table_grown()
+    ensures { TableGrown }
 {}
