@@ -3,7 +3,7 @@ use Rattle.std.proofs.Common.{◌≡◌, ℕ, zero, suc, ◌+◌, ◌-◌, ◌*�
 use mathlib.Core.Path.{fun_ext}
 use Rattle.std.specs.Prelude.{count_by}
 use Rattle.std.specs.List.{filter_map, flat_map, list_all, list_any, range_with_len, cons_option, AllByRecursion}
-use Rattle.std.proofs.lemmas.Bool.{cases_Bool, cases_lt, and_parts, and_from, le-leb, ne_eqb, both_ways}
+use Rattle.std.proofs.lemmas.Bool.{cases_Bool, cases_lt, and_parts, and_from, le-leb, ne_eqb, both_ways, lt-ltb}
 use Rattle.std.proofs.lemmas.List.{append-nil, length-append, length-replicate, get_or_past, get_or_append_left}
 use Rattle.std.proofs.lemmas.Grind.{flat_map-append}
 use Rattle.host_base.specs.declared.file_ref.FileRef.{FileRef}
@@ -39,6 +39,7 @@ use Rattle.stream_laws.specs.Rewrites.{filled_up}
 use Rattle.stream_laws.proofs.Bitmapping.{record_bit}
 use Rattle.stream_laws.proofs.Rewriting.{none_behind, same_up_to}
 use Rattle.tree_laws.specs.Growth.{grown, GrowsTable, new_number, new_numbers, HasNewNumbers}
+use Rattle.tree_laws.specs.LookUps.{spare_of}
 use Rattle.tree_laws.proofs.Ascending.{all_by}
 use Rattle.tree_laws.proofs.Climbing.{kind_from, node_from, no_node}
 use Rattle.tree_laws.proofs.Keeping.{KeepsAll, rules_of, from_rules, passes_below, fails_nowhere}
@@ -405,6 +406,12 @@ module _ (d : Content) (v : Volume) (f : Extents) (k : GrowsTable d v f) where
       let bytes = record_bytes d (grown v f) m in
       let seq : spare_sequence bytes ≡ 1 = ap (λ (t : Bool). cond (t && not (eqb (field 0x10 2 bytes) 0)) (field 0x10 2 bytes) 1) (k.blank m past below) in
       ap (λ (t : Bool). cond t None (Some (numbered m (spare_sequence bytes)))) (k.clear m past below) ∙ ap (λ (n : ℕ). Some (numbered m n)) seq
+
+  pub spare_before : (m : ℕ) → m < count_of v → spare_of d (grown v f) m ≡ spare_of d v m
+  spare_before m within =
+      let low : Bool = leb first_user_record m in
+      ap (λ (t : Bool). cond (low && t) (spare_at d (grown v f) m) None) (lt-ltb m (count_of (grown v f)) (omega (arith, within, fits, count_now)) ∙ sym (lt-ltb m (count_of v) within))
+      ∙ ap (λ (o : Option FileRef). cond (low && ltb m (count_of v)) o None) (spare_same m within)
 
   spares : spare_numbers d (grown v f) ≡ spare_numbers d v ++ new_numbers (count_of v) (record_count f)
   unfolding spare_numbers

@@ -17,3 +17,5 @@ pub mod Shortening
 pub mod Journaling
 pub mod Counting
 pub mod Growing
+pub mod Finding
+pub mod LookingUp

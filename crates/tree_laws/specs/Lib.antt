@@ -14,3 +14,4 @@ pub mod Listed
 pub mod Journal
 pub mod Room
 pub mod Growth
+pub mod LookUps

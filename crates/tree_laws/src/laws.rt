@@ -7,6 +7,7 @@ ghost use Rattle.tree_laws.specs.Ways.{WaysKept, WaysAreShort};
 ghost use Rattle.tree_laws.specs.Contents.{FrameOfState};
 ghost use Rattle.tree_laws.specs.Links.{LinksReplaced};
 ghost use Rattle.tree_laws.specs.Growth.{TableGrown};
+ghost use Rattle.tree_laws.specs.LookUps.{TreesByLookUp};
 ghost use Rattle.tree_laws.specs.Journal.{JournalKept};
 ghost use Rattle.tree_laws.specs.Room.{RoomCounted};
 ghost use Rattle.tree_laws.specs.Nodes.{NodeReplaced, NodesByNumber};
@@ -124,4 +125,10 @@ pub fn room_counted()
 /// new numbers, which are spare and have the sequence 1.
 pub fn table_grown()
     ensures { TableGrown }
+{}
+
+/// Law: where several files are replaced and the file table may grow, the new tree by look-up: its
+/// nodes and spare numbers, its names, the count, the journal and the room.
+pub fn trees_by_look_up()
+    ensures { TreesByLookUp }
 {}
