@@ -11,7 +11,9 @@ use Rattle.host_base.specs.Answers.{◌>>=◌}
 use Rattle.host_base.specs.FileRefs.{same_reference}
 use Rattle.disk_model.specs.declared.block.Block.{Block}
 use Rattle.disk_model.specs.declared.block.BlockKind.TheVariants.{FileRec}
-use Rattle.disk_model.specs.Content.{Content, HasSizes}
+use Rattle.disk_model.specs.declared.block.Body.{Body}
+use Rattle.disk_model.specs.Bytes.{zeros}
+use Rattle.disk_model.specs.Content.{Content, HasSizes, is_signed}
 use Rattle.disk_model.specs.Writes.{Write, overlay}
 use Rattle.record_model.specs.declared.attribute.Attr.{Attr}
 use Rattle.record_model.specs.declared.runs.Run.{Run}
@@ -23,11 +25,12 @@ use Rattle.state_model.specs.declared.geometry.MapRefusal.{MapRefusal}
 use Rattle.state_model.specs.declared.stream.Extents.{Extents}
 use Rattle.state_model.specs.Files.{Table, file_at, only_base, is_base_record, reference}
 use Rattle.state_model.specs.Streams.{block_at, is_inside_block, cuts_block, has_cut_block}
-use Rattle.state_model.specs.Loads.{Slot, Torn, Free, Broken, Used, record_count, table_of, slot_at, table_slot, used_record, records_of, table_in, list_stream, list_entries_in, entries_of, no_entries, is_named_in, named_attrs, all_attrs, whole_file, joined_file, holds_named, is_held, holds_all, has_held_list, cuts_index, breaks_9, breaks_list, breaks_10, broken_rule, or_rule, rule_at, torn_refusal, rule_refusal, first_some, first_of, unless, files_of, files_in}
-use Rattle.volume_model.specs.Volumes.{Volume, volume_of, count_of}
+use Rattle.state_model.specs.Loads.{Slot, Torn, Free, Broken, Used, record_count, table_of, slot_at, slot_of, table_slot, used_record, records_of, table_in, list_stream, list_entries_in, entries_of, no_entries, is_named_in, named_attrs, all_attrs, whole_file, joined_file, holds_named, is_held, holds_all, has_held_list, cuts_index, breaks_9, breaks_list, breaks_10, broken_rule, or_rule, rule_at, torn_refusal, rule_refusal, first_some, first_of, unless, files_of, files_in}
+use Rattle.volume_model.specs.Volumes.{Volume, volume_of, count_of, block_bytes, record_block, record_bytes}
+use Rattle.stream_laws.specs.Changes.{LeavesBytes, LeavesRecord}
 use Rattle.stream_laws.specs.Volumes.{base_record}
 use Rattle.stream_laws.specs.Replacing.{FileEdit, with_edits, AreEdits}
-use Rattle.stream_laws.specs.Rewrites.{StandsAlone, names_one, TableGoesOn, ChangesRecords, new_file, changed_file, with_table, changed_volume, is_edited, filled_up, RewritesRecords}
+use Rattle.stream_laws.specs.Rewrites.{StandsAlone, names_one, TableGoesOn, ChangesRecords, new_file, changed_file, with_table, changed_volume, is_edited, filled_up, IsBlank, with_files, RewritesRecords}
 use Rattle.stream_laws.proofs.Framing.{same_map, same_slot}
 use Rattle.stream_laws.proofs.Changing.{bytes_agree, record_agrees}
 use Rattle.stream_laws.proofs.Editing.{length-with_edits, other_file}
@@ -540,6 +543,54 @@ goes_on_whole per e f old new size places uncut = record {
   uncut = uncut;
 }
 
+-- where the table stays
+pub rewrites_in_place : (c : Content) (writes : List Write) (g : Geometry) (clusters : ℕ) (v : Volume) (touched : ℕ → Bool) → volume_of c g clusters ≡ Ok v → ((m : ℕ) → m < record_count v.table → touched m ≡ false → LeavesRecord writes v.per v.table m)
+    → ((m : ℕ) (r : Record) → touched m ≡ false → base_record c v.per v.table m ≡ Some r → LeavesBytes writes v.per (list_stream r) × (names_one touched (entries_of c v.per r).entries ≡ false))
+    → ((m : ℕ) → m < record_count v.table → touched m ≡ true → StandsAlone v.per (table_slot (overlay c writes) v.per v.table m)) → RewritesRecords c writes v.per v.table v.table touched
+rewrites_in_place c writes g clusters v touched is others lists alone = record {
+  grows = goes_on_itself c g clusters v is;
+  others = others;
+  lists = λ m r other base. (lists m r other base).0;
+  unnamed = λ m r other base. (lists m r other base).1;
+  alone = alone;
+  fresh = λ m past below. absurd (omega (arith, past, below));
+}
+
+-- ---- blank records
+
+blank_slot : (body : Body) → IsBlank body → slot_of body ≡ Free
+unfolding slot_of
+blank_slot body blank = rw (blank.whole, blank.unsigned) refl
+
+free_or_there : (t : Bool) (x : Slot) → x ≡ Free → cond t Free x ≡ Free
+free_or_there true x is = refl
+free_or_there false x is = is
+
+blank_at : (d : Content) (o : Option Block) → ((b : Block) → o ≡ Some b → IsBlank (d b)) → slot_at d o ≡ Free
+blank_at d None blank = refl
+blank_at d (Some b) blank = blank_slot (d b) (blank b refl)
+
+pub blank_free : (d : Content) (per : ℕ) (f : Extents) (m : ℕ) → ((b : Block) → block_at per f.runs FileRec m ≡ Some b → IsBlank (d b)) → table_slot d per f m ≡ Free
+unfolding table_slot
+blank_free d per f m blank = free_or_there (leb f.initialised (1024 * m)) (slot_at d (block_at per f.runs FileRec m)) (blank_at d (block_at per f.runs FileRec m) blank)
+
+unsigned_in : (d : Content) (o : Option Block) → ((b : Block) → o ≡ Some b → IsBlank (d b)) → is_signed FileRec (block_bytes d o) ≡ false
+unsigned_in d None blank = refl
+unsigned_in d (Some b) blank = (blank b refl).unsigned
+
+unsigned_part : (d : Content) (t : Bool) (o : Option Block) → is_signed FileRec (block_bytes d o) ≡ false → is_signed FileRec (block_bytes d (cond t None o)) ≡ false
+unsigned_part d true o is = refl
+unsigned_part d false o is = is
+
+pub blank_unsigned : (d : Content) (v : Volume) (m : ℕ) → ((b : Block) → block_at v.per v.table.runs FileRec m ≡ Some b → IsBlank (d b)) → is_signed FileRec (record_bytes d v m) ≡ false
+unfolding record_bytes record_block
+blank_unsigned d v m blank = unsigned_part d (leb v.table.initialised (1024 * m)) (block_at v.per v.table.runs FileRec m) (unsigned_in d (block_at v.per v.table.runs FileRec m) blank)
+
+pub zeros_blank : (n : ℕ) → IsBlank (record { bytes = zeros n; torn = false })
+unfolding zeros
+zeros_blank zero = record { whole = refl; unsigned = refl }
+zeros_blank (suc n) = record { whole = refl; unsigned = refl }
+
 -- ---- the files by number
 
 pub none_behind : (count : ℕ) (files : List (Option Record)) (m : ℕ) → length files ≤ m → table_in (filled_up count files) m ≡ None
@@ -563,21 +614,21 @@ changed_by_number d v f touched files count grows each untouched =
           get_or-map-range_with_len new 0 (record_count f) m m None within (omega arith)
           ∙ elim (cases_lt m (count_of v)) [
             | inl below ↦ each m below ∙ sym (get_or_append_left files (replicate more None) None m (omega (arith, below, count)))
-            | inr past ↦ ap (λ (t : Bool). cond t (new_file d v.per f m) (table_in v.files m)) (untouched m past) ∙ get_or_past v.files m None past ∙ sym (none_behind (record_count f) files m (omega (arith, count, past)))
+            | inr past ↦ ap (λ (t : Bool). cond t (new_file d (with_table v f v.files) m) (table_in v.files m)) (untouched m past) ∙ get_or_past v.files m None past ∙ sym (none_behind (record_count f) files m (omega (arith, count, past)))
           ]
       | inr past ↦ get_or_past (map new (range_with_len 0 (record_count f))) m None (omega (arith, size)) ∙ sym (get_or_past (filled_up (record_count f) files) m None (omega (arith, filled)))
     ]))
 
-pub one_changed : (d : Content) (v : Volume) (f : Extents) (n : ℕ) → n < count_of v → count_of v ≤ record_count f → changed_volume d v f (λ m. eqb m n) ≡ with_table v f (filled_up (record_count f) (set v.files n (new_file d v.per f n)))
-one_changed d v f n inside grows = changed_by_number d v f (λ m. eqb m n) (set v.files n (new_file d v.per f n)) (length-set v.files n (new_file d v.per f n)) grows (λ m within. elim (cases_Bool (eqb m n)) [
+pub one_changed : (d : Content) (v : Volume) (f : Extents) (n : ℕ) → n < count_of v → count_of v ≤ record_count f → changed_volume d v f (λ m. eqb m n) ≡ with_table v f (filled_up (record_count f) (set v.files n (new_file d (with_table v f v.files) n)))
+one_changed d v f n inside grows = changed_by_number d v f (λ m. eqb m n) (set v.files n (new_file d (with_table v f v.files) n)) (length-set v.files n (new_file d (with_table v f v.files) n)) grows (λ m within. elim (cases_Bool (eqb m n)) [
   | inl is ↦
       (let same : m ≡ n = eqb-true m n is in
-      ap (λ (t : Bool). cond t (new_file d v.per f m) (table_in v.files m)) is
-      ∙ ap (new_file d v.per f) same
-      ∙ sym (ap (λ (k : ℕ). get_or (set v.files n (new_file d v.per f n)) k None) same ∙ get_or-set_same v.files n (new_file d v.per f n) None inside))
+      ap (λ (t : Bool). cond t (new_file d (with_table v f v.files) m) (table_in v.files m)) is
+      ∙ ap (new_file d (with_table v f v.files)) same
+      ∙ sym (ap (λ (k : ℕ). get_or (set v.files n (new_file d (with_table v f v.files) n)) k None) same ∙ get_or-set_same v.files n (new_file d (with_table v f v.files) n) None inside))
   | inr other ↦
-      ap (λ (t : Bool). cond t (new_file d v.per f m) (table_in v.files m)) other
-      ∙ sym (get_or-set_other v.files n m (new_file d v.per f n) None (eqb-false m n other))
+      ap (λ (t : Bool). cond t (new_file d (with_table v f v.files) m) (table_in v.files m)) other
+      ∙ sym (get_or-set_other v.files n m (new_file d (with_table v f v.files) n) None (eqb-false m n other))
 ]) (λ m past. ne_eqb m n (λ same. omega (arith, same, past, inside)))
 
 -- the file at a number after edits, each of which puts in the new file of its number
@@ -605,6 +656,16 @@ unedited : (edits : List FileEdit) (count m : ℕ) → AreEdits count edits → 
 unedited [] count m are past = refl
 unedited (e ∷ edits) count m are past = or_from _ _ (ne_eqb e.number m (λ same. omega (arith, same, past, are.0))) (unedited edits count m are.2 past)
 
-pub edits_changed : (d : Content) (v : Volume) (f : Extents) (edits : List FileEdit) → AreEdits (count_of v) edits → count_of v ≤ record_count f → AllByRecursion (λ e. e.file ≡ new_file d v.per f e.number) edits
+pub edits_changed : (d : Content) (v : Volume) (f : Extents) (edits : List FileEdit) → AreEdits (count_of v) edits → count_of v ≤ record_count f → AllByRecursion (λ e. e.file ≡ new_file d (with_table v f v.files) e.number) edits
     → changed_volume d v f (is_edited edits) ≡ with_table v f (filled_up (record_count f) (with_edits edits v.files))
-edits_changed d v f edits are grows puts = changed_by_number d v f (is_edited edits) (with_edits edits v.files) (length-with_edits v.files edits) grows (λ m within. at_edited (new_file d v.per f) v.files edits (count_of v) m refl are puts) (λ m past. unedited edits (count_of v) m are past)
+edits_changed d v f edits are grows puts = changed_by_number d v f (is_edited edits) (with_edits edits v.files) (length-with_edits v.files edits) grows (λ m within. at_edited (new_file d (with_table v f v.files)) v.files edits (count_of v) m refl are puts) (λ m past. unedited edits (count_of v) m are past)
+
+pub unfilled : (count : ℕ) (files : List (Option Record)) → length files ≡ count → filled_up count files ≡ files
+unfilled count files size =
+    let none : count - length files ≡ 0 = omega (arith, size) in
+    ap (λ (n : ℕ). files ++ replicate n None) none ∙ append-nil files
+
+pub edits_in_place : (d : Content) (v : Volume) (edits : List FileEdit) → count_of v ≡ record_count v.table → AreEdits (count_of v) edits → AllByRecursion (λ e. e.file ≡ new_file d v e.number) edits → changed_volume d v v.table (is_edited edits) ≡ with_files v (with_edits edits v.files)
+edits_in_place d v edits count are puts =
+    edits_changed d v v.table edits are (omega (arith, count)) puts
+    ∙ ap (with_files v) (unfilled (record_count v.table) (with_edits edits v.files) (length-with_edits v.files edits ∙ count))
