@@ -162,7 +162,7 @@ planned_agrees touched streams records c g clusters v w writes k spares bits = r
   free = same_record touched streams records c g clusters v writes k spares;
 }
 
-journal_agrees : (streams : StreamKey → Bool) (records : ℕ → Bool) (c : Content) (g : Geometry) (clusters : ℕ) (v : Volume) (writes : List Write) → WritesWithin streams records c g clusters v writes
+pub journal_agrees : (streams : StreamKey → Bool) (records : ℕ → Bool) (c : Content) (g : Geometry) (clusters : ℕ) (v : Volume) (writes : List Write) → WritesWithin streams records c g clusters v writes
     → ((m : ℕ) → journal_number (upper_of c v) v ≡ Some m → streams (record { file = m; kind = data_type; name = entries_name }) ≡ false) → SameEntries c (overlay c writes) (upper_of c v) v
 unfolding entries_name
 journal_agrees streams records c g clusters v writes k apart r is =
@@ -190,3 +190,9 @@ planned_agree n streams records c g clusters v writes k spares marked bitmap apa
       indexes = λ m is. same_index_at touched streams records c g clusters v writes k spares m (other m is);
       shown = λ m is. same_shown_at touched streams records c g clusters v writes k spares m (other m is);
     }
+
+pub planned_upper : (touched : ℕ → Bool) (streams : StreamKey → Bool) (records : ℕ → Bool) (c : Content) (g : Geometry) (clusters : ℕ) (v : Volume) (writes : List Write) → WritesWithin streams records c g clusters v writes → SparesOthers touched streams records c v writes → SameUpper c (overlay c writes) v
+planned_upper touched streams records c g clusters v writes k spares = same_upper touched streams records c g clusters v writes k spares
+
+pub planned_shown : (touched : ℕ → Bool) (streams : StreamKey → Bool) (records : ℕ → Bool) (c : Content) (g : Geometry) (clusters : ℕ) (v : Volume) (writes : List Write) (m : ℕ) → WritesWithin streams records c g clusters v writes → SparesOthers touched streams records c v writes → touched m ≡ false → SameShownAt c (overlay c writes) v m
+planned_shown touched streams records c g clusters v writes m k spares other = same_shown_at touched streams records c g clusters v writes k spares m other

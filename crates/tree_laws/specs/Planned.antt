@@ -21,7 +21,7 @@ use Rattle.stream_laws.specs.Leaving.{LiesFree}
 use Rattle.stream_laws.specs.Places.{AreOnce}
 use Rattle.stream_laws.specs.Sharing.{StreamKey, stream_at, runs_in}
 use Rattle.stream_laws.specs.Tables.{table_key, BeginsAtBoot}
-use Rattle.tree_laws.specs.Contents.{AgreeBut}
+use Rattle.tree_laws.specs.Contents.{SameUpper, SameShownAt, SameEntries, AgreeBut}
 use Rattle.tree_laws.specs.Changed.{AgreesElsewhere}
 use Rattle.tree_laws.specs.Parts.{journal_number}
 
@@ -59,7 +59,8 @@ pub record SparesOthers (touched : ℕ → Bool) (streams : StreamKey → Bool) 
   pub indexes : (m : ℕ) (r : Record) → touched m ≡ false → file_in v m ≡ Some r → is_directory_record r ≡ true → streams (record { file = m; kind = index_allocation; name = names_index }) ≡ false
   pub shown : (m : ℕ) (r : Record) → touched m ≡ false → file_in v m ≡ Some r → shows_data (kind_in v m r) ≡ true → streams (record { file = m; kind = data_type; name = [] }) ≡ false
 
--- Then the other streams, indexes and records are left, and the content after the writes agrees with the one before.
+-- Then the other streams, indexes and records are left, and the content after the writes agrees with the one before; by itself on the
+-- table of upper-case units, on what other nodes show, and on the change journal.
 pub record PlannedWrites : Type 0 where
   pub bytes : (streams : StreamKey → Bool) (records : ℕ → Bool) (c : Content) (g : Geometry) (clusters : ℕ) (v : Volume) (writes : List Write) (s : StreamKey) → WritesWithin streams records c g clusters v writes → streams s ≡ false → table_key ≢ s → LeavesBytes writes v.per (stream_at v s)
   pub index : (streams : StreamKey → Bool) (records : ℕ → Bool) (c : Content) (g : Geometry) (clusters : ℕ) (v : Volume) (writes : List Write) (s : StreamKey) → WritesWithin streams records c g clusters v writes → streams s ≡ false → table_key ≢ s
@@ -70,3 +71,8 @@ pub record PlannedWrites : Type 0 where
       → ((m : ℕ) → journal_number (upper_of c v) v ≡ Some m → streams (record { file = m; kind = data_type; name = entries_name }) ≡ false) → AgreeBut n c (overlay c writes) v
   pub agrees : (touched : ℕ → Bool) (streams : StreamKey → Bool) (records : ℕ → Bool) (c : Content) (g : Geometry) (clusters : ℕ) (v w : Volume) (writes : List Write) → WritesWithin streams records c g clusters v writes → SparesOthers touched streams records c v writes
       → ((m : ℕ) → m < count_of v → touched m ≡ false → bit (record_bits (overlay c writes) w) m ≡ bit (record_bits c v) m) → AgreesElsewhere touched c (overlay c writes) v w
+  pub upper : (touched : ℕ → Bool) (streams : StreamKey → Bool) (records : ℕ → Bool) (c : Content) (g : Geometry) (clusters : ℕ) (v : Volume) (writes : List Write) → WritesWithin streams records c g clusters v writes → SparesOthers touched streams records c v writes → SameUpper c (overlay c writes) v
+  pub shown : (touched : ℕ → Bool) (streams : StreamKey → Bool) (records : ℕ → Bool) (c : Content) (g : Geometry) (clusters : ℕ) (v : Volume) (writes : List Write) (m : ℕ) → WritesWithin streams records c g clusters v writes → SparesOthers touched streams records c v writes → touched m ≡ false
+      → SameShownAt c (overlay c writes) v m
+  pub entries : (streams : StreamKey → Bool) (records : ℕ → Bool) (c : Content) (g : Geometry) (clusters : ℕ) (v : Volume) (writes : List Write) → WritesWithin streams records c g clusters v writes
+      → ((m : ℕ) → journal_number (upper_of c v) v ≡ Some m → streams (record { file = m; kind = data_type; name = entries_name }) ≡ false) → SameEntries c (overlay c writes) (upper_of c v) v
