@@ -146,7 +146,7 @@ no_list_stream r has = ap (λ (l : List Attr). joined (sorted_into [] l)) (no_at
 
 -- ---- the first file
 
-only_base_some : (o : Option Record) (f : Record) → only_base o ≡ Some f → o ≡ Some f
+pub only_base_some : (o : Option Record) (f : Record) → only_base o ≡ Some f → o ≡ Some f
 only_base_some None f is = absurd cc
 only_base_some (Some r) f is = passed (is_base_record r) is
   where
@@ -160,7 +160,7 @@ used_some Free r is = absurd cc
 used_some (Broken rule) r is = absurd cc
 used_some (Used q) r is = let same : q ≡ r = cc in ap (λ (k : Record). Used k) same
 
-whole_some : (c : Content) (per : ℕ) (p : Table) (count n : ℕ) (o : Option Record) (f : Record) → whole_file c per p count n o ≡ Some f → (r : Record) × (o ≡ Some r) × (f.attrs ≡ all_attrs c per p count n r)
+pub whole_some : (c : Content) (per : ℕ) (p : Table) (count n : ℕ) (o : Option Record) (f : Record) → whole_file c per p count n o ≡ Some f → (r : Record) × (o ≡ Some r) × (f.attrs ≡ all_attrs c per p count n r)
 whole_some c per p count n None f is = absurd cc
 whole_some c per p count n (Some r) f is = (r, refl, attrs_of (sym is))
   where

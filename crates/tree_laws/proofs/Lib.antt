@@ -20,3 +20,4 @@ pub mod Growing
 pub mod Finding
 pub mod LookingUp
 pub mod Stepping
+pub mod Sparing
