@@ -1,7 +1,7 @@
 ghost use Rattle.stream_laws.specs.Changes.{BytesAfterWrites, StaysElsewhere};
 ghost use Rattle.stream_laws.specs.Bitmaps.{BitsOfBitmaps, BitsAfterPuts};
 ghost use Rattle.stream_laws.specs.Frames.{FrameOfStreams, FrameOfRecords, FrameOfIndexes};
-ghost use Rattle.stream_laws.specs.Growth.{BytesAfterPuts, StreamsGrow, GrownRunsApart};
+ghost use Rattle.stream_laws.specs.Growth.{BytesAfterPuts, StreamsGrow, GrownRunsApart, RunsGoOn};
 ghost use Rattle.stream_laws.specs.Leaving.{FreeBlocksApart, OtherStreamsStay};
 ghost use Rattle.stream_laws.specs.Owners.{OwnedOnce};
 ghost use Rattle.stream_laws.specs.Places.{NoBlockTwice, OnceByRule};
@@ -171,4 +171,10 @@ pub fn clusters_by_kind()
 /// twice in it.
 pub fn owned_once()
     ensures { OwnedOnce }
+{}
+
+/// Law: a place that lies in one of a stream's runs has its block still where runs follow them, the
+/// last one getting longer or not.
+pub fn runs_go_on()
+    ensures { RunsGoOn }
 {}
