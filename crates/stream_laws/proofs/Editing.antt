@@ -49,7 +49,7 @@ same_lost weigh files n file (e ∷ edits) leave =
     )
 
 -- a whole that changes by the weights of one file's replacement changes by those of all edits
-balance : (whole : Files → ℕ) (weigh : ℕ → Option Record → ℕ) (count : ℕ) → ((files : Files) (n : ℕ) (file : Option Record) → length files ≡ count → n < count → whole (set files n file) + weigh n (get_or files n None) ≡ whole files + weigh n file)
+pub balance : (whole : Files → ℕ) (weigh : ℕ → Option Record → ℕ) (count : ℕ) → ((files : Files) (n : ℕ) (file : Option Record) → length files ≡ count → n < count → whole (set files n file) + weigh n (get_or files n None) ≡ whole files + weigh n file)
     → (files : Files) (edits : List FileEdit) → length files ≡ count → AreEdits count edits → whole (with_edits edits files) + sum_by (λ e. weigh e.number (get_or files e.number None)) edits ≡ whole files + sum_by (λ e. weigh e.number e.file) edits
 balance whole weigh count step files [] size are = refl
 balance whole weigh count step files (e ∷ edits) size are =

@@ -11,3 +11,8 @@ pub mod Loading
 pub mod Rewriting
 pub mod Tabling
 pub mod Leaving
+pub mod Growing
+pub mod Bitmapping
+pub mod Weighing
+pub mod Taking
+pub mod Owning

@@ -7,7 +7,7 @@ use Rattle.std.proofs.lemmas.List.Sums.{sum_by-cons, sum_by-append}
 use Rattle.disk_model.specs.declared.block.Block.{Block}
 use Rattle.disk_model.specs.declared.block.BlockKind.{BlockKind}
 use Rattle.disk_model.specs.declared.block.BlockKind.TheVariants.{Plain, FileRec, Index}
-use Rattle.disk_model.specs.Sectors.{sectors, overlap}
+use Rattle.disk_model.specs.Sectors.{sectors, overlap, HasSector}
 use Rattle.record_model.specs.declared.runs.Run.{Run}
 use Rattle.state_model.specs.Streams.{holds, lcn_in, block_at}
 use Rattle.volume_model.specs.Sizes.{lies_below, lies_inside}
@@ -231,3 +231,16 @@ lists_apart per runs others kind other n m a b some apart at_n at_m = false_from
     let first = is_used _ runs k.run (d.0 / per) k.found (lies_in_cluster per runs kind n a k d.0 some d.1 d.2) in
     let second = is_used _ others l.run (d.0 / per) l.found (lies_in_cluster per others other m b l d.0 some d.3 d.4) in
     omega (arith, first, second, apart (d.0 / per)))
+
+-- ---- clusters that runs don't have
+
+-- each sector of a block lies in a cluster of its runs
+pub lies_in_used : (per : ℕ) (runs : List Run) (kind : BlockKind) (n : ℕ) (b : Block) → 0 < per → block_at per runs kind n ≡ Some b → (d : ℕ) → HasSector b d → 1 ≤ uses runs (d / per)
+lies_in_used per runs kind n b some at d has =
+    let k = lies per runs kind n b at in
+    is_used _ runs k.run (d / per) k.found (lies_in_cluster per runs kind n b k d some has.0 has.1)
+
+pub apart_from_unused : (per : ℕ) (runs : List Run) (kind : BlockKind) (n : ℕ) (b free : Block) → 0 < per → block_at per runs kind n ≡ Some b → ((d : ℕ) → HasSector free d → uses runs (d / per) ≡ 0) → overlap b free ≡ false
+apart_from_unused per runs kind n b free some at unused = false_from_ne_true (overlap b free) (λ both.
+    let d = shared b free both in
+    omega (arith, lies_in_used per runs kind n b some at d.0 (d.1, d.2), unused d.0 (d.3, d.4)))

@@ -1,8 +1,8 @@
 -- The file table as a stream of its volume.
-use Rattle.std.proofs.Common.{◌≡◌, ◌≢◌, ℕ, ◌*◌, ◌<◌, Bool, true, false, not, cond, eqb, leb, nat_eq, List, [], ◌∷◌, length, get_or, map, Option, Some, None, Result, Ok, Err, refl, sym, ap, subst, ◌∙◌, inl, inr, arith}
+use Rattle.std.proofs.Common.{◌≡◌, ◌≢◌, ℕ, ◌*◌, ◌<◌, ◌≤◌, Bool, true, false, not, cond, eqb, leb, nat_eq, List, [], ◌∷◌, length, get_or, map, Option, Some, None, Result, Ok, Err, refl, sym, ap, subst, ◌∙◌, inl, inr, arith}
 use Rattle.std.specs.Cmp.Lexicographic.{pointwise}
 use Rattle.std.specs.List.{filter, list_all, list_any}
-use Rattle.std.proofs.lemmas.Bool.{cases_lt, or_parts, and_left}
+use Rattle.std.proofs.lemmas.Bool.{cases_lt, or_parts, and_left, le-leb}
 use Rattle.std.proofs.lemmas.List.{get_or_past}
 use Rattle.std.proofs.lemmas.List.FromFn.{length-map-range_with_len, get_or-map-range_with_len}
 use Rattle.host_base.specs.Answers.{◌>>=◌, needs}
@@ -70,6 +70,41 @@ behind_shape (Ok x) pairs lawful r is = let same = both_pass (pairs x) (lawful x
 shape_of_whole : (body : List ℕ) (r : Record) → whole_record body ≡ Ok r → shaped_at body ≡ Ok r
 unfolding whole_record
 shape_of_whole body r is = behind_shape (shaped_at body) has_all_pairs has_lawful_values r is
+
+-- ---- a record that breaks no rule is read by both
+
+record_of_rest : (t e i l : Bool) (x r : Record) → (x ≡ r → l ≡ true) → (needs {F = ℕ} t 4 >>= λ _. needs {F = ℕ} e 5 >>= λ _. needs {F = ℕ} i 6 >>= λ _. Ok x) ≡ Ok r → (needs {F = ℕ} t 4 >>= λ _. needs {F = ℕ} e 5 >>= λ _. needs {F = ℕ} i 6 >>= λ _. needs {F = ℕ} l 8 >>= λ _. Ok x) ≡ Ok r
+record_of_rest false e i l x r lawful is = absurd cc
+record_of_rest true false i l x r lawful is = absurd cc
+record_of_rest true true false l x r lawful is = absurd cc
+record_of_rest true true true l x r lawful is =
+    let same : x ≡ r = cc in
+    rw (lawful same) is
+
+record_of_pieces : (head : RecHead) (read : Result Pieces ℕ) (r : Record) → list_all has_lawful_value r.attrs ≡ true
+    → (read >>= λ p. needs (types_rise p.pieces) 4 >>= λ _. needs p.ended 5 >>= λ _. needs (list_all is_inside p.pieces) 6 >>= λ _. Ok (record { head = head; attrs = map attr_of p.pieces })) ≡ Ok r
+    → (read >>= λ p. needs (types_rise p.pieces) 4 >>= λ _. needs p.ended 5 >>= λ _. needs (list_all is_inside p.pieces) 6 >>= λ _. needs (list_all has_lawful_value (map attr_of p.pieces)) 8 >>= λ _. Ok (record { head = head; attrs = map attr_of p.pieces })) ≡ Ok r
+record_of_pieces head (Ok p) r lawful is =
+    let read : Record = record { head = head; attrs = map attr_of p.pieces } in
+    record_of_rest (types_rise p.pieces) p.ended (list_all is_inside p.pieces) (list_all has_lawful_value (map attr_of p.pieces)) read r (λ same. ap (λ (k : Record). list_all has_lawful_value k.attrs) same ∙ lawful) is
+record_of_pieces head (Err rule) r lawful is = absurd cc
+
+record_of_shape : (body : List ℕ) (r : Record) → shaped_at body ≡ Ok r → has_lawful_values r ≡ true → record_at body ≡ Ok r
+unfolding record_at shaped_at has_lawful_values
+record_of_shape body r is lawful = behind_needs (has_first body) (has_size body) _ _ r (record_of_pieces (rec_head_of body) (cut most_attributes (attribute_bytes body)) r lawful) is
+
+passes : (pairs lawful : Bool) (x r : Record) → (needs {F = ℕ} pairs 7 >>= λ _. needs {F = ℕ} lawful 8 >>= λ _. Ok x) ≡ Ok r → (pairs ≡ true) × (lawful ≡ true) × (x ≡ r)
+passes false lawful x r is = absurd cc
+passes true false x r is = absurd cc
+passes true true x r is = (refl, refl, cc)
+
+passes_whole : (shape : Result Record ℕ) (pairs lawful : Record → Bool) (r : Record) → (shape >>= λ x. needs {F = ℕ} (pairs x) 7 >>= λ _. needs {F = ℕ} (lawful x) 8 >>= λ _. Ok x) ≡ Ok r → (pairs r ≡ true) × (lawful r ≡ true)
+passes_whole (Err rule) pairs lawful r is = absurd cc
+passes_whole (Ok x) pairs lawful r is = let parts = passes (pairs x) (lawful x) x r is in (sym (ap pairs parts.2) ∙ parts.0, sym (ap lawful parts.2) ∙ parts.1)
+
+rules_of_whole : (body : List ℕ) (r : Record) → whole_record body ≡ Ok r → (has_all_pairs r ≡ true) × (has_lawful_values r ≡ true)
+unfolding whole_record
+rules_of_whole body r is = passes_whole (shaped_at body) has_all_pairs has_lawful_values r is
 
 -- ---- the record in the boot sector's block
 
@@ -190,6 +225,23 @@ of_body body r e slot table =
     let found = table_record judgement.0 e judgement.2 in
     let same : judgement.0 ≡ r = one_answer (shaped_at body.bytes) judgement.0 r (shape_of_record body.bytes judgement.0 judgement.1) (shape_of_whole body.bytes r read.2) in
     (sym (ap (has_type attribute_list) same) ∙ found.0, sym (ap table_extents same) ∙ found.1)
+
+judged_used : (torn used : Bool) (read : Result Record ℕ) (r : Record) → torn ≡ false → used ≡ true → read ≡ Ok r → (judged 0 (cond torn Torn (cond used (slot_in read) Free)) >>= extents_in) ≡ extents_in (Some r)
+judged_used torn used read r whole in_use is = rw (whole, in_use, is) refl
+
+-- the extents are those that the record in the boot sector's block says
+pub table_by_record : (d : Content) (g : Geometry) (r : Record) → slot_of (d (boot_block g 0)) ≡ Used r → has_type attribute_list r ≡ false → record_count (table_extents r) ≤ most_records → table_of d g ≡ Ok (table_extents r)
+unfolding table_of slot_of extents_in
+table_by_record d g r slot unlisted few =
+    let body = d (boot_block g 0) in
+    let read = read_in_use body.torn (is_used body.bytes) (whole_record body.bytes) r slot in
+    let rules = rules_of_whole body.bytes r read.2 in
+    let again = record_of_shape body.bytes r (shape_of_whole body.bytes r read.2) rules.1 in
+    judged_used body.torn (is_used body.bytes) (record_at body.bytes) r read.0 read.1 again
+    ∙ three_pass (has_type attribute_list r) (leb (record_count (table_extents r)) most_records) (has_all_pairs r) unlisted (le-leb (record_count (table_extents r)) most_records few) rules.0
+  where
+    three_pass : (listed fits fit : Bool) → listed ≡ false → fits ≡ true → fit ≡ true → (needs (not listed) MftList >>= λ _. needs fits (MftLarge (record_count (table_extents r))) >>= λ _. needs fit (BadRecord 0 7) >>= λ _. Ok (table_extents r)) ≡ Ok (table_extents r)
+    three_pass listed fits fit a b c = rw (a, b, c) refl
 
 pub table_extents_is : (c : Content) (g : Geometry) (clusters : ℕ) (v : Volume) → BeginsAtBoot c g clusters v → extents_or (stream_at v table_key) ≡ v.table
 unfolding table_of table_extents data_stream

@@ -3,6 +3,7 @@ pub mod Changes
 pub mod Places
 pub mod Records
 pub mod Sharing
+pub mod Owners
 pub mod Replacing
 pub mod Puts
 pub mod Volumes
@@ -10,3 +11,6 @@ pub mod Rewrites
 pub mod Tables
 pub mod Leaving
 pub mod Owners
+pub mod Growth
+pub mod Bitmaps
+pub mod Weights

@@ -1,6 +1,9 @@
 ghost use Rattle.stream_laws.specs.Changes.{BytesAfterWrites, StaysElsewhere};
+ghost use Rattle.stream_laws.specs.Bitmaps.{BitsOfBitmaps, BitsAfterPuts};
 ghost use Rattle.stream_laws.specs.Frames.{FrameOfStreams, FrameOfRecords, FrameOfIndexes};
-ghost use Rattle.stream_laws.specs.Leaving.{OtherStreamsStay};
+ghost use Rattle.stream_laws.specs.Growth.{BytesAfterPuts, StreamsGrow, GrownRunsApart, RunsGoOn};
+ghost use Rattle.stream_laws.specs.Leaving.{FreeBlocksApart, OtherStreamsStay};
+ghost use Rattle.stream_laws.specs.Owners.{OwnedOnce};
 ghost use Rattle.stream_laws.specs.Places.{NoBlockTwice, OnceByRule};
 ghost use Rattle.stream_laws.specs.Records.{OthersStay, OneRecordChanged};
 ghost use Rattle.stream_laws.specs.Puts.{PutsAreWritten};
@@ -8,7 +11,8 @@ ghost use Rattle.stream_laws.specs.Replacing.{FileReplaced, FilesReplaced};
 ghost use Rattle.stream_laws.specs.Sharing.{AttributesApart, StreamsApart};
 ghost use Rattle.stream_laws.specs.Tables.{TableIsStream};
 ghost use Rattle.stream_laws.specs.Volumes.{FrameOfVolumes, FrameOfNodes};
-ghost use Rattle.stream_laws.specs.Rewrites.{VolumeRewritten};
+ghost use Rattle.stream_laws.specs.Rewrites.{TablesGoOn, VolumeRewritten};
+ghost use Rattle.stream_laws.specs.Weights.{WeightsReplaced, ClustersByKind};
 
 /// Law: a stream has the same bytes in two contents that agree on the blocks of its sectors below
 /// its sizes.
@@ -95,7 +99,14 @@ pub fn frame_of_nodes()
     ensures { FrameOfNodes }
 {}
 
-/// Law: where some records are rewritten, a volume has the new files in the places of the old ones.
+/// Law: the extents of a file table go on from themselves, and initialised ones from initialised
+/// ones.
+pub fn tables_go_on()
+    ensures { TablesGoOn }
+{}
+
+/// Law: where some records are rewritten and the file table may grow, a volume has the new files in
+/// the places of the old ones, and none behind them.
 pub fn volume_rewritten()
     ensures { VolumeRewritten }
 {}
@@ -105,8 +116,65 @@ pub fn table_is_stream()
     ensures { TableIsStream }
 {}
 
-/// Law: writes to the blocks of other streams leave a stream, where no cluster lies twice in the
-/// volume.
+/// Law: a block in clusters that no run of a volume has shares no sector with its streams.
+pub fn free_blocks_apart()
+    ensures { FreeBlocksApart }
+{}
+
+/// Law: writes to the blocks of other streams and to free clusters leave a stream, where no cluster
+/// lies twice in the volume.
 pub fn other_streams_stay()
     ensures { OtherStreamsStay }
+{}
+
+/// Law: a byte after puts is that of the last put that covers it, else that from before.
+pub fn bytes_after_puts()
+    ensures { BytesAfterPuts }
+{}
+
+/// Law: a stream that grows has its bytes from before and zeros behind them, after the puts that
+/// cover all that comes to be initialised; so has a value that leaves its record.
+pub fn streams_grow()
+    ensures { StreamsGrow }
+{}
+
+/// Law: where a stream takes clusters that no stream has, none lies twice in it, nor in it and in
+/// another stream.
+pub fn grown_runs_apart()
+    ensures { GrownRunsApart }
+{}
+
+/// Law: the bits of the clusters and of the records are those of the bitmaps' bytes.
+pub fn bits_of_bitmaps()
+    ensures { BitsOfBitmaps }
+{}
+
+/// Law: each bit of a bitmap after puts is that of the byte which is put there last, else the one
+/// from before.
+pub fn bits_after_puts()
+    ensures { BitsAfterPuts }
+{}
+
+/// Law: where files are replaced, the clusters of each kind of block, the live blocks and the names
+/// that are a link change by what the new files add and the old ones took away.
+pub fn weights_replaced()
+    ensures { WeightsReplaced }
+{}
+
+/// Law: each cluster is used for blocks of one kind or another, and those of a block that a volume
+/// owns for blocks of its kind.
+pub fn clusters_by_kind()
+    ensures { ClustersByKind }
+{}
+
+/// Law: two blocks that a volume owns and that share a sector are one block, where no cluster lies
+/// twice in it.
+pub fn owned_once()
+    ensures { OwnedOnce }
+{}
+
+/// Law: a place that lies in one of a stream's runs has its block still where runs follow them, the
+/// last one getting longer or not.
+pub fn runs_go_on()
+    ensures { RunsGoOn }
 {}

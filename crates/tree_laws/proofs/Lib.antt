@@ -14,3 +14,10 @@ pub mod Owning
 pub mod Planning
 pub mod Listing
 pub mod Shortening
+pub mod Journaling
+pub mod Counting
+pub mod Growing
+pub mod Finding
+pub mod LookingUp
+pub mod Stepping
+pub mod Sparing

@@ -1,7 +1,7 @@
 -- Rule 3 at a directory in which a file gets other names.
-use Rattle.std.proofs.Common.{◌≡◌, ℕ, ◌+◌, ◌<◌, Bool, true, false, ◌||◌, List, [], ◌∷◌, ◌++◌, length, length-append, Option, Some, None, refl, sym, ap, subst, ◌∙◌, arith}
+use Rattle.std.proofs.Common.{◌≡◌, ℕ, zero, suc, ◌+◌, ◌<◌, ◌≤◌, Bool, true, false, ◌||◌, List, [], ◌∷◌, ◌++◌, length, length-append, Option, Some, None, refl, sym, ap, subst, ◌∙◌, inl, inr, arith}
 use Rattle.std.specs.List.{list_all, list_any, AllByRecursion}
-use Rattle.std.proofs.lemmas.Bool.{and_parts, and_from, or_right, eqb-true, eq-eqb}
+use Rattle.std.proofs.lemmas.Bool.{cases_lt, and_parts, and_from, or_right, eqb-true, eq-eqb}
 use Rattle.host_base.specs.declared.file_ref.FileRef.{FileRef}
 use Rattle.disk_model.specs.Content.{Content}
 use Rattle.record_model.specs.Records.{Record}
@@ -11,12 +11,12 @@ use Rattle.state_model.specs.Rules.{implies, at_file, same_link, count_in, names
 use Rattle.volume_model.specs.Volumes.{Volume, files_by_number, count_of, file_in}
 use Rattle.volume_model.specs.Indexes.{index_links, lists_names, keeps_index}
 use Rattle.stream_laws.specs.Replacing.{SameBut}
-use Rattle.stream_laws.proofs.Replacing.{names_replaced}
 use Rattle.tree_laws.specs.Keeping.{PartReplaced}
 use Rattle.tree_laws.specs.Leaves.{names_there}
+use Rattle.tree_laws.specs.Listed.{KeepsThereBut}
 use Rattle.tree_laws.proofs.Naming.{names_elsewhere, this_or_other}
 use Rattle.tree_laws.proofs.Ascending.{all_by}
-use Rattle.tree_laws.proofs.Standing.{found_there, count_there, every_one, all_joined, both_all}
+use Rattle.tree_laws.proofs.Standing.{KeepsThere, same_names_there, same_counts, found_there, count_there, every_one, all_joined, both_all}
 
 -- ---- what an index holds
 
@@ -64,11 +64,41 @@ from_parts : (upper : List ℕ) (p : Table) (count : ℕ) (directory : FileRef) 
 unfolding is_index
 from_parts upper p count directory links rising names size = and_from _ _ (and_from _ _ rising names) (eq-eqb _ _ size)
 
-pub index_changed : (upper : List ℕ) (p q : Table) (n count : ℕ) (directory : FileRef) (old new : List Link) → n < count → SameBut n p q → length new + count_in directory (links_at p n) ≡ length old + count_in directory (links_at q n)
+-- ---- files that keep their names there
+
+pub there_elsewhere : (p q : Table) (n : ℕ) (directory : FileRef) → SameBut n p q → KeepsThereBut n directory p q
+there_elsewhere p q n directory others m other = ap (names_there directory) (names_elsewhere p q n m others other)
+
+there_below : (p q : Table) (directory : FileRef) (count n : ℕ) → count ≤ n → KeepsThereBut n directory p q → names_in q directory count ≡ names_in p directory count
+unfolding names_in
+there_below p q directory zero n le others = refl
+there_below p q directory (suc count) n le others =
+    let here : count_in directory (links_at q count) ≡ count_in directory (links_at p count) = count_there directory (links_at q count) ∙ ap length (others count (λ is. omega (arith, is))) ∙ sym (count_there directory (links_at p count)) in
+    let below = there_below p q directory count n (omega arith) others in
+    omega (arith, here, below)
+
+-- how many names there are changes by those of the one file
+there_changed : (p q : Table) (directory : FileRef) (count n : ℕ) → n < count → KeepsThereBut n directory p q → names_in q directory count + count_in directory (links_at p n) ≡ names_in p directory count + count_in directory (links_at q n)
+unfolding names_in
+there_changed p q directory zero n lt others = absurd (omega arith)
+there_changed p q directory (suc count) n lt others = elim (cases_lt n count) [
+  | inl below ↦
+      (let here : count_in directory (links_at q count) ≡ count_in directory (links_at p count) = count_there directory (links_at q count) ∙ ap length (others count (λ is. omega (arith, is))) ∙ sym (count_there directory (links_at p count)) in
+      let rest = there_changed p q directory count n below others in
+      omega (arith, here, rest))
+  | inr last ↦
+      (let is : n ≡ count = omega arith in
+      let below = there_below p q directory count n last others in
+      let old : count_in directory (links_at p n) ≡ count_in directory (links_at p count) = ap (λ (k : ℕ). count_in directory (links_at p k)) is in
+      let new : count_in directory (links_at q n) ≡ count_in directory (links_at q count) = ap (λ (k : ℕ). count_in directory (links_at q k)) is in
+      omega (arith, below, old, new))
+]
+
+pub index_changed : (upper : List ℕ) (p q : Table) (n count : ℕ) (directory : FileRef) (old new : List Link) → n < count → KeepsThereBut n directory p q → length new + count_in directory (links_at p n) ≡ length old + count_in directory (links_at q n)
     → is_rising upper new ≡ true → list_all (is_name_in q directory) new ≡ true → is_index upper p count directory old ≡ true → is_index upper q count directory new ≡ true
 index_changed upper p q n count directory old new within others balance rising names is =
     let parts = index_parts upper p count directory old is in
-    let sums = names_replaced p q directory count n within others in
+    let sums = there_changed p q directory count n within others in
     let size = parts.size in
     from_parts upper q count directory new rising names (omega (arith, balance, sums, size))
 
@@ -101,7 +131,7 @@ found_with_less f l old new replaced apart =
     ∙ sym (ap (list_any f) replaced.was ∙ any_joined f replaced.front (l ∷ replaced.behind) ∙ ap (λ (t : Bool). list_any f replaced.front || (t || list_any f replaced.behind)) apart)
 
 -- a name of the directory stays one, where it is still found among the new names of the file
-still_name : (p q : Table) (n : ℕ) (directory : FileRef) (j : Link) → SameBut n p q → (list_any (same_link j) (names_there directory (links_at p n)) ≡ true → list_any (same_link j) (names_there directory (links_at q n)) ≡ true) → is_name_in p directory j ≡ true → is_name_in q directory j ≡ true
+still_name : (p q : Table) (n : ℕ) (directory : FileRef) (j : Link) → KeepsThereBut n directory p q → (list_any (same_link j) (names_there directory (links_at p n)) ≡ true → list_any (same_link j) (names_there directory (links_at q n)) ≡ true) → is_name_in p directory j ≡ true → is_name_in q directory j ≡ true
 unfolding is_name_in
 still_name p q n directory j others found is =
     let parts = and_parts _ _ is in
@@ -109,7 +139,11 @@ still_name p q n directory j others found is =
     and_from _ _ there
     (this_or_other (λ (m : ℕ). list_any (same_link j) (links_at p m) ≡ true → list_any (same_link j) (links_at q m) ≡ true) n j.child.number
     (λ was. sym (found_there directory j there (links_at q n)) ∙ found (found_there directory j there (links_at p n) ∙ was))
-    (λ other was. ap (list_any (same_link j)) (names_elsewhere p q n j.child.number others other) ∙ was)
+    (λ other was.
+    sym (found_there directory j there (links_at q j.child.number))
+    ∙ ap (list_any (same_link j)) (others j.child.number other)
+    ∙ found_there directory j there (links_at p j.child.number)
+    ∙ was)
     parts.1)
 
 from_every : (test : Link → Bool) (links : List Link) → AllByRecursion (λ l. test l ≡ true) links → list_all test links ≡ true
@@ -143,7 +177,7 @@ less_by_one k old new replaced =
     let before = ap length replaced.was in
     omega (arith, now, before, length-append replaced.front (k ∷ replaced.behind), length-append replaced.front replaced.behind)
 
-pub index_more : (upper : List ℕ) (p q : Table) (n count : ℕ) (directory : FileRef) (l k : Link) (old new : List Link) → n < count → SameBut n p q → PartReplaced [] (l ∷ []) (names_there directory (links_at p n)) (names_there directory (links_at q n)) → PartReplaced [] (k ∷ []) old new
+pub index_more : (upper : List ℕ) (p q : Table) (n count : ℕ) (directory : FileRef) (l k : Link) (old new : List Link) → n < count → KeepsThereBut n directory p q → PartReplaced [] (l ∷ []) (names_there directory (links_at p n)) (names_there directory (links_at q n)) → PartReplaced [] (k ∷ []) old new
     → is_rising upper new ≡ true → is_name_in q directory k ≡ true → is_index upper p count directory old ≡ true → is_index upper q count directory new ≡ true
 index_more upper p q n count directory l k old new within others names entries rising named is =
     let P : Link → Type 0 = λ j. is_name_in p directory j ≡ true in
@@ -156,7 +190,7 @@ index_more upper p q n count directory l k old new within others names entries r
     (omega (arith, size, count_now, count_there directory (links_at p n), count_there directory (links_at q n)))
     rising (from_every (is_name_in q directory) new (all_with_more Q k old new entries named still)) is
 
-pub index_less : (upper : List ℕ) (p q : Table) (n count : ℕ) (directory : FileRef) (l k : Link) (old new : List Link) → n < count → SameBut n p q → PartReplaced (l ∷ []) [] (names_there directory (links_at p n)) (names_there directory (links_at q n)) → PartReplaced (k ∷ []) [] old new
+pub index_less : (upper : List ℕ) (p q : Table) (n count : ℕ) (directory : FileRef) (l k : Link) (old new : List Link) → n < count → KeepsThereBut n directory p q → PartReplaced (l ∷ []) [] (names_there directory (links_at p n)) (names_there directory (links_at q n)) → PartReplaced (k ∷ []) [] old new
     → is_rising upper new ≡ true → AllByRecursion (λ j. same_link j l ≡ false) new → is_index upper p count directory old ≡ true → is_index upper q count directory new ≡ true
 index_less upper p q n count directory l k old new within others names entries rising apart is =
     let P : Link → Type 0 = λ j. is_name_in p directory j ≡ true in
@@ -169,3 +203,33 @@ index_less upper p q n count directory l k old new within others names entries r
     index_changed upper p q n count directory old new within others
     (omega (arith, size, count_now, count_there directory (links_at p n), count_there directory (links_at q n)))
     rising (from_every (is_name_in q directory) new still) is
+
+-- one name in the place of another
+pub index_other : (upper : List ℕ) (p q : Table) (n count : ℕ) (directory : FileRef) (l m k j : Link) (old middle new : List Link) → n < count → KeepsThereBut n directory p q → PartReplaced (l ∷ []) (m ∷ []) (names_there directory (links_at p n)) (names_there directory (links_at q n)) → PartReplaced (k ∷ []) [] old middle
+    → PartReplaced [] (j ∷ []) middle new → is_rising upper new ≡ true → AllByRecursion (λ i. same_link i l ≡ false) middle → is_name_in q directory j ≡ true → is_index upper p count directory old ≡ true → is_index upper q count directory new ≡ true
+index_other upper p q n count directory l m k j old middle new within others names went came rising apart named is =
+    let Q : Link → Type 0 = λ i. is_name_in q directory i ≡ true in
+    let parts = index_parts upper p count directory old is in
+    let between = names.front ++ names.behind in
+    let first : PartReplaced (l ∷ []) [] (names_there directory (links_at p n)) between = record { front = names.front; behind = names.behind; was = names.was; is = refl } in
+    let second : PartReplaced [] (m ∷ []) between (names_there directory (links_at q n)) = record { front = names.front; behind = names.behind; was = refl; is = names.is } in
+    let were = all_with_less (λ i. is_name_in p directory i ≡ true) k old middle went (every_one (is_name_in p directory) old parts.names) in
+    let still = both_all (λ i. is_name_in p directory i ≡ true) (λ i. same_link i l ≡ false) Q (λ i was other. still_name p q n directory i others (λ found. found_with_more (same_link i) m _ _ second (found_with_less (same_link i) l _ _ first other ∙ found)) was) middle were apart in
+    let size = less_by_one k old middle went in
+    let more = more_by_one j middle new came in
+    let gone = less_by_one l _ _ first in
+    let added = more_by_one m _ _ second in
+    index_changed upper p q n count directory old new within others
+    (omega (arith, size, more, gone, added, count_there directory (links_at p n), count_there directory (links_at q n)))
+    rising (from_every (is_name_in q directory) new (all_with_more Q j middle new came named still)) is
+
+-- the same names, whatever else changes
+pub index_stays : (upper : List ℕ) (p q : Table) (n count : ℕ) (directory : FileRef) (links : List Link) → KeepsThereBut n directory p q → names_there directory (links_at q n) ≡ names_there directory (links_at p n) → is_index upper p count directory links ≡ true → is_index upper q count directory links ≡ true
+index_stays upper p q n count directory links others own is =
+    let all : KeepsThere directory p q = λ m. this_or_other (λ (k : ℕ). names_there directory (links_at q k) ≡ names_there directory (links_at p k)) n m own (λ other. others m other) in
+    let parts = index_parts upper p count directory links is in
+    let size = parts.size in
+    let same = same_counts p q directory count all in
+    from_parts upper q count directory links parts.rising
+    (from_every (is_name_in q directory) links (all_by (λ l. is_name_in p directory l ≡ true) (λ l. is_name_in q directory l ≡ true) (λ l was. same_names_there p q directory all l ∙ was) links (every_one (is_name_in p directory) links parts.names)))
+    (omega (arith, size, same))

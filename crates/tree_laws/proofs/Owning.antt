@@ -29,14 +29,17 @@ marked_or_unused : (u : ℕ) (marked : Bool) → (marked ≡ false → u ≡ 0) 
 marked_or_unused u true none = elim (cases_Bool (leb 1 u)) [ inl some ↦ rw some refl | inr other ↦ rw other refl ]
 marked_or_unused u false none = let less : u < 1 = let zero_is = none refl in omega arith in ap (λ (t : Bool). implies t false) (lt-leb 1 u less)
 
+pub in_no_stream : (c : Content) (v : Volume) (x : ℕ) → broken_6 c v ≡ None → x < v.clusters → bit (cluster_bits c v) x ≡ false → uses (volume_runs v.files) x ≡ 0
+unfolding broken_6
+in_no_stream c v x kept below clear = unused (uses (volume_runs v.files) x) (bit (cluster_bits c v) x) clear (passes_below (keeps_cluster_bit (cluster_bits c v) (volume_runs v.files)) v.clusters kept x below)
+
 module _ (taken given : ℕ → ℕ) (c d : Content) (v : Volume) (files : List (Option Record)) (kept_5 : broken_5 v ≡ None) (kept_6 : broken_6 c v ≡ None) (k : TakesClusters taken given v.clusters (cluster_bits c v) (cluster_bits d (with_files v files)) v.files files) where
   at_most_one : (x : ℕ) → x < v.clusters → uses (volume_runs v.files) x ≤ 1
   unfolding broken_5
   at_most_one x below = leb-true _ _ (passes_below (keeps_owner (volume_runs v.files)) v.clusters kept_5 x below)
 
   none_clear : (x : ℕ) → x < v.clusters → bit (cluster_bits c v) x ≡ false → uses (volume_runs v.files) x ≡ 0
-  unfolding broken_6
-  none_clear x below clear = unused (uses (volume_runs v.files) x) (bit (cluster_bits c v) x) clear (passes_below (keeps_cluster_bit (cluster_bits c v) (volume_runs v.files)) v.clusters kept_6 x below)
+  none_clear x below clear = in_no_stream c v x kept_6 below clear
 
   still_one : (x : ℕ) → x < v.clusters → uses (volume_runs files) x ≤ 1
   still_one x below =

@@ -1,6 +1,5 @@
 -- What writes leave that go to the blocks of a few streams and of a few file records.
 use Rattle.std.proofs.Common.{◌≡◌, ◌≢◌, ◌⊎◌, ℕ, ◌<◌, Bool, true, false, cond, eqb, List, [], ◌∷◌, Option, Some, None, refl, sym, ap, subst, ◌∙◌, inl, inr, arith}
-use Rattle.std.specs.List.{AllByRecursion}
 use Rattle.std.proofs.lemmas.Bool.{cases_Bool, both_ways, eqb-true, ne_eqb}
 use Rattle.disk_model.specs.declared.block.Block.{Block}
 use Rattle.disk_model.specs.declared.block.BlockKind.TheVariants.{FileRec}
@@ -25,7 +24,7 @@ use Rattle.volume_model.specs.Nodes.{kind_in, shows_data}
 use Rattle.volume_state.specs.Journals.{entries_name, file_or_none, journal_file}
 use Rattle.stream_laws.specs.Changes.{AreElsewhere, LeavesBytes, LeavesRecord, LeavesIndex}
 use Rattle.stream_laws.specs.Frames.{IsRecordBlock, SameRecordIn, SameIndexIn}
-use Rattle.stream_laws.specs.Leaving.{IsInAnother}
+use Rattle.stream_laws.specs.Leaving.{IsInAnother, LiesFree, SpareStream}
 use Rattle.stream_laws.specs.Sharing.{StreamKey, stream_at, runs_in}
 use Rattle.stream_laws.specs.Tables.{table_key}
 use Rattle.stream_laws.proofs.Changing.{body_elsewhere, bytes_agree, record_agrees}
@@ -49,28 +48,30 @@ module _ (streams : StreamKey → Bool) (records : ℕ → Bool) (c : Content) (
   in_table : (w : Write) (n : ℕ) → block_at v.per v.table.runs FileRec n ≡ Some w.block → block_at v.per (runs_in (stream_at v table_key)) FileRec n ≡ Some w.block
   in_table w n lies = ap (λ (runs : List Run). block_at v.per runs FileRec n) (table_runs c g clusters v k.begins) ∙ lies
 
-  in_another : (s : StreamKey) → streams s ≡ false → table_key ≢ s → (w : Write) → IsInStream streams v w ⊎ IsInRecord records v w → IsInAnother v s w
-  in_another s other no_table w (inl is) = record { stream = is.stream; differs = another streams s is.stream other is.chosen; kind = is.kind; number = is.number; lies = is.lies }
-  in_another s other no_table w (inr is) = record { stream = table_key; differs = λ same. no_table (sym same); kind = FileRec; number = is.number; lies = in_table w is.number is.lies }
+  elsewhere : (s : StreamKey) → streams s ≡ false → table_key ≢ s → (w : Write) → IsInStream streams v w ⊎ IsInRecord records v w ⊎ LiesFree v w.block → IsInAnother v s w ⊎ LiesFree v w.block
+  elsewhere s other no_table w (inl is) = inl (record { stream = is.stream; differs = another streams s is.stream other is.chosen; kind = is.kind; number = is.number; lies = is.lies })
+  elsewhere s other no_table w (inr (inl is)) = inl (record { stream = table_key; differs = λ same. no_table (sym same); kind = FileRec; number = is.number; lies = in_table w is.number is.lies })
+  elsewhere s other no_table w (inr (inr free)) = inr free
 
-  all_in_another : (s : StreamKey) → streams s ≡ false → table_key ≢ s → AllByRecursion (IsInAnother v s) writes
-  all_in_another s other no_table = all_by (λ w. IsInStream streams v w ⊎ IsInRecord records v w) (IsInAnother v s) (in_another s other no_table) writes k.each
+  all_elsewhere : (s : StreamKey) → streams s ≡ false → table_key ≢ s → SpareStream v s writes
+  all_elsewhere s other no_table = all_by (λ w. IsInStream streams v w ⊎ IsInRecord records v w ⊎ LiesFree v w.block) (λ w. IsInAnother v s w ⊎ LiesFree v w.block) (elsewhere s other no_table) writes k.each
 
   stream_left : (s : StreamKey) → streams s ≡ false → table_key ≢ s → LeavesBytes writes v.per (stream_at v s)
-  stream_left s other no_table = bytes_left v s writes k.some k.once (all_in_another s other no_table)
+  stream_left s other no_table = bytes_left v s writes k.some k.once (all_elsewhere s other no_table)
 
   allocation_left : (s : StreamKey) → streams s ≡ false → table_key ≢ s → AreElsewhere writes void_block → LeavesIndex writes v.per (stream_at v s)
-  allocation_left s other no_table void = index_left v s writes k.some k.once (all_in_another s other no_table) void
+  allocation_left s other no_table void = index_left v s writes k.some k.once (all_elsewhere s other no_table) void
 
-  one_elsewhere : (n : ℕ) → records n ≡ false → (b : Block) → IsRecordBlock v.per v.table n b → (w : Write) → IsInStream streams v w ⊎ IsInRecord records v w → IsElsewhere b w
+  one_elsewhere : (n : ℕ) → records n ≡ false → (b : Block) → IsRecordBlock v.per v.table n b → (w : Write) → IsInStream streams v w ⊎ IsInRecord records v w ⊎ LiesFree v w.block → IsElsewhere b w
   one_elsewhere n other b lies w (inl is) =
       let in_other : IsInAnother v table_key w = record { stream = is.stream; differs = another streams table_key is.stream k.no_table is.chosen; kind = is.kind; number = is.number; lies = is.lies } in
-      (record_left c g clusters v (w ∷ []) n k.begins k.some k.once (in_other, tt) b lies).0
-  one_elsewhere n other b lies w (inr is) =
+      (record_left c g clusters v (w ∷ []) n k.begins k.some k.once (inl in_other, tt) b lies).0
+  one_elsewhere n other b lies w (inr (inl is)) =
       (leaves v.per v.table n (w ∷ []) k.some (table_once c g clusters v k.begins k.once) (record { number = is.number; differs = λ same. both_ways (records n) other (ap records (sym same) ∙ is.chosen); lies = is.lies }, tt) b lies).0
+  one_elsewhere n other b lies w (inr (inr free)) = (record_left c g clusters v (w ∷ []) n k.begins k.some k.once (inr free, tt) b lies).0
 
-  file_record_left : (n : ℕ) → records n ≡ false → LeavesRecord writes v.per v.table n
-  file_record_left n other b lies = all_by (λ w. IsInStream streams v w ⊎ IsInRecord records v w) (IsElsewhere b) (one_elsewhere n other b lies) writes k.each
+  pub file_record_left : (n : ℕ) → records n ≡ false → LeavesRecord writes v.per v.table n
+  file_record_left n other b lies = all_by (λ w. IsInStream streams v w ⊎ IsInRecord records v w ⊎ LiesFree v w.block) (IsElsewhere b) (one_elsewhere n other b lies) writes k.each
 
 pub planned_bytes : (streams : StreamKey → Bool) (records : ℕ → Bool) (c : Content) (g : Geometry) (clusters : ℕ) (v : Volume) (writes : List Write) (s : StreamKey) → WritesWithin streams records c g clusters v writes → streams s ≡ false → table_key ≢ s → LeavesBytes writes v.per (stream_at v s)
 planned_bytes streams records c g clusters v writes s k = stream_left streams records c g clusters v writes k s
@@ -189,3 +190,9 @@ planned_agree n streams records c g clusters v writes k spares marked bitmap apa
       indexes = λ m is. same_index_at touched streams records c g clusters v writes k spares m (other m is);
       shown = λ m is. same_shown_at touched streams records c g clusters v writes k spares m (other m is);
     }
+
+pub planned_upper : (touched : ℕ → Bool) (streams : StreamKey → Bool) (records : ℕ → Bool) (c : Content) (g : Geometry) (clusters : ℕ) (v : Volume) (writes : List Write) → WritesWithin streams records c g clusters v writes → SparesOthers touched streams records c v writes → SameUpper c (overlay c writes) v
+planned_upper touched streams records c g clusters v writes k spares = same_upper touched streams records c g clusters v writes k spares
+
+pub planned_shown : (touched : ℕ → Bool) (streams : StreamKey → Bool) (records : ℕ → Bool) (c : Content) (g : Geometry) (clusters : ℕ) (v : Volume) (writes : List Write) (m : ℕ) → WritesWithin streams records c g clusters v writes → SparesOthers touched streams records c v writes → touched m ≡ false → SameShownAt c (overlay c writes) v m
+planned_shown touched streams records c g clusters v writes m k spares other = same_shown_at touched streams records c g clusters v writes k spares m other

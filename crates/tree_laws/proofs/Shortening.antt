@@ -27,7 +27,7 @@ module _ (p : Table) where
   one_more zero m is = or_left (eqb m root) (at_some (leads p zero) (parent_at p m)) is
   one_more (suc k) m is = or_more (eqb m root) (at_some (leads p k) (parent_at p m)) (at_some (leads p (suc k)) (parent_at p m)) (at_more (leads p k) (leads p (suc k)) (one_more k) (parent_at p m)) is
 
-  more_steps : (j k m : ℕ) → j ≤ k → leads p j m ≡ true → leads p k m ≡ true
+  pub more_steps : (j k m : ℕ) → j ≤ k → leads p j m ≡ true → leads p k m ≡ true
   more_steps j zero m le is = let same : j ≡ zero = omega arith in subst (λ (x : ℕ). leads p x m ≡ true) same is
   more_steps j (suc k) m le is = elim (cases_lt k j) [
     | inl last ↦ (let same : j ≡ suc k = omega arith in subst (λ (x : ℕ). leads p x m ≡ true) same is)

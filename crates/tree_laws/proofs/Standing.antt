@@ -112,7 +112,7 @@ found_there directory l there (k ∷ links) = elim (cases_Bool (same_reference k
 abbrev pub KeepsThere : FileRef → Table → Table → Type 0
 KeepsThere directory p q = (j : ℕ) → names_there directory (links_at q j) ≡ names_there directory (links_at p j)
 
-same_names_there : (p q : Table) (directory : FileRef) → KeepsThere directory p q → (l : Link) → is_name_in q directory l ≡ is_name_in p directory l
+pub same_names_there : (p q : Table) (directory : FileRef) → KeepsThere directory p q → (l : Link) → is_name_in q directory l ≡ is_name_in p directory l
 unfolding is_name_in
 same_names_there p q directory same l = elim (cases_Bool (same_reference l.parent directory)) [
   | inl there ↦
@@ -125,7 +125,7 @@ pub count_there : (directory : FileRef) (links : List Link) → count_in directo
 unfolding count_in
 count_there directory links = sym (length-filter (λ (l : Link). same_reference l.parent directory) links)
 
-same_counts : (p q : Table) (directory : FileRef) (count : ℕ) → KeepsThere directory p q → names_in q directory count ≡ names_in p directory count
+pub same_counts : (p q : Table) (directory : FileRef) (count : ℕ) → KeepsThere directory p q → names_in q directory count ≡ names_in p directory count
 unfolding names_in
 same_counts p q directory zero same = refl
 same_counts p q directory (suc count) same =
@@ -310,7 +310,7 @@ pub every_one : (test : Link → Bool) (links : List Link) → list_all test lin
 every_one test [] is = tt
 every_one test (l ∷ links) is = let parts = and_parts _ _ is in (parts.0, every_one test links parts.1)
 
-kept_parents : (v : Volume) → broken_2 v ≡ None → (m : ℕ) → AllByRecursion (λ l. is_directory_at (files_by_number v) l.parent ≡ true) (links_at (files_by_number v) m)
+pub kept_parents : (v : Volume) → broken_2 v ≡ None → (m : ℕ) → AllByRecursion (λ l. is_directory_at (files_by_number v) l.parent ≡ true) (links_at (files_by_number v) m)
 unfolding broken_2 keeps_2
 kept_parents v none m =
     let p = files_by_number v in

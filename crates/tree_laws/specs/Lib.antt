@@ -11,3 +11,8 @@ pub mod Changed
 pub mod Owners
 pub mod Planned
 pub mod Listed
+pub mod Journal
+pub mod Room
+pub mod Growth
+pub mod LookUps
+pub mod Steps

@@ -19,9 +19,11 @@ pub record TakesClusters (taken given : ℕ → ℕ) (clusters : ℕ) (bits new_
   pub not_taken : (x : ℕ) → x < clusters → bit new_bits x ≡ false → taken x ≡ 0
   pub freed : (x : ℕ) → x < clusters → bit bits x ≡ true → bit new_bits x ≡ false → 1 ≤ given x
 
--- Then rules 5 and 6 are kept. Where a file is replaced by one with the same clusters, they are as before.
+-- Then rules 5 and 6 are kept. Where a file is replaced by one with the same clusters, they are as before. A cluster whose bit is clear is
+-- in no stream.
 pub record OwnersKept : Type 0 where
   pub rule_5 : (taken given : ℕ → ℕ) (c d : Content) (v : Volume) (files : List (Option Record)) → broken_5 v ≡ None → broken_6 c v ≡ None → TakesClusters taken given v.clusters (cluster_bits c v) (cluster_bits d (with_files v files)) v.files files → broken_5 (with_files v files) ≡ None
   pub rule_6 : (taken given : ℕ → ℕ) (c d : Content) (v : Volume) (files : List (Option Record)) → broken_5 v ≡ None → broken_6 c v ≡ None → TakesClusters taken given v.clusters (cluster_bits c v) (cluster_bits d (with_files v files)) v.files files → broken_6 d (with_files v files) ≡ None
   pub same_5 : (v : Volume) (files : List (Option Record)) (n : ℕ) → OneFileDiffers n v.files files → ((x : ℕ) → uses (file_runs (table_in files n)) x ≡ uses (file_runs (table_in v.files n)) x) → broken_5 (with_files v files) ≡ broken_5 v
   pub same_6 : (c : Content) (v : Volume) (files : List (Option Record)) (n : ℕ) → OneFileDiffers n v.files files → ((x : ℕ) → uses (file_runs (table_in files n)) x ≡ uses (file_runs (table_in v.files n)) x) → n ≢ bitmap_file → broken_6 c (with_files v files) ≡ broken_6 c v
+  pub clear : (c : Content) (v : Volume) (x : ℕ) → broken_6 c v ≡ None → x < v.clusters → bit (cluster_bits c v) x ≡ false → uses (volume_runs v.files) x ≡ 0

@@ -6,9 +6,14 @@ ghost use Rattle.tree_laws.specs.Leaves.{LeavesOfVolume, LeafReplaced, FileMade,
 ghost use Rattle.tree_laws.specs.Ways.{WaysKept, WaysAreShort};
 ghost use Rattle.tree_laws.specs.Contents.{FrameOfState};
 ghost use Rattle.tree_laws.specs.Links.{LinksReplaced};
+ghost use Rattle.tree_laws.specs.Growth.{TableGrown};
+ghost use Rattle.tree_laws.specs.LookUps.{TreesByLookUp};
+ghost use Rattle.tree_laws.specs.Journal.{JournalKept};
+ghost use Rattle.tree_laws.specs.Room.{RoomCounted};
 ghost use Rattle.tree_laws.specs.Nodes.{NodeReplaced, NodesByNumber};
 ghost use Rattle.tree_laws.specs.Parts.{PartsElsewhere};
 ghost use Rattle.tree_laws.specs.Rules.{RulesElsewhere};
+ghost use Rattle.tree_laws.specs.Steps.{StatesFollow};
 ghost use Rattle.tree_laws.specs.Trees.{TreeReplaced};
 
 /// Law: where one file is replaced, the names of a volume are those from before with that file's
@@ -103,4 +108,34 @@ pub fn index_listed()
 /// Law: a way up that reaches the root reaches it within as many steps as there are files.
 pub fn ways_are_short()
     ensures { WaysAreShort }
+{}
+
+/// Law: the change journal stays, and its rule is kept, where several files change and none of
+/// them is the journal's, nor gets or loses a name in `$Extend`.
+pub fn journal_kept()
+    ensures { JournalKept }
+{}
+
+/// Law: the clusters that are free and those that were taken are those that were free and those
+/// that were given back.
+pub fn room_counted()
+    ensures { RoomCounted }
+{}
+
+/// Law: where the file table of a volume grows, the volume stands for the tree from before with the
+/// new numbers, which are spare and have the sequence 1.
+pub fn table_grown()
+    ensures { TableGrown }
+{}
+
+/// Law: where several files are replaced and the file table may grow, the new tree by look-up: its
+/// nodes and spare numbers, its names, the count, the journal and the room.
+pub fn trees_by_look_up()
+    ensures { TreesByLookUp }
+{}
+
+/// Law: after writes that replace several files, record 0 among them or not, and may let the file
+/// table grow, a content is a state again, with the tree that the edits lead to.
+pub fn states_follow()
+    ensures { StatesFollow }
 {}
