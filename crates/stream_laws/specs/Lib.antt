@@ -10,7 +10,6 @@ pub mod Volumes
 pub mod Rewrites
 pub mod Tables
 pub mod Leaving
-pub mod Owners
 pub mod Growth
 pub mod Bitmaps
 pub mod Weights
