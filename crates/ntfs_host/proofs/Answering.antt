@@ -1,5 +1,6 @@
 -- The text of an answer, on a device whose sectors may be known.
-use Rattle.std.proofs.Common.{◌≡◌, ℕ, List, Option, Result, Ok, Err, refl, ap, sym}
+use Rattle.std.proofs.Common.{◌≡◌, ℕ, zero, suc, List, [], Option, Some, None, Result, Ok, Err, refl, ap, sym}
+use Rattle.std.specs.Option.{option_map}
 use Rattle.std.specs.Global.{Global}
 use Rattle.std.specs.Prelude.{IfSome, IsErr, String, string_bytes}
 use Rattle.host_base.specs.Answers.{◌>>=◌, GivesOrFails}
@@ -11,7 +12,14 @@ use Rattle.image_open.specs.Errors.{scan_cause, refused_as}
 use Rattle.volume_format.specs.declared.fault.FormatRefusal.{FormatRefusal}
 use Rattle.volume_format.specs.declared.fault.Formatted.{Formatted}
 use Rattle.volume_format.specs.Answers.{format_answer}
-use Rattle.ntfs_host.specs.Answers.{format_refusal, format_line}
+use Rattle.image_open.specs.declared.refusal.Refusal.TheVariants.{Short}
+use Rattle.image_read.specs.declared.mounting.Mounted.{Mounted}
+use Rattle.image_read.specs.Scans.{scan_of}
+use Rattle.image_read.specs.Checks.{check_of}
+use Rattle.image_read.specs.Records.{journal_of}
+use Rattle.image_read.specs.Mounts.{mounted_of}
+use Rattle.ntfs_host.specs.declared.command.Quiet.TheVariants.{Scan, Dump, Check, Journal, Format}
+use Rattle.ntfs_host.specs.Answers.{format_refusal, format_line, known_disk, known_answer, known_mount, scan_answer, dump_answer, check_answer, journal_answer}
 use Rattle.ntfs_host.specs.Text.{formatted_line}
 
 bound : {X Y A B : Type 0} (view : X → A) (view' : Y → B) (e : MountFault) (f : Result A Refusal) (g : A → Result B Refusal) → GivesOrFails {X = X} {E = MountFault} view scan_cause (Err e) f
@@ -38,3 +46,67 @@ refused_line (Err fault) e = refl
 
 pub line_is_refused : (sectors : ℕ) → IsErr (format_line sectors) → IsErr (format_answer sectors)
 line_is_refused sectors e = refused_line (format_answer sectors) e
+
+-- ---- a device without sectors
+
+abbrev fails : {A : Type 0} → MountFault → Result A MountFault
+fails e = Err e
+
+abbrev succeeds : {A : Type 0} → A → Result A MountFault
+succeeds x = Ok x
+
+abbrev fault_or : {A : Type 0} → MountFault → Result A MountFault → MountFault
+fault_or d (Ok x) = d
+fault_or d (Err e) = e
+
+-- what answers on sectors that are known answers the command; on a device without sectors it is the refusal that says so
+of_disk : (sectors : ℕ) (gives : Option (List (List ℕ))) (f : List (List ℕ) → Result (List ℕ) Refusal) (r : Result (String Global) MountFault)
+    → f [] ≡ Err (Short 1 0) → (sectors ≡ 0 → r ≡ Err (errors.Refused (Short 1 0))) → IfSome gives (λ disk. GivesOrFails (λ t. string_bytes t) scan_cause r (f disk))
+    → IfSome (option_map f (known_disk sectors gives)) (GivesOrFails (λ t. string_bytes t) scan_cause r)
+of_disk zero gives f r empty none known = rw (none refl) empty
+of_disk (suc n) None f r empty none known = tt
+of_disk (suc n) (Some disk) f r empty none known = known
+
+pub scan_is : (sectors : ℕ) (gives : Option (List (List ℕ))) (r : Result (String Global) MountFault) → (sectors ≡ 0 → r ≡ Err (errors.Refused (Short 1 0)))
+    → IfSome gives (λ disk. GivesOrFails (λ t. string_bytes t) scan_cause r (scan_answer disk)) → IfSome (known_answer Scan sectors gives) (GivesOrFails (λ t. string_bytes t) scan_cause r)
+unfolding known_answer scan_of
+scan_is sectors gives r none known = of_disk sectors gives scan_answer r refl none known
+
+pub dump_is : (sectors : ℕ) (gives : Option (List (List ℕ))) (r : Result (String Global) MountFault) → (sectors ≡ 0 → r ≡ Err (errors.Refused (Short 1 0)))
+    → IfSome gives (λ disk. GivesOrFails (λ t. string_bytes t) scan_cause r (dump_answer disk)) → IfSome (known_answer Dump sectors gives) (GivesOrFails (λ t. string_bytes t) scan_cause r)
+unfolding known_answer check_of
+dump_is sectors gives r none known = of_disk sectors gives dump_answer r refl none known
+
+pub check_is : (sectors : ℕ) (gives : Option (List (List ℕ))) (r : Result (String Global) MountFault) → (sectors ≡ 0 → r ≡ Err (errors.Refused (Short 1 0)))
+    → IfSome gives (λ disk. GivesOrFails (λ t. string_bytes t) scan_cause r (check_answer disk)) → IfSome (known_answer Check sectors gives) (GivesOrFails (λ t. string_bytes t) scan_cause r)
+unfolding known_answer check_of
+check_is sectors gives r none known = of_disk sectors gives check_answer r refl none known
+
+pub journal_is : (sectors : ℕ) (gives : Option (List (List ℕ))) (r : Result (String Global) MountFault) → (sectors ≡ 0 → r ≡ Err (errors.Refused (Short 1 0)))
+    → IfSome gives (λ disk. GivesOrFails (λ t. string_bytes t) scan_cause r (journal_answer disk)) → IfSome (known_answer Journal sectors gives) (GivesOrFails (λ t. string_bytes t) scan_cause r)
+unfolding known_answer journal_of
+journal_is sectors gives r none known = of_disk sectors gives journal_answer r refl none known
+
+-- the line of a format is known by the number of sectors
+pub format_is : (seed time sectors : ℕ) (gives : Option (List (List ℕ))) (r : Result (String Global) MountFault) → GivesOrFails (λ t. string_bytes t) scan_cause r (format_line sectors)
+    → IfSome (known_answer (Format seed time) sectors gives) (GivesOrFails (λ t. string_bytes t) scan_cause r)
+unfolding known_answer
+format_is seed time sectors gives r is = is
+
+-- the same of a volume that is mounted
+pub mount_is : (sectors : ℕ) (gives : Option (List (List ℕ))) (r : Result Mounted MountFault) → (sectors ≡ 0 → r ≡ Err (errors.Refused (Short 1 0)))
+    → IfSome gives (λ disk. GivesOrFails (λ m. m) scan_cause r (mounted_of disk)) → IfSome (known_mount sectors gives) (GivesOrFails (λ m. m) scan_cause r)
+unfolding known_mount mounted_of
+mount_is zero gives r none known = rw (none refl) refl
+mount_is (suc n) None r none known = tt
+mount_is (suc n) (Some disk) r none known = known
+
+-- a first step that is refused so is both
+pub refused_first : {A B : Type 0} (sectors : ℕ) (e : MountFault) → (sectors ≡ 0 → fails {A = A} e ≡ fails {A = A} (errors.Refused (Short 1 0)))
+    → sectors ≡ 0 → fails {A = B} e ≡ fails {A = B} (errors.Refused (Short 1 0))
+refused_first {A = A} {B = B} sectors e none empty = ap (λ (f : MountFault). fails {A = B} f) (ap (λ (r : Result A MountFault). fault_or (errors.Refused (Short 1 0)) r) (none empty))
+
+-- and one that isn't has sectors
+pub never_empty : {A B : Type 0} (sectors : ℕ) (x : A) (y : B) → (sectors ≡ 0 → succeeds x ≡ fails {A = A} (errors.Refused (Short 1 0)))
+    → sectors ≡ 0 → succeeds y ≡ fails {A = B} (errors.Refused (Short 1 0))
+never_empty sectors x y none empty = let bad = none empty in absurd cc

@@ -1,5 +1,5 @@
 pub mod Answering
 pub mod RunSteps
 pub mod Losses
-pub mod Worded
-pub mod Untouched
+pub mod Uncalled
+pub mod Telling

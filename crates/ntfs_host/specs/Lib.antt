@@ -5,3 +5,4 @@ pub mod Statuses
 pub mod SerialRuns
 pub mod Scripts
 pub mod Runs
+pub mod Outcomes

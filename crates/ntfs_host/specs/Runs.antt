@@ -1,5 +1,5 @@
 -- What a run of a script prints.
-use Rattle.std.specs.Prelude.{◌≡◌, ◌⊎◌, ℕ, List, [], Option, Result, Ok, Err}
+use Rattle.std.specs.Prelude.{◌≡◌, ◌⊎◌, ℕ, List, [], Option, Result, Ok, Err, IfSome}
 use Rattle.std.specs.Io.KnownBytes.{Appends}
 use Rattle.host_base.specs.Causes.{AppendsPart}
 use Rattle.tree_model.specs.declared.script.Command.{Command}
@@ -9,7 +9,6 @@ use Rattle.run_model.specs.Texts.{IsRunText}
 use Rattle.script_text.specs.declared.fault.ScriptFault.{ScriptFault}
 use Rattle.image_open.specs.declared.refusal.Refusal.{Refusal}
 use Rattle.image_read.specs.declared.mounting.Mounted.{Mounted}
-use Rattle.image_read.specs.Mounts.{mounted_of}
 use Rattle.ntfs_host.specs.Scripts.{script_line}
 use Rattle.ntfs_host.specs.SerialRuns.{IsRunOf}
 use Rattle.ntfs_host.specs.Text.{refusal_line}
@@ -33,16 +32,16 @@ PrintsVolume old new mounted script time faults = (text : List ℕ) × IsVolumeA
 abbrev pub PrintsVolumePart : Option (List ℕ) → Option (List ℕ) → Result Mounted Refusal → List Command → ℕ → ℕ → Type 0
 PrintsVolumePart old new mounted script time faults = (text : List ℕ) × IsVolumeAnswer mounted script time faults text × AppendsPart old new text
 
--- What a sink took grew by the whole text that answers a script, or what refuses it, on a device with these sectors; what
--- refuses the script comes first.
-abbrev pub PrintsScript : Option (List ℕ) → Option (List ℕ) → List (List ℕ) → ℕ → ℕ → Result (List Command) ScriptFault → Type 0
-PrintsScript old new disk time faults (Ok script) = PrintsVolume old new (mounted_of disk) script time faults
-PrintsScript old new disk time faults (Err fault) = Appends old new (script_line fault)
+-- What a sink took grew by the whole text that answers a script, or what refuses it, on a device whose volume may be known; what refuses the
+-- script comes first.
+abbrev pub PrintsScript : Option (List ℕ) → Option (List ℕ) → Option (Result Mounted Refusal) → ℕ → ℕ → Result (List Command) ScriptFault → Type 0
+PrintsScript old new mounted time faults (Ok script) = IfSome mounted (λ m. PrintsVolume old new m script time faults)
+PrintsScript old new mounted time faults (Err fault) = Appends old new (script_line fault)
 
 -- or by a front of it
-abbrev pub PrintsScriptPart : Option (List ℕ) → Option (List ℕ) → List (List ℕ) → ℕ → ℕ → Result (List Command) ScriptFault → Type 0
-PrintsScriptPart old new disk time faults (Ok script) = PrintsVolumePart old new (mounted_of disk) script time faults
-PrintsScriptPart old new disk time faults (Err fault) = AppendsPart old new (script_line fault)
+abbrev pub PrintsScriptPart : Option (List ℕ) → Option (List ℕ) → Option (Result Mounted Refusal) → ℕ → ℕ → Result (List Command) ScriptFault → Type 0
+PrintsScriptPart old new mounted time faults (Ok script) = IfSome mounted (λ m. PrintsVolumePart old new m script time faults)
+PrintsScriptPart old new mounted time faults (Err fault) = AppendsPart old new (script_line fault)
 
 -- the statuses of a run: done, refused, no script, no source, no memory, no sink, no device
 abbrev pub IsRunStatus : ℕ → Type 0

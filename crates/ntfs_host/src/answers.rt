@@ -1,18 +1,13 @@
 //! The texts that answer the commands that run no script.
-ghost use Rattle.std.specs.Prelude.{◌≡◌, ◌<◌, ◌≤◌, ◌⊎◌, IfOk, IfErr, IfSome, IsErr, IsErrOf, string_bytes};
-ghost use Rattle.std.specs.Option.{option_map};
+ghost use Rattle.std.specs.Prelude.{◌≡◌, ◌<◌, ◌≤◌, IfOk, IfSome, string_bytes};
 ghost use Rattle.host_base.specs.Answers.{GivesOrFails};
-ghost use Rattle.host_base.specs.Causes.{HasFailed, last_moment};
-ghost use Rattle.device_view.specs.Devices.{CountsOnDevice};
 ghost use Rattle.volume_format.specs.Answers.{format_answer};
-ghost use Rattle.volume_format.specs.Images.{regions, formatted};
-ghost use Rattle.sector_device.specs.Moments.{Begins};
-ghost use Rattle.volume_format.specs.Layouts.{layout_of, device_writes};
-ghost use Rattle.volume_format.specs.Stopping.{PutsFront, KeepsOthers};
-ghost use Rattle.volume_format.specs.Crashing.{IsSettledNow, KeepsLeft};
 ghost use Rattle.image_open.specs.Errors.{scan_cause, refused_as};
 ghost use Rattle.image_dump.specs.Texts.{scan_text, dump_text, check_text, journal_text};
-ghost use Rattle.ntfs_host.specs.Answers.{scan_answer, dump_answer, check_answer, journal_answer, format_refusal, error_of_format, format_line, answer_of, IsReading, LeavesDevice, LeavesFront, LeavesRest, IsRefusal, BeginsBy, SettlesBy, KeepsLeftBy};
+ghost use Rattle.ntfs_host.specs.declared.command.Quiet.TheVariants.{Scan as the_scan, Dump as the_dump, Check as the_check, Journal as the_journal};
+ghost use Rattle.ntfs_host.specs.declared.command.Asked.TheVariants.{Quietly};
+ghost use Rattle.ntfs_host.specs.Answers.{format_refusal, error_of_format, format_line, known_answer, answer_status};
+ghost use Rattle.ntfs_host.specs.Outcomes.{HasDeviceCauses, IsOnlyRead, Formats, LeavesDevice};
 
 use crate::command::Quiet;
 use crate::text::formatted_line;
@@ -60,13 +55,10 @@ fn text_of_journal(alloc: Global, journal: &ReadJournal) -> Result<String, Memor
 
 // The text of a scan.
 fn scan_answer<D: Device>(alloc: Global, device: &mut D) -> Result<String, MountFault>
-    ensures answer { IfSome (D.gives device.old) (λ disk. GivesOrFails (λ text. string_bytes text) scan_cause result (scan_answer disk)) }
-    ensures gives { D.gives device.new ≡ D.gives device.old }
-    ensures only_read { D.changes_of device.new ≡ D.changes_of device.old }
+    ensures answer { IfSome (known_answer the_scan (D.sector_count device.old) (D.gives device.old)) (GivesOrFails (λ text. string_bytes text) scan_cause result) }
+    ensures leaves { IsOnlyRead D.gives D.changes_of device.old device.new }
     ensures sectors { D.sector_count device.new ≡ D.sector_count device.old }
-    ensures later { D.fault_count device.old ≤ D.fault_count device.new }
-    ensures fault { IsErrOf result MountFault.Device → HasFailed (D.fault_count device.old) (D.fault_count device.new) (D.moment_of device.new) }
-    ensures counted { D.moment_of device.old < last_moment → CountsOnDevice scan_cause (D.fault_count device.old) (D.fault_count device.new) (D.moment_of device.new) result }
+    ensures causes { HasDeviceCauses (answer_status result) D.fault_count D.moment_of device.old device.new }
 {
     let links = scan_image(alloc, device)?;
     Ok(text_of_links(alloc, &links)?)
@@ -74,13 +66,10 @@ fn scan_answer<D: Device>(alloc: Global, device: &mut D) -> Result<String, Mount
 
 // The text of a dump.
 fn dump_answer<D: Device>(alloc: Global, device: &mut D) -> Result<String, MountFault>
-    ensures answer { IfSome (D.gives device.old) (λ disk. GivesOrFails (λ text. string_bytes text) scan_cause result (dump_answer disk)) }
-    ensures gives { D.gives device.new ≡ D.gives device.old }
-    ensures only_read { D.changes_of device.new ≡ D.changes_of device.old }
+    ensures answer { IfSome (known_answer the_dump (D.sector_count device.old) (D.gives device.old)) (GivesOrFails (λ text. string_bytes text) scan_cause result) }
+    ensures leaves { IsOnlyRead D.gives D.changes_of device.old device.new }
     ensures sectors { D.sector_count device.new ≡ D.sector_count device.old }
-    ensures later { D.fault_count device.old ≤ D.fault_count device.new }
-    ensures fault { IsErrOf result MountFault.Device → HasFailed (D.fault_count device.old) (D.fault_count device.new) (D.moment_of device.new) }
-    ensures counted { D.moment_of device.old < last_moment → CountsOnDevice scan_cause (D.fault_count device.old) (D.fault_count device.new) (D.moment_of device.new) result }
+    ensures causes { HasDeviceCauses (answer_status result) D.fault_count D.moment_of device.old device.new }
 {
     let tree = check_image(alloc, device)?;
     Ok(dump_of_tree(alloc, &tree)?)
@@ -88,13 +77,10 @@ fn dump_answer<D: Device>(alloc: Global, device: &mut D) -> Result<String, Mount
 
 // The text of a check.
 fn check_answer<D: Device>(alloc: Global, device: &mut D) -> Result<String, MountFault>
-    ensures answer { IfSome (D.gives device.old) (λ disk. GivesOrFails (λ text. string_bytes text) scan_cause result (check_answer disk)) }
-    ensures gives { D.gives device.new ≡ D.gives device.old }
-    ensures only_read { D.changes_of device.new ≡ D.changes_of device.old }
+    ensures answer { IfSome (known_answer the_check (D.sector_count device.old) (D.gives device.old)) (GivesOrFails (λ text. string_bytes text) scan_cause result) }
+    ensures leaves { IsOnlyRead D.gives D.changes_of device.old device.new }
     ensures sectors { D.sector_count device.new ≡ D.sector_count device.old }
-    ensures later { D.fault_count device.old ≤ D.fault_count device.new }
-    ensures fault { IsErrOf result MountFault.Device → HasFailed (D.fault_count device.old) (D.fault_count device.new) (D.moment_of device.new) }
-    ensures counted { D.moment_of device.old < last_moment → CountsOnDevice scan_cause (D.fault_count device.old) (D.fault_count device.new) (D.moment_of device.new) result }
+    ensures causes { HasDeviceCauses (answer_status result) D.fault_count D.moment_of device.old device.new }
 {
     let tree = check_image(alloc, device)?;
     Ok(line_of_tree(alloc, &tree)?)
@@ -102,13 +88,10 @@ fn check_answer<D: Device>(alloc: Global, device: &mut D) -> Result<String, Moun
 
 // The text of a journal.
 fn journal_answer<D: Device>(alloc: Global, device: &mut D) -> Result<String, MountFault>
-    ensures answer { IfSome (D.gives device.old) (λ disk. GivesOrFails (λ text. string_bytes text) scan_cause result (journal_answer disk)) }
-    ensures gives { D.gives device.new ≡ D.gives device.old }
-    ensures only_read { D.changes_of device.new ≡ D.changes_of device.old }
+    ensures answer { IfSome (known_answer the_journal (D.sector_count device.old) (D.gives device.old)) (GivesOrFails (λ text. string_bytes text) scan_cause result) }
+    ensures leaves { IsOnlyRead D.gives D.changes_of device.old device.new }
     ensures sectors { D.sector_count device.new ≡ D.sector_count device.old }
-    ensures later { D.fault_count device.old ≤ D.fault_count device.new }
-    ensures fault { IsErrOf result MountFault.Device → HasFailed (D.fault_count device.old) (D.fault_count device.new) (D.moment_of device.new) }
-    ensures counted { D.moment_of device.old < last_moment → CountsOnDevice scan_cause (D.fault_count device.old) (D.fault_count device.new) (D.moment_of device.new) result }
+    ensures causes { HasDeviceCauses (answer_status result) D.fault_count D.moment_of device.old device.new }
 {
     let journal = read_journal(alloc, device)?;
     Ok(text_of_journal(alloc, &journal)?)
@@ -141,22 +124,9 @@ fn make_volume<D: Device>(
     time: u64,
 ) -> Result<Formatted, MountFault>
     ensures answer { GivesOrFails (λ f. f) scan_cause result (refused_as format_refusal (format_answer (D.sector_count device.old))) }
-    ensures image { IfOk result (λ f. D.gives device.new ≡ option_map (λ disk. formatted disk seed time) (D.gives device.old)) }
-    ensures begins { IfOk result (λ _. Begins (device_writes (layout_of (D.sector_count device.old))) 1 (D.changes_of device.old) (D.changes_of device.new)) }
-    ensures settled { IfOk result (λ _. IsSettledNow (D.changes_of device.new)) }
-    ensures others_left { KeepsLeft (layout_of (D.sector_count device.old)) (D.sector_count device.old) (D.moment_of device.old) (D.changes_of device.old) (D.changes_of device.new) }
-    ensures stopped { IsErrOf result MountFault.Device → PutsFront (regions (layout_of (D.sector_count device.old)) seed time) (D.gives device.old) (D.gives device.new) }
-    ensures others { KeepsOthers (layout_of (D.sector_count device.old)) (D.gives device.old) (D.gives device.new) }
-    ensures refused { IfErr result (λ e. IsRefusal e → D.gives device.new ≡ D.gives device.old) }
-    ensures unwritten { IfErr result (λ e. IsRefusal e → D.changes_of device.new ≡ D.changes_of device.old) }
-    ensures left_refused { IsErr (format_answer (D.sector_count device.old)) → D.gives device.new ≡ D.gives device.old }
-    ensures begins_refused { IsErr (format_answer (D.sector_count device.old)) → D.changes_of device.new ≡ D.changes_of device.old }
-    ensures wanting { IsErrOf result MountFault.Memory → D.gives device.new ≡ D.gives device.old }
-    ensures begins_wanting { IsErrOf result MountFault.Memory → D.changes_of device.new ≡ D.changes_of device.old }
+    ensures leaves { Formats seed time (answer_status result) D.sector_count D.gives D.moment_of D.changes_of device.old device.new }
     ensures sectors { D.sector_count device.new ≡ D.sector_count device.old }
-    ensures later { D.fault_count device.old ≤ D.fault_count device.new }
-    ensures fault { IsErrOf result MountFault.Device → HasFailed (D.fault_count device.old) (D.fault_count device.new) (D.moment_of device.new) }
-    ensures counted { CountsOnDevice scan_cause (D.fault_count device.old) (D.fault_count device.new) (D.moment_of device.new) result }
+    ensures causes { HasDeviceCauses (answer_status result) D.fault_count D.moment_of device.old device.new }
 {
     match format(alloc, device, seed, time) {
         Ok(formatted) => Ok(formatted),
@@ -173,22 +143,9 @@ fn format_answer<D: Device>(
     time: u64,
 ) -> Result<String, MountFault>
     ensures answer { GivesOrFails (λ text. string_bytes text) scan_cause result (format_line (D.sector_count device.old)) }
-    ensures image { IfOk result (λ text. D.gives device.new ≡ option_map (λ disk. formatted disk seed time) (D.gives device.old)) }
-    ensures begins { IfOk result (λ _. Begins (device_writes (layout_of (D.sector_count device.old))) 1 (D.changes_of device.old) (D.changes_of device.new)) }
-    ensures settled { IfOk result (λ _. IsSettledNow (D.changes_of device.new)) }
-    ensures others_left { KeepsLeft (layout_of (D.sector_count device.old)) (D.sector_count device.old) (D.moment_of device.old) (D.changes_of device.old) (D.changes_of device.new) }
-    ensures stopped { IsErrOf result MountFault.Device → PutsFront (regions (layout_of (D.sector_count device.old)) seed time) (D.gives device.old) (D.gives device.new) }
-    ensures others { KeepsOthers (layout_of (D.sector_count device.old)) (D.gives device.old) (D.gives device.new) }
-    ensures refused { IfErr result (λ e. IsRefusal e → D.gives device.new ≡ D.gives device.old) }
-    ensures unwritten { IfErr result (λ e. IsRefusal e → D.changes_of device.new ≡ D.changes_of device.old) }
-    ensures left_refused { IsErr (format_line (D.sector_count device.old)) → D.gives device.new ≡ D.gives device.old }
-    ensures begins_refused { IsErr (format_line (D.sector_count device.old)) → D.changes_of device.new ≡ D.changes_of device.old }
-    ensures wanting { IsErrOf result MountFault.Memory → (D.gives device.new ≡ D.gives device.old) ⊎ (D.gives device.new ≡ option_map (λ disk. formatted disk seed time) (D.gives device.old)) }
-    ensures begins_wanting { IsErrOf result MountFault.Memory → (D.changes_of device.new ≡ D.changes_of device.old) ⊎ Begins (device_writes (layout_of (D.sector_count device.old))) 1 (D.changes_of device.old) (D.changes_of device.new) }
+    ensures leaves { Formats seed time (answer_status result) D.sector_count D.gives D.moment_of D.changes_of device.old device.new }
     ensures sectors { D.sector_count device.new ≡ D.sector_count device.old }
-    ensures later { D.fault_count device.old ≤ D.fault_count device.new }
-    ensures fault { IsErrOf result MountFault.Device → HasFailed (D.fault_count device.old) (D.fault_count device.new) (D.moment_of device.new) }
-    ensures counted { CountsOnDevice scan_cause (D.fault_count device.old) (D.fault_count device.new) (D.moment_of device.new) result }
+    ensures causes { HasDeviceCauses (answer_status result) D.fault_count D.moment_of device.old device.new }
 {
     let formatted = make_volume(alloc, device, seed, time)?;
     Ok(formatted_line(alloc, formatted)?)
@@ -204,25 +161,9 @@ pub fn answer<D: Device>(
     command: &Quiet,
     device: &mut D,
 ) -> Result<String, MountFault>
-    ensures answer { IfSome (D.gives device.old) (λ disk. GivesOrFails (λ text. string_bytes text) scan_cause result (answer_of command.now disk)) }
-    ensures leaves { IfOk result (λ text. LeavesDevice command.now (D.gives device.old) (D.gives device.new)) }
-    ensures begins { IfOk result (λ text. BeginsBy command.now (D.sector_count device.old) (D.changes_of device.old) (D.changes_of device.new)) }
-    ensures settled { IfOk result (λ text. SettlesBy command.now (D.changes_of device.new)) }
-    ensures others_left { KeepsLeftBy command.now (D.sector_count device.old) (D.moment_of device.old) (D.changes_of device.old) (D.changes_of device.new) }
-    ensures stopped { IsErrOf result MountFault.Device → LeavesFront command.now (D.sector_count device.old) (D.gives device.old) (D.gives device.new) }
-    ensures others { LeavesRest command.now (D.sector_count device.old) (D.gives device.old) (D.gives device.new) }
-    ensures refused { IfErr result (λ e. IsRefusal e → D.gives device.new ≡ D.gives device.old) }
-    ensures unwritten { IfErr result (λ e. IsRefusal e → D.changes_of device.new ≡ D.changes_of device.old) }
-    ensures left_refused { IfSome (D.gives device.old) (λ disk. IsErr (answer_of command.now disk) → D.gives device.new ≡ D.gives device.old) }
-    ensures begins_refused { IfSome (D.gives device.old) (λ disk. IsErr (answer_of command.now disk) → D.changes_of device.new ≡ D.changes_of device.old) }
-    ensures wanting { IsErrOf result MountFault.Memory → (D.gives device.new ≡ D.gives device.old) ⊎ LeavesDevice command.now (D.gives device.old) (D.gives device.new) }
-    ensures begins_wanting { IsErrOf result MountFault.Memory → (D.changes_of device.new ≡ D.changes_of device.old) ⊎ BeginsBy command.now (D.sector_count device.old) (D.changes_of device.old) (D.changes_of device.new) }
-    ensures reads { IsReading command.now → D.gives device.new ≡ D.gives device.old }
-    ensures only_read { IsReading command.now → D.changes_of device.new ≡ D.changes_of device.old }
-    ensures sectors { D.sector_count device.new ≡ D.sector_count device.old }
-    ensures later { D.fault_count device.old ≤ D.fault_count device.new }
-    ensures fault { IsErrOf result MountFault.Device → HasFailed (D.fault_count device.old) (D.fault_count device.new) (D.moment_of device.new) }
-    ensures counted { D.moment_of device.old < last_moment → CountsOnDevice scan_cause (D.fault_count device.old) (D.fault_count device.new) (D.moment_of device.new) result }
+    ensures answer { IfSome (known_answer command.now (D.sector_count device.old) (D.gives device.old)) (GivesOrFails (λ text. string_bytes text) scan_cause result) }
+    ensures leaves { LeavesDevice (Quietly command.now) (answer_status result) D.sector_count D.gives D.moment_of D.changes_of device.old device.new }
+    ensures causes { HasDeviceCauses (answer_status result) D.fault_count D.moment_of device.old device.new }
 {
     match command {
         Quiet::Scan => scan_answer(alloc, device),

@@ -13,3 +13,14 @@ pub enum Quiet {
     /// since 1601-01-01.
     Format { seed: u64, time: u64 },
 }
+
+/// What the words of a line ask for.
+#[derive(Clone, Copy, Debug, PartialEq, Eq)]
+pub enum Asked {
+    /// A command that runs no script.
+    Quietly(Quiet),
+    /// The run of a script, from this time on, in units of 100 ns since 1601-01-01.
+    Run { time: u64 },
+    /// Nothing: they are no line of a command.
+    NoLine,
+}

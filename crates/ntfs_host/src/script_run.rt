@@ -1,15 +1,14 @@
 //! The run of a script on a volume.
-ghost use Rattle.std.specs.Prelude.{◌≡◌, ◌≢◌, ◌⊎◌, ◌<◌, ◌≤◌, IfSome, IsOk, IsErr, IsErrAnd, IfOk, string_bytes, [], Ok};
-ghost use Rattle.std.specs.Io.KnownBytes.{Appends};
-ghost use Rattle.host_base.specs.Causes.{Rose, HasFailed, AppendsPart, last_moment};
-ghost use Rattle.script_text.specs.Scripts.{script_of};
+ghost use Rattle.std.specs.Prelude.{◌≡◌, ◌⊎◌, IfOk, IfSome, string_bytes, [], Ok};
+ghost use Rattle.host_base.specs.Answers.{GivesOrFails};
+ghost use Rattle.image_open.specs.Errors.{scan_cause};
 ghost use Rattle.tree_model.specs.Steps.{AllLook};
 ghost use Rattle.run_model.specs.Runs.{next_of};
 ghost use Rattle.run_model.specs.Texts.{IsRunText};
-ghost use Rattle.image_read.specs.Mounts.{mounted_of};
-ghost use Rattle.ntfs_host.specs.Scripts.{script_line, IsAccepted, IsReadWhole, LosesAtMost};
-ghost use Rattle.ntfs_host.specs.Runs.{IsPrintedRun, PrintsVolume, PrintsVolumePart, PrintsScript, PrintsScriptPart, IsRunStatus};
-ghost use Rattle.ntfs_host.specs.Statuses.{IsQuietStatus};
+ghost use Rattle.ntfs_host.specs.declared.command.Asked.TheVariants.{Run};
+ghost use Rattle.ntfs_host.specs.Answers.{known_mount, answer_status};
+ghost use Rattle.ntfs_host.specs.Runs.{IsPrintedRun, PrintsVolume, PrintsVolumePart};
+ghost use Rattle.ntfs_host.specs.Outcomes.{AnswersScript, Answers, HasCauses, HasDeviceCauses, KeepsOrder, IsOnlyRead, LeavesDevice, IsWhole};
 
 use crate::output::{write_refusal, write_script_fault};
 use crate::printing::write_lines;
@@ -85,9 +84,7 @@ fn print_run<R: Threads + Wait, K: Sink, D: Device, G: Gate>(
     ensures done { result ≡ 0 → PrintsVolume (K.taken sink.old) (K.taken sink.new) (Ok volume) script.now time (D.fault_count device.now) }
     ensures memory { result ≡ 6 → K.taken sink.new ≡ K.taken sink.old }
     ensures part { result ≡ 7 → PrintsVolumePart (K.taken sink.old) (K.taken sink.new) (Ok volume) script.now time (D.fault_count device.now) }
-    ensures failed { result ≡ 7 → Rose (K.faults sink.old) (K.faults sink.new) }
-    ensures counted { result ≢ 7 → K.faults sink.new ≡ K.faults sink.old }
-    ensures later { K.faults sink.old ≤ K.faults sink.new }
+    ensures causes { HasCauses 7 result (K.faults sink.old) (K.faults sink.new) }
 {
     let text = match run_text(rt, alloc, volume, script, time, device, gate) {
         Ok(text) => text,
@@ -97,6 +94,16 @@ fn print_run<R: Threads + Wait, K: Sink, D: Device, G: Gate>(
         Ok(()) => DONE,
         Err(_) => SINK_FAULT,
     }
+}
+
+// The volume of the device, mounted.
+fn mounted<D: Device>(alloc: Global, device: &mut D) -> Result<Mounted, MountFault>
+    ensures answer { IfSome (known_mount (D.sector_count device.old) (D.gives device.old)) (GivesOrFails (λ m. m) scan_cause result) }
+    ensures leaves { IsOnlyRead D.gives D.changes_of device.old device.new }
+    ensures sectors { D.sector_count device.new ≡ D.sector_count device.old }
+    ensures causes { HasDeviceCauses (answer_status result) D.fault_count D.moment_of device.old device.new }
+{
+    mount_image(alloc, device)
 }
 
 // Mounts the volume of the device, and runs the script on it.
@@ -110,22 +117,13 @@ fn run_mounted<R: Threads + Wait, K: Sink, D: Device, G: Gate>(
     gate: &G,
 ) -> u8
     requires looks { AllLook script.now }
-    ensures status { IsQuietStatus result }
-    ensures done { result ≡ 0 → IfSome (D.gives device.old) (λ disk. IsOk (mounted_of disk) × PrintsVolume (K.taken sink.old) (K.taken sink.new) (mounted_of disk) script.now time (D.fault_count device.new)) }
-    ensures refused { result ≡ 3 → IfSome (D.gives device.old) (λ disk. IsErr (mounted_of disk) × PrintsVolume (K.taken sink.old) (K.taken sink.new) (mounted_of disk) script.now time (D.fault_count device.new)) }
-    ensures memory { result ≡ 6 → IfSome (D.gives device.old) (λ disk. (K.taken sink.new ≡ K.taken sink.old) ⊎ PrintsVolumePart (K.taken sink.old) (K.taken sink.new) (mounted_of disk) script.now time (D.fault_count device.new)) }
-    ensures part { result ≡ 7 → IfSome (D.gives device.old) (λ disk. PrintsVolumePart (K.taken sink.old) (K.taken sink.new) (mounted_of disk) script.now time (D.fault_count device.new)) }
-    ensures sink_failed { result ≡ 7 → Rose (K.faults sink.old) (K.faults sink.new) }
-    ensures sink_counted { result ≢ 7 → K.faults sink.new ≡ K.faults sink.old }
-    ensures device_failed { result ≡ 8 → HasFailed (D.fault_count device.old) (D.fault_count device.new) (D.moment_of device.new) }
-    ensures device_counted { D.moment_of device.old < last_moment → result ≢ 8 → D.fault_count device.new ≡ D.fault_count device.old }
-    ensures silent { result ≡ 8 → K.taken sink.new ≡ K.taken sink.old }
-    ensures gives { D.gives device.new ≡ D.gives device.old }
-    ensures only_read { D.changes_of device.new ≡ D.changes_of device.old }
+    ensures answers { AnswersScript script.now time result (known_mount (D.sector_count device.old) (D.gives device.old)) (D.fault_count device.new) (K.taken sink.old) (K.taken sink.new) }
+    ensures sink_causes { HasCauses 7 result (K.faults sink.old) (K.faults sink.new) }
+    ensures device_causes { HasDeviceCauses result D.fault_count D.moment_of device.old device.new }
+    ensures leaves { IsOnlyRead D.gives D.changes_of device.old device.new }
     ensures sectors { D.sector_count device.new ≡ D.sector_count device.old }
-    ensures later { D.fault_count device.old ≤ D.fault_count device.new }
 {
-    match mount_image(alloc, device) {
+    match mounted(alloc, device) {
         Ok(volume) => print_run(rt, alloc, volume, script, time, sink, device, gate),
         Err(MountFault::Refused(refusal)) => status_of(
             write_refusal(alloc, sink, refusal),
@@ -157,29 +155,13 @@ pub fn run_command<R: Threads + Wait, S: Source, K: Sink, D: Device, G: Gate>(
     device: &mut D,
     gate: &G,
 ) -> u8
-    ensures status { IsRunStatus result }
-    ensures accepted { (result ≡ 0) ⊎ (result ≡ 3) ⊎ (result ≡ 8) → IsAccepted (S.left source.old) (S.left source.new) }
-    ensures whole { (result ≡ 4) ⊎ (result ≡ 7) → IsReadWhole (S.left source.old) (S.left source.new) }
-    ensures sink_after { (sink.new ≡ sink.old) ⊎ IsReadWhole (S.left source.old) (S.left source.new) }
-    ensures device_after { (device.new ≡ device.old) ⊎ IsAccepted (S.left source.old) (S.left source.new) }
-    ensures most_read { LosesAtMost 16777217 (S.left source.old) (S.left source.new) }
-    ensures untouched { (result ≡ 4) ⊎ (result ≡ 5) → device.new ≡ device.old }
-    ensures done { result ≡ 0 → IfSome (S.left source.old) (λ bytes. IsOk (script_of bytes) × IfSome (D.gives device.old) (λ disk. IsOk (mounted_of disk) × PrintsScript (K.taken sink.old) (K.taken sink.new) disk time (D.fault_count device.new) (script_of bytes))) }
-    ensures refused { result ≡ 3 → IfSome (S.left source.old) (λ bytes. IsOk (script_of bytes) × IfSome (D.gives device.old) (λ disk. IsErr (mounted_of disk) × PrintsScript (K.taken sink.old) (K.taken sink.new) disk time (D.fault_count device.new) (script_of bytes))) }
-    ensures no_script { result ≡ 4 → IfSome (S.left source.old) (λ bytes. IsErrAnd (script_of bytes) (λ fault. Appends (K.taken sink.old) (K.taken sink.new) (script_line fault))) }
-    ensures source_failed { result ≡ 5 → Rose (S.faults source.old) (S.faults source.new) }
-    ensures source_counted { result ≢ 5 → S.faults source.new ≡ S.faults source.old }
-    ensures memory { result ≡ 6 → IfSome (S.left source.old) (λ bytes. IfSome (D.gives device.old) (λ disk. (K.taken sink.new ≡ K.taken sink.old) ⊎ PrintsScriptPart (K.taken sink.old) (K.taken sink.new) disk time (D.fault_count device.new) (script_of bytes))) }
-    ensures part { result ≡ 7 → IfSome (S.left source.old) (λ bytes. IfSome (D.gives device.old) (λ disk. PrintsScriptPart (K.taken sink.old) (K.taken sink.new) disk time (D.fault_count device.new) (script_of bytes))) }
-    ensures sink_failed { result ≡ 7 → Rose (K.faults sink.old) (K.faults sink.new) }
-    ensures sink_counted { result ≢ 7 → K.faults sink.new ≡ K.faults sink.old }
-    ensures device_failed { result ≡ 8 → HasFailed (D.fault_count device.old) (D.fault_count device.new) (D.moment_of device.new) }
-    ensures device_counted { D.moment_of device.old < last_moment → result ≢ 8 → D.fault_count device.new ≡ D.fault_count device.old }
-    ensures silent { (result ≡ 5) ⊎ (result ≡ 8) → K.taken sink.new ≡ K.taken sink.old }
-    ensures gives { D.gives device.new ≡ D.gives device.old }
-    ensures only_read { D.changes_of device.new ≡ D.changes_of device.old }
-    ensures sectors { D.sector_count device.new ≡ D.sector_count device.old }
-    ensures later { D.fault_count device.old ≤ D.fault_count device.new }
+    ensures answers { Answers (Run time) result (S.left source.old) D.sector_count D.gives D.fault_count device.old device.new K.taken sink.old sink.new }
+    ensures source_causes { HasCauses 5 result (S.faults source.old) (S.faults source.new) }
+    ensures sink_causes { HasCauses 7 result (K.faults sink.old) (K.faults sink.new) }
+    ensures device_causes { HasDeviceCauses result D.fault_count D.moment_of device.old device.new }
+    ensures order { KeepsOrder (Run time) result S.left source.old source.new sink.old sink.new device.old device.new }
+    ensures leaves { LeavesDevice (Run time) result D.sector_count D.gives D.moment_of D.changes_of device.old device.new }
+    ensures whole { IsWhole (Run time) result (S.left source.old) D.sector_count D.gives device.old }
 {
     match read_script(alloc, source) {
         Ok(script) => run_mounted(rt, alloc, &script, time, sink, device, gate),

@@ -1,5 +1,5 @@
-use Rattle.ntfs_host.proofs.Untouched.{untouched_left}
+use Rattle.ntfs_host.proofs.Uncalled.{uncalled}
 use Rattle.ntfs_host.proofs.host.leaves_uncalled.Goals as goal
 
 pub returns : goal.returns
-returns g c = λ command. untouched_left command (g.D.Device.sector_count c.args.device.now) (g.D.Device.moment_of c.args.device.now) (g.D.Device.changes_of c.args.device.now) (g.met.D.Device.over c.args.device.now)
+returns g c = λ asked. uncalled asked g.D.Device.sector_count g.D.Device.gives g.D.Device.moment_of g.D.Device.changes_of c.args.device.now (g.met.D.Device.over c.args.device.now)
