@@ -88,7 +88,7 @@ uncovered clusters x len (Some lcn) inside past =
     let end = leb-true (lcn + len) clusters inside in
     and_right (leb lcn x) (ltb x (lcn + len)) (le-ltb x (lcn + len) (omega arith))
 
-unused : (clusters x : ℕ) (runs : List Run) → list_all (lies_inside clusters) runs ≡ true → clusters ≤ x → uses runs x ≡ 0
+pub unused : (clusters x : ℕ) (runs : List Run) → list_all (lies_inside clusters) runs ≡ true → clusters ≤ x → uses runs x ≡ 0
 unfolding uses
 unused clusters x [] inside past = refl
 unused clusters x (r ∷ runs) inside past =

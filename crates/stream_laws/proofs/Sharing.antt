@@ -84,7 +84,7 @@ sorted_sum : (f : Attr → ℕ) (attributes attrs : List Attr) → sum_by f (sor
 sorted_sum f attributes [] = omega arith
 sorted_sum f attributes (a ∷ attrs) = omega (arith, sorted_sum f (with_attribute a attributes) attrs, with_attribute_sum f a attributes, sum_by-cons f a attrs)
 
-attributes_sum : (f : Attr → ℕ) (kind : ℕ) (name : List ℕ) (attrs : List Attr) → sum_by f (attributes_of kind name attrs) ≡ sum_by f (filter (is_attribute_of kind name) attrs)
+pub attributes_sum : (f : Attr → ℕ) (kind : ℕ) (name : List ℕ) (attrs : List Attr) → sum_by f (attributes_of kind name attrs) ≡ sum_by f (filter (is_attribute_of kind name) attrs)
 unfolding attributes_of
 attributes_sum f kind name attrs =
     let none : 0 + sum_by f (filter (is_attribute_of kind name) attrs) ≡ sum_by f (filter (is_attribute_of kind name) attrs) = omega arith in
@@ -123,7 +123,7 @@ attribute_kind kind name a is =
 
 -- ---- streams of one file
 
-stream_of_file : (kind : ℕ) (name : List ℕ) (o : Option Record) (x : ℕ) → uses (runs_in (file_stream kind name o)) x ≤ file_uses x o
+pub stream_of_file : (kind : ℕ) (name : List ℕ) (o : Option Record) (x : ℕ) → uses (runs_in (file_stream kind name o)) x ≤ file_uses x o
 stream_of_file kind name None x = omega arith
 stream_of_file kind name (Some r) x = omega (arith, stream_uses kind name r.attrs x, filter_of_all (attr_uses x) (is_attribute_of kind name) r.attrs, uses-flat_map attribute_runs r.attrs x)
 
@@ -142,7 +142,7 @@ base_uses : (o : Option Record) (x : ℕ) → file_uses x (only_base o) ≤ file
 base_uses None x = omega arith
 base_uses (Some r) x = based (is_base_record r) r x
 
-file_weight : (v : Volume) (n x : ℕ) → file_uses x (file_in v n) ≤ weight (file_uses x) (slice_get v.files n)
+pub file_weight : (v : Volume) (n x : ℕ) → file_uses x (file_in v n) ≤ weight (file_uses x) (slice_get v.files n)
 unfolding file_at
 file_weight v n x = omega (arith, base_uses (table_in v.files n) x, weight_at (file_uses x) v.files n None (uses-none x))
 

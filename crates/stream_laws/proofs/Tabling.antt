@@ -109,7 +109,7 @@ rules_of_whole body r is = passes_whole (shaped_at body) has_all_pairs has_lawfu
 -- ---- the record in the boot sector's block
 
 -- a slot in use is read from a body that is whole and in use
-read_in_use : (torn used : Bool) (read : Result Record ℕ) (r : Record) → cond torn Torn (cond used (slot_in read) Free) ≡ Used r → (torn ≡ false) × (used ≡ true) × (read ≡ Ok r)
+pub read_in_use : (torn used : Bool) (read : Result Record ℕ) (r : Record) → cond torn Torn (cond used (slot_in read) Free) ≡ Used r → (torn ≡ false) × (used ≡ true) × (read ≡ Ok r)
 read_in_use true used read r is = absurd cc
 read_in_use false false read r is = absurd cc
 read_in_use false true (Ok x) r is = (refl, refl, cc)
@@ -140,13 +140,13 @@ no_attributes kind name (a ∷ attrs) has =
     let parts = or_parts (eqb a.head.kind kind) (list_any (λ (b : Attr). eqb b.head.kind kind) attrs) has in
     rw (and_left (eqb a.head.kind kind) (pointwise nat_eq a.name name) parts.0) (no_attributes kind name attrs parts.1)
 
-no_list_stream : (r : Record) → has_type attribute_list r ≡ false → list_stream r ≡ None
+pub no_list_stream : (r : Record) → has_type attribute_list r ≡ false → list_stream r ≡ None
 unfolding has_type list_stream stream_of attributes_of
 no_list_stream r has = ap (λ (l : List Attr). joined (sorted_into [] l)) (no_attributes attribute_list _ r.attrs has)
 
 -- ---- the first file
 
-only_base_some : (o : Option Record) (f : Record) → only_base o ≡ Some f → o ≡ Some f
+pub only_base_some : (o : Option Record) (f : Record) → only_base o ≡ Some f → o ≡ Some f
 only_base_some None f is = absurd cc
 only_base_some (Some r) f is = passed (is_base_record r) is
   where
@@ -154,13 +154,13 @@ only_base_some (Some r) f is = passed (is_base_record r) is
     passed true e = e
     passed false e = absurd cc
 
-used_some : (x : Slot) (r : Record) → used_record x ≡ Some r → x ≡ Used r
+pub used_some : (x : Slot) (r : Record) → used_record x ≡ Some r → x ≡ Used r
 used_some Torn r is = absurd cc
 used_some Free r is = absurd cc
 used_some (Broken rule) r is = absurd cc
 used_some (Used q) r is = let same : q ≡ r = cc in ap (λ (k : Record). Used k) same
 
-whole_some : (c : Content) (per : ℕ) (p : Table) (count n : ℕ) (o : Option Record) (f : Record) → whole_file c per p count n o ≡ Some f → (r : Record) × (o ≡ Some r) × (f.attrs ≡ all_attrs c per p count n r)
+pub whole_some : (c : Content) (per : ℕ) (p : Table) (count n : ℕ) (o : Option Record) (f : Record) → whole_file c per p count n o ≡ Some f → (r : Record) × (o ≡ Some r) × (f.attrs ≡ all_attrs c per p count n r)
 whole_some c per p count n None f is = absurd cc
 whole_some c per p count n (Some r) f is = (r, refl, attrs_of (sym is))
   where
@@ -168,7 +168,7 @@ whole_some c per p count n (Some r) f is = (r, refl, attrs_of (sym is))
     attrs_of e = let same : f ≡ record { head = r.head; attrs = all_attrs c per p count n r } = cc in ap (λ (k : Record). k.attrs) same
 
 -- an element that there is stands inside the list
-inside_list : (files : List (Option Record)) (n : ℕ) (f : Record) → get_or files n None ≡ Some f → n < length files
+pub inside_list : (files : List (Option Record)) (n : ℕ) (f : Record) → get_or files n None ≡ Some f → n < length files
 inside_list files n f is = elim (cases_lt n (length files)) [
   | inl within ↦ within
   | inr past ↦ absurd (clash (sym (get_or_past files n None past) ∙ is))
@@ -177,7 +177,7 @@ inside_list files n f is = elim (cases_lt n (length files)) [
     clash : None ≡ Some f → ⊥
     clash e = cc
 
-used_part : (initialised at : ℕ) (x : Slot) (r : Record) → cond (leb initialised at) Free x ≡ Used r → x ≡ Used r
+pub used_part : (initialised at : ℕ) (x : Slot) (r : Record) → cond (leb initialised at) Free x ≡ Used r → x ≡ Used r
 used_part initialised at x r is = passed (leb initialised at) is
   where
     passed : (t : Bool) → cond t Free x ≡ Used r → x ≡ Used r
@@ -190,7 +190,7 @@ pub record FirstRecord (c : Content) (v : Volume) (f : Record) : Type 0 where
   pub slot : table_slot c v.per v.table 0 ≡ Used base
   pub attrs : f.attrs ≡ all_attrs c v.per (table_in (records_of (table_slot c v.per v.table) (record_count v.table))) (record_count v.table) 0 base
 
-first_record : (c : Content) (v : Volume) (f : Record) → v.files ≡ files_of c v.per (table_in (records_of (table_slot c v.per v.table) (record_count v.table))) (record_count v.table) → file_in v table_file ≡ Some f → FirstRecord c v f
+pub first_record : (c : Content) (v : Volume) (f : Record) → v.files ≡ files_of c v.per (table_in (records_of (table_slot c v.per v.table) (record_count v.table))) (record_count v.table) → file_in v table_file ≡ Some f → FirstRecord c v f
 unfolding files_of records_of file_at joined_file
 first_record c v f are is =
     let e = v.table in
@@ -209,7 +209,7 @@ first_record c v f are is =
 
 -- ---- the extents
 
-in_boot_block : (c : Content) (g : Geometry) (v : Volume) (r : Record) → block_at v.per v.table.runs FileRec 0 ≡ Some (boot_block g 0) → table_slot c v.per v.table 0 ≡ Used r → slot_of (c (boot_block g 0)) ≡ Used r
+pub in_boot_block : (c : Content) (g : Geometry) (v : Volume) (r : Record) → block_at v.per v.table.runs FileRec 0 ≡ Some (boot_block g 0) → table_slot c v.per v.table 0 ≡ Used r → slot_of (c (boot_block g 0)) ≡ Used r
 unfolding table_slot
 in_boot_block c g v r first is = sym (ap (slot_at c) first) ∙ used_part v.table.initialised (1024 * 0) (slot_at c (block_at v.per v.table.runs FileRec 0)) r is
 
@@ -217,7 +217,7 @@ one_answer : (read : Result Record ℕ) (x y : Record) → read ≡ Ok x → rea
 one_answer read x y first second = cc
 
 -- both readers give the same record of one body, and so the extents are those of its data
-of_body : (body : Body) (r : Record) (e : Extents) → slot_of body ≡ Used r → (judged 0 (slot_by record_at body) >>= extents_in) ≡ Ok e → (has_type attribute_list r ≡ false) × (table_extents r ≡ e)
+pub of_body : (body : Body) (r : Record) (e : Extents) → slot_of body ≡ Used r → (judged 0 (slot_by record_at body) >>= extents_in) ≡ Ok e → (has_type attribute_list r ≡ false) × (table_extents r ≡ e)
 unfolding slot_of
 of_body body r e slot table =
     let read = read_in_use body.torn (is_used body.bytes) (whole_record body.bytes) r slot in

@@ -95,7 +95,7 @@ pub holder_by_number : (c : Content) (v : Volume) (files : Files) (upper : List 
 unfolding journal_of
 holder_by_number c v files upper n differs same other = ap (journal_of_file c v.per) (same_holder_by v files upper n differs same other)
 
-number_stays : (v : Volume) (files : Files) (upper : List ℕ) (n : ℕ) → OneFileDiffers n v.files files → KeepsNames n (table_in v.files) (table_in files) → journal_number upper (with_files v files) ≡ journal_number upper v
+pub number_stays : (v : Volume) (files : Files) (upper : List ℕ) (n : ℕ) → OneFileDiffers n v.files files → KeepsNames n (table_in v.files) (table_in files) → journal_number upper (with_files v files) ≡ journal_number upper v
 number_stays v files upper n differs keeps = ap (λ (links : List Link). child_in upper links extend_file journal_name) (links_kept v.files files n differs keeps)
 
 pub holder_stays : (v : Volume) (files : Files) (upper : List ℕ) (n : ℕ) → OneFileDiffers n v.files files → KeepsNames n (table_in v.files) (table_in files) → journal_number upper v ≢ Some n → journal_file upper (with_files v files) ≡ journal_file upper v

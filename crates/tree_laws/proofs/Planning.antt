@@ -135,7 +135,7 @@ module _ (touched : ℕ → Bool) (streams : StreamKey → Bool) (records : ℕ 
   same_record : (m : ℕ) → m < count_of v → touched m ≡ false → bit (record_bits c v) m ≡ false → SameRecordIn c (overlay c writes) v.per v.table m
   same_record m below other clear = record_agrees c writes v.per v.table m spares.sized (planned_record streams records c g clusters v writes m k (spares.free m below other clear))
 
-  same_index_at : (m : ℕ) → touched m ≡ false → SameIndexAt c (overlay c writes) v m
+  pub same_index_at : (m : ℕ) → touched m ≡ false → SameIndexAt c (overlay c writes) v m
   unfolding index_stream
   same_index_at m other r is directory =
       let s : StreamKey = record { file = m; kind = index_allocation; name = names_index } in
@@ -143,7 +143,7 @@ module _ (touched : ℕ → Bool) (streams : StreamKey → Bool) (records : ℕ 
       (of_file (LeavesIndex writes v.per) index_allocation names_index (file_in v m) r is
       (planned_index streams records c g clusters v writes s k (spares.indexes m r other is directory) (other_kind m index_allocation names_index (λ equal. omega (arith, equal))) spares.void))
 
-  same_shown_at : (m : ℕ) → touched m ≡ false → SameShownAt c (overlay c writes) v m
+  pub same_shown_at : (m : ℕ) → touched m ≡ false → SameShownAt c (overlay c writes) v m
   unfolding data_stream
   same_shown_at m other r is =
       let s : StreamKey = record { file = m; kind = data_type; name = [] } in

@@ -66,7 +66,7 @@ own_2 p q n others keeps names = same_parents p q n n others keeps names
 
 -- ---- rule 3
 
-abbrev SameNames : Table → Table → Type 0
+abbrev pub SameNames : Table → Table → Type 0
 SameNames p q = (m : ℕ) → links_at q m ≡ links_at p m
 
 pub same_count : (p q : Table) (directory : FileRef) (count : ℕ) → SameNames p q → names_in q directory count ≡ names_in p directory count
@@ -77,7 +77,7 @@ same_count p q directory (suc count) same =
     let below = same_count p q directory count same in
     omega (arith, here, below)
 
-same_name_in : (p q : Table) (directory : FileRef) → SameNames p q → (l : Link) → is_name_in q directory l ≡ is_name_in p directory l
+pub same_name_in : (p q : Table) (directory : FileRef) → SameNames p q → (l : Link) → is_name_in q directory l ≡ is_name_in p directory l
 unfolding is_name_in
 same_name_in p q directory same l = ap (λ (names : List Link). same_reference l.parent directory && list_any (same_link l) names) (same l.child.number)
 

@@ -1,0 +1,7 @@
+pub mod Stepping
+pub mod Rewriting
+pub mod Putting
+pub mod OneRecord
+pub mod Informing
+pub mod Drafting
+pub mod Quiet

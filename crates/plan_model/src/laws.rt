@@ -1,0 +1,35 @@
+ghost use Rattle.plan_model.specs.Bodies.{BodiesPut};
+ghost use Rattle.plan_model.specs.Drafts.{DraftsGoOn};
+ghost use Rattle.plan_model.specs.Edits.{FilesEdited};
+ghost use Rattle.plan_model.specs.Informed.{TimesChanged};
+ghost use Rattle.plan_model.specs.Attributes.{ValuesRewritten};
+
+/// Law: an edit whose new files keep the rules leads from a state to a state, and leaves the nodes
+/// and spare numbers of all other files.
+pub fn files_edited()
+    ensures { FilesEdited }
+{}
+
+/// Law: where values that stand in a record are written anew, its streams in clusters, its types and
+/// all that its other attributes say stay.
+pub fn values_rewritten()
+    ensures { ValuesRewritten }
+{}
+
+/// Law: whole bodies over one content, each of its own block, stand in their blocks; more of them are
+/// put into the one list.
+pub fn bodies_put()
+    ensures { BodiesPut }
+{}
+
+/// Law: where a file's record is put whole with other standard information, a state becomes one of a
+/// tree that differs in this alone.
+pub fn times_changed()
+    ensures { TimesChanged }
+{}
+
+/// Law: a plan begins empty and goes on edit by edit, into one list of whole bodies, and no block of
+/// it is a rival of one that the first state owns or of another of its own.
+pub fn drafts_go_on()
+    ensures { DraftsGoOn }
+{}

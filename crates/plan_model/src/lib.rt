@@ -1,0 +1,9 @@
+//! Edits of a volume's files that lead from state to state, and plans of them.
+//!
+//! The contract: the laws of these definitions, as functions with no body. The layouts are those of
+//! the Linux-NTFS documentation, "$MFT", "$STANDARD_INFORMATION" and "$INDEX_ROOT".
+#![tactic(auto)]
+
+mod laws;
+
+pub use laws::{bodies_put, drafts_go_on, files_edited, times_changed, values_rewritten};

@@ -1,0 +1,4 @@
+pub mod Standing
+pub mod Outside
+pub mod Unnamed
+pub mod ByKind
