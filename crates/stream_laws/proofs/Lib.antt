@@ -14,3 +14,4 @@ pub mod Leaving
 pub mod Growing
 pub mod Bitmapping
 pub mod Weighing
+pub mod Taking

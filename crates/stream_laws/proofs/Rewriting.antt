@@ -212,7 +212,7 @@ in_table : (x : Content) (per : ℕ) (h : Extents) (m : ℕ) → m < record_coun
 unfolding records_of
 in_table x per h m below = get_or-map-range_with_len (λ n. used_record (table_slot x per h n)) 0 (record_count h) m m None below (omega arith)
 
-past_table : (x : Content) (per : ℕ) (h : Extents) (m : ℕ) → record_count h ≤ m → table_by x per h m ≡ None
+pub past_table : (x : Content) (per : ℕ) (h : Extents) (m : ℕ) → record_count h ≤ m → table_by x per h m ≡ None
 unfolding records_of
 past_table x per h m past =
     let size = length-map-range_with_len (λ n. used_record (table_slot x per h n)) 0 (record_count h) in

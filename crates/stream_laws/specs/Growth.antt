@@ -1,15 +1,23 @@
 -- The bytes of a stream that gets other clusters and sizes, and of a value that leaves its record.
-use Rattle.std.specs.Prelude.{◌≡◌, ℕ, ◌+◌, ◌-◌, ◌*◌, ◌<◌, ◌≤◌, min, ◌&&◌, true, nat_le, nat_lt, is_some, if◌then◌else◌, List, [], ◌∷◌, ◌++◌, length, take, slice_index, unwrap_or, Option, Some, None}
+use Rattle.std.specs.Prelude.{◌≡◌, ◌≢◌, ◌⊎◌, ℕ, ◌+◌, ◌-◌, ◌*◌, ◌/◌, ◌<◌, ◌≤◌, min, ◌&&◌, true, nat_le, nat_lt, is_some, if◌then◌else◌, List, [], ◌∷◌, ◌++◌, length, take, slice_index, unwrap_or, Option, Some, None}
+use Rattle.disk_model.specs.declared.block.Block.{Block}
 use Rattle.disk_model.specs.declared.block.BlockKind.TheVariants.{Plain}
 use Rattle.disk_model.specs.Bytes.{zeros}
 use Rattle.disk_model.specs.Content.{Content, HasSizes}
+use Rattle.disk_model.specs.Laws.{IsElsewhere}
+use Rattle.disk_model.specs.Sectors.{HasSector}
 use Rattle.disk_model.specs.Writes.{Write, overlay, later}
+use Rattle.record_model.specs.declared.runs.Run.{Run}
 use Rattle.state_model.specs.declared.stream.Extents.{Extents}
 use Rattle.state_model.specs.declared.stream.Stream.{Stream}
 use Rattle.state_model.specs.Streams.{block_at, extent_bytes}
-use Rattle.volume_model.specs.Volumes.{bytes_or, size_or}
-use Rattle.stream_laws.specs.Places.{AreOnce}
+use Rattle.volume_model.specs.Volumes.{Volume, bytes_or, size_or}
+use Rattle.volume_model.specs.Owners.{volume_runs, uses}
+use Rattle.stream_laws.specs.Frames.{IsRead}
+use Rattle.stream_laws.specs.Leaving.{IsInAnother}
+use Rattle.stream_laws.specs.Places.{AreOnce, AreApart}
 use Rattle.stream_laws.specs.Puts.{Put, all_put, ArePuts}
+use Rattle.stream_laws.specs.Sharing.{StreamKey, stream_at, runs_in}
 
 -- ---- puts, byte by byte
 
@@ -61,3 +69,17 @@ pub record StreamsGrow : Type 0 where
   pub value : (c : Content) (writes : List Write) (per : ℕ) (value : List ℕ) (f : Extents) (puts : List Put) → HasSizes c → 0 < per → AreOnce f.runs → length value ≤ f.initialised → length value ≤ f.real → ArePuts per f writes puts → ArePut puts 0 (held_bytes f)
       → extent_bytes (overlay c writes) per f ≡ all_put puts (filled f.real value)
   pub cut : (c : Content) (per : ℕ) (e f : Extents) → StreamIsCut per e f → extent_bytes c per f ≡ take f.real (extent_bytes c per e)
+
+-- ---- the clusters of a stream that grows
+
+-- each cluster of these runs is one of this stream's, or one that no stream has, and then it lies there once
+abbrev pub TakesFree : Volume → StreamKey → List Run → Type 0
+TakesFree v s runs = (x : ℕ) → (uses runs x ≤ uses (runs_in (stream_at v s)) x) ⊎ ((uses (volume_runs v.files) x ≡ 0) × (uses runs x ≤ 1))
+
+-- Then no cluster lies twice in the runs, nor in them and in another stream of the volume. A write to a block of another stream, or of
+-- clusters that the runs don't have, is to no block in which the new stream is read.
+pub record GrownRunsApart : Type 0 where
+  pub once : (v : Volume) (s : StreamKey) (runs : List Run) → AreOnce (volume_runs v.files) → TakesFree v s runs → AreOnce runs
+  pub clusters : (v : Volume) (s t : StreamKey) (runs : List Run) → AreOnce (volume_runs v.files) → TakesFree v s runs → s ≢ t → AreApart runs (runs_in (stream_at v t))
+  pub in_another : (v : Volume) (s : StreamKey) (f : Extents) (w : Write) (b : Block) → 0 < v.per → AreOnce (volume_runs v.files) → TakesFree v s f.runs → IsInAnother v s w → IsRead v.per f b → IsElsewhere b w
+  pub behind : (v : Volume) (f : Extents) (w : Write) (b : Block) → 0 < v.per → ((d : ℕ) → HasSector w.block d → uses f.runs (d / v.per) ≡ 0) → IsRead v.per f b → IsElsewhere b w

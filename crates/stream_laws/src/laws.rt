@@ -1,7 +1,7 @@
 ghost use Rattle.stream_laws.specs.Changes.{BytesAfterWrites, StaysElsewhere};
 ghost use Rattle.stream_laws.specs.Bitmaps.{BitsOfBitmaps, BitsAfterPuts};
 ghost use Rattle.stream_laws.specs.Frames.{FrameOfStreams, FrameOfRecords, FrameOfIndexes};
-ghost use Rattle.stream_laws.specs.Growth.{BytesAfterPuts, StreamsGrow};
+ghost use Rattle.stream_laws.specs.Growth.{BytesAfterPuts, StreamsGrow, GrownRunsApart};
 ghost use Rattle.stream_laws.specs.Leaving.{FreeBlocksApart, OtherStreamsStay};
 ghost use Rattle.stream_laws.specs.Places.{NoBlockTwice, OnceByRule};
 ghost use Rattle.stream_laws.specs.Records.{OthersStay, OneRecordChanged};
@@ -135,6 +135,12 @@ pub fn bytes_after_puts()
 /// cover all that comes to be initialised; so has a value that leaves its record.
 pub fn streams_grow()
     ensures { StreamsGrow }
+{}
+
+/// Law: where a stream takes clusters that no stream has, none lies twice in it, nor in it and in
+/// another stream.
+pub fn grown_runs_apart()
+    ensures { GrownRunsApart }
 {}
 
 /// Law: the bits of the clusters and of the records are those of the bitmaps' bytes.

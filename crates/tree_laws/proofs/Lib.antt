@@ -19,3 +19,5 @@ pub mod Counting
 pub mod Growing
 pub mod Finding
 pub mod LookingUp
+pub mod Stepping
+pub mod Sparing

@@ -70,7 +70,7 @@ module _ (streams : StreamKey → Bool) (records : ℕ → Bool) (c : Content) (
       (leaves v.per v.table n (w ∷ []) k.some (table_once c g clusters v k.begins k.once) (record { number = is.number; differs = λ same. both_ways (records n) other (ap records (sym same) ∙ is.chosen); lies = is.lies }, tt) b lies).0
   one_elsewhere n other b lies w (inr (inr free)) = (record_left c g clusters v (w ∷ []) n k.begins k.some k.once (inr free, tt) b lies).0
 
-  file_record_left : (n : ℕ) → records n ≡ false → LeavesRecord writes v.per v.table n
+  pub file_record_left : (n : ℕ) → records n ≡ false → LeavesRecord writes v.per v.table n
   file_record_left n other b lies = all_by (λ w. IsInStream streams v w ⊎ IsInRecord records v w ⊎ LiesFree v w.block) (IsElsewhere b) (one_elsewhere n other b lies) writes k.each
 
 pub planned_bytes : (streams : StreamKey → Bool) (records : ℕ → Bool) (c : Content) (g : Geometry) (clusters : ℕ) (v : Volume) (writes : List Write) (s : StreamKey) → WritesWithin streams records c g clusters v writes → streams s ≡ false → table_key ≢ s → LeavesBytes writes v.per (stream_at v s)

@@ -15,3 +15,4 @@ pub mod Journal
 pub mod Room
 pub mod Growth
 pub mod LookUps
+pub mod Steps

@@ -1,15 +1,17 @@
 -- What writes leave that go to the blocks of a few streams and of a few file records, and to free clusters.
-use Rattle.std.specs.Prelude.{◌≡◌, ◌≢◌, ◌⊎◌, ℕ, ◌<◌, ◌==◌, Bool, true, false, List, [], Some}
+use Rattle.std.specs.Prelude.{◌≡◌, ◌≢◌, ◌⊎◌, ℕ, ◌<◌, ◌≤◌, ◌==◌, Bool, true, false, List, [], Some}
 use Rattle.std.specs.List.{AllByRecursion}
 use Rattle.disk_model.specs.declared.block.BlockKind.{BlockKind}
 use Rattle.disk_model.specs.declared.block.BlockKind.TheVariants.{FileRec}
 use Rattle.disk_model.specs.Content.{Content, HasSizes}
 use Rattle.disk_model.specs.Writes.{Write, overlay}
 use Rattle.record_model.specs.Records.{Record}
-use Rattle.record_model.specs.Constants.{data_type, names_index, index_allocation, bitmap_type}
+use Rattle.record_model.specs.Constants.{attribute_list, data_type, names_index, index_allocation, bitmap_type}
 use Rattle.bit_set.specs.Bits.{bit}
 use Rattle.state_model.specs.declared.geometry.Geometry.{Geometry}
+use Rattle.state_model.specs.declared.stream.Extents.{Extents}
 use Rattle.state_model.specs.Files.{is_directory_record}
+use Rattle.state_model.specs.Loads.{Free, record_count, table_slot, list_stream, entries_of}
 use Rattle.state_model.specs.Streams.{block_at}
 use Rattle.volume_model.specs.Volumes.{Volume, count_of, file_in, table_file, upcase_file, record_bits, upper_of}
 use Rattle.volume_model.specs.Indexes.{void_block}
@@ -19,6 +21,8 @@ use Rattle.volume_state.specs.Journals.{entries_name}
 use Rattle.stream_laws.specs.Changes.{AreElsewhere, LeavesBytes, LeavesRecord, LeavesIndex}
 use Rattle.stream_laws.specs.Leaving.{LiesFree}
 use Rattle.stream_laws.specs.Places.{AreOnce}
+use Rattle.stream_laws.specs.Rewrites.{StandsAlone, names_one, TableGoesOn, RewritesRecords}
+use Rattle.stream_laws.specs.Volumes.{base_record}
 use Rattle.stream_laws.specs.Sharing.{StreamKey, stream_at, runs_in}
 use Rattle.stream_laws.specs.Tables.{table_key, BeginsAtBoot}
 use Rattle.tree_laws.specs.Contents.{SameUpper, SameShownAt, SameEntries, AgreeBut}
@@ -59,8 +63,13 @@ pub record SparesOthers (touched : ℕ → Bool) (streams : StreamKey → Bool) 
   pub indexes : (m : ℕ) (r : Record) → touched m ≡ false → file_in v m ≡ Some r → is_directory_record r ≡ true → streams (record { file = m; kind = index_allocation; name = names_index }) ≡ false
   pub shown : (m : ℕ) (r : Record) → touched m ≡ false → file_in v m ≡ Some r → shows_data (kind_in v m r) ≡ true → streams (record { file = m; kind = data_type; name = [] }) ≡ false
 
+-- none of the streams is an attribute list
+abbrev pub SparesLists : (StreamKey → Bool) → Type 0
+SparesLists streams = (n : ℕ) (name : List ℕ) → streams (record { file = n; kind = attribute_list; name = name }) ≡ false
+
 -- Then the other streams, indexes and records are left, and the content after the writes agrees with the one before; by itself on the
--- table of upper-case units, on what other nodes show, and on the change journal.
+-- table of upper-case units, on what other nodes show, and on the change journal. All attribute lists are left where the streams have none, and
+-- so the writes change these records alone, in a table that may grow.
 pub record PlannedWrites : Type 0 where
   pub bytes : (streams : StreamKey → Bool) (records : ℕ → Bool) (c : Content) (g : Geometry) (clusters : ℕ) (v : Volume) (writes : List Write) (s : StreamKey) → WritesWithin streams records c g clusters v writes → streams s ≡ false → table_key ≢ s → LeavesBytes writes v.per (stream_at v s)
   pub index : (streams : StreamKey → Bool) (records : ℕ → Bool) (c : Content) (g : Geometry) (clusters : ℕ) (v : Volume) (writes : List Write) (s : StreamKey) → WritesWithin streams records c g clusters v writes → streams s ≡ false → table_key ≢ s
@@ -76,3 +85,9 @@ pub record PlannedWrites : Type 0 where
       → SameShownAt c (overlay c writes) v m
   pub entries : (streams : StreamKey → Bool) (records : ℕ → Bool) (c : Content) (g : Geometry) (clusters : ℕ) (v : Volume) (writes : List Write) → WritesWithin streams records c g clusters v writes
       → ((m : ℕ) → journal_number (upper_of c v) v ≡ Some m → streams (record { file = m; kind = data_type; name = entries_name }) ≡ false) → SameEntries c (overlay c writes) (upper_of c v) v
+  pub lists : (streams : StreamKey → Bool) (records : ℕ → Bool) (c : Content) (g : Geometry) (clusters : ℕ) (v : Volume) (writes : List Write) (m : ℕ) (r : Record) → WritesWithin streams records c g clusters v writes → SparesLists streams → base_record c v.per v.table m ≡ Some r
+      → LeavesBytes writes v.per (list_stream r)
+  pub rewrites : (streams : StreamKey → Bool) (records : ℕ → Bool) (c : Content) (g : Geometry) (clusters : ℕ) (v : Volume) (f : Extents) (writes : List Write) → WritesWithin streams records c g clusters v writes → SparesLists streams → TableGoesOn v.per v.table f
+      → ((m : ℕ) (r : Record) → records m ≡ false → base_record c v.per v.table m ≡ Some r → names_one records (entries_of c v.per r).entries ≡ false)
+      → ((m : ℕ) → m < record_count v.table → records m ≡ true → StandsAlone v.per (table_slot (overlay c writes) v.per f m))
+      → ((m : ℕ) → record_count v.table ≤ m → m < record_count f → table_slot (overlay c writes) v.per f m ≡ Free) → RewritesRecords c writes v.per v.table f records

@@ -13,6 +13,7 @@ ghost use Rattle.tree_laws.specs.Room.{RoomCounted};
 ghost use Rattle.tree_laws.specs.Nodes.{NodeReplaced, NodesByNumber};
 ghost use Rattle.tree_laws.specs.Parts.{PartsElsewhere};
 ghost use Rattle.tree_laws.specs.Rules.{RulesElsewhere};
+ghost use Rattle.tree_laws.specs.Steps.{StatesFollow};
 ghost use Rattle.tree_laws.specs.Trees.{TreeReplaced};
 
 /// Law: where one file is replaced, the names of a volume are those from before with that file's
@@ -131,4 +132,10 @@ pub fn table_grown()
 /// nodes and spare numbers, its names, the count, the journal and the room.
 pub fn trees_by_look_up()
     ensures { TreesByLookUp }
+{}
+
+/// Law: after writes that replace several files, record 0 among them or not, and may let the file
+/// table grow, a content is a state again, with the tree that the edits lead to.
+pub fn states_follow()
+    ensures { StatesFollow }
 {}

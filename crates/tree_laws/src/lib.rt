@@ -10,6 +10,6 @@ mod laws;
 pub use laws::{
     file_gone, file_made, files_changed, frame_of_state, index_listed, journal_kept, leaf_replaced,
     leaves_of_volume, links_replaced, node_replaced, nodes_by_number, owners_kept, parts_elsewhere,
-    planned_writes, room_counted, rules_elsewhere, table_grown, tree_replaced, trees_by_look_up,
-    ways_are_short, ways_kept,
+    planned_writes, room_counted, rules_elsewhere, states_follow, table_grown, tree_replaced,
+    trees_by_look_up, ways_are_short, ways_kept,
 };
