@@ -106,7 +106,7 @@ pub marked_in_use : (c : Content) (v : Volume) (n : ℕ) → broken_7 c v ≡ No
 unfolding broken_7 keeps_record_bit
 marked_in_use c v n none below in_use = asked (is_in_use c v n) (bit (record_bits c v) n) in_use (passes_below (keeps_record_bit c v) (count_of v) none n below)
 
-implied : (a b : Bool) → b ≡ true → implies a b ≡ true
+pub implied : (a b : Bool) → b ≡ true → implies a b ≡ true
 implied true b is = is
 implied false b is = refl
 

@@ -5,3 +5,4 @@ pub mod OneRecord
 pub mod Informing
 pub mod Drafting
 pub mod Quiet
+pub mod Making

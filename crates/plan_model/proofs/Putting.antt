@@ -42,7 +42,7 @@ others_elsewhere : (b : Block) (w : NewBody) (bodies : List NewBody) → same_bl
 others_elsewhere b w [] same all = tt
 others_elsewhere b w (x ∷ bodies) same all = (same_through b w.block x.block same ∙ all.0, others_elsewhere b w bodies same all.1)
 
-none_elsewhere : (bodies : List NewBody) (b : Block) → body_in bodies b ≡ None → AllByRecursion (IsElsewhere b) (writes_in bodies)
+pub none_elsewhere : (bodies : List NewBody) (b : Block) → body_in bodies b ≡ None → AllByRecursion (IsElsewhere b) (writes_in bodies)
 none_elsewhere [] b none = tt
 none_elsewhere (w ∷ bodies) b none = elim (cases_Bool (same_block b w.block)) [
   | inl same ↦ (let some : Some w.bytes ≡ None = rw same at none in absurd cc)

@@ -1,6 +1,7 @@
 -- An edit of a volume's files: the smallest change that leads from a state to a state.
-use Rattle.std.specs.Prelude.{◌≡◌, ◌⊎◌, ℕ, ◌<◌, Bool, false, List}
+use Rattle.std.specs.Prelude.{◌≡◌, ◌⊎◌, ℕ, ◌<◌, Bool, false, List, true, Some}
 use Rattle.std.specs.List.{AllByRecursion}
+use Rattle.disk_model.specs.declared.block.Block.{Block}
 use Rattle.disk_model.specs.Content.{Content}
 use Rattle.disk_model.specs.Writes.{Write, overlay}
 use Rattle.record_model.specs.Constants.{attribute_list}
@@ -8,17 +9,26 @@ use Rattle.file_tree.specs.Trees.{node_at as node_by_number}
 use Rattle.bit_set.specs.Bits.{bit}
 use Rattle.state_model.specs.declared.geometry.Geometry.{Geometry}
 use Rattle.state_model.specs.Loads.{table_slot}
+use Rattle.state_model.specs.Streams.{block_at}
 use Rattle.volume_model.specs.Volumes.{Volume, count_of, record_bits, table_file}
 use Rattle.volume_model.specs.Nodes.{spare_at}
 use Rattle.volume_state.specs.Trees.{tree_of}
 use Rattle.stream_laws.specs.Leaving.{LiesFree}
 use Rattle.stream_laws.specs.Replacing.{FileEdit, with_edits, AreEdits, LeaveNumber}
 use Rattle.stream_laws.specs.Rewrites.{StandsAlone, new_file, with_files, is_edited}
-use Rattle.stream_laws.specs.Sharing.{StreamKey}
+use Rattle.stream_laws.specs.Owners.{stream_kind}
+use Rattle.stream_laws.specs.Sharing.{StreamKey, stream_at, runs_in}
 use Rattle.stream_laws.specs.Tables.{table_key}
 use Rattle.tree_laws.specs.Changed.{TouchesFiles, AgreesElsewhere, KeepsTouched}
 use Rattle.tree_laws.specs.Planned.{IsInStream, IsInRecord, SparesOthers}
 use Rattle.plan_owners.specs.States.{Stands, IsOwnRecord}
+
+-- the block, of the kind of its stream's blocks, is one of these streams'
+pub record IsOwnedIn (streams : StreamKey → Bool) (v : Volume) (b : Block) : Type 0 where
+  pub stream : StreamKey
+  pub chosen : streams stream ≡ true
+  pub number : ℕ
+  pub lies : block_at v.per (runs_in (stream_at v stream)) (stream_kind stream) number ≡ Some b
 
 -- The writes put these files in the places of those with their numbers, none of which is $MFT. Each record was a file's own or
 -- marked free, and stands alone after the writes, which are to these records, to free clusters and to blocks of these streams: none of

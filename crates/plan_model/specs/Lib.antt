@@ -3,3 +3,4 @@ pub mod Attributes
 pub mod Bodies
 pub mod Informed
 pub mod Drafts
+pub mod Made

@@ -2,6 +2,7 @@ ghost use Rattle.plan_model.specs.Bodies.{BodiesPut};
 ghost use Rattle.plan_model.specs.Drafts.{DraftsGoOn};
 ghost use Rattle.plan_model.specs.Edits.{FilesEdited};
 ghost use Rattle.plan_model.specs.Informed.{TimesChanged};
+ghost use Rattle.plan_model.specs.Made.{FileIsMade};
 ghost use Rattle.plan_model.specs.Attributes.{ValuesRewritten};
 
 /// Law: an edit whose new files keep the rules leads from a state to a state, and leaves the nodes
@@ -32,4 +33,10 @@ pub fn times_changed()
 /// it is a rival of one that the first state owns or of another of its own.
 pub fn drafts_go_on()
     ensures { DraftsGoOn }
+{}
+
+/// Law: where a file is made in a directory whose index has room, a state becomes one of the tree
+/// with the file.
+pub fn file_is_made()
+    ensures { FileIsMade }
 {}

@@ -6,4 +6,6 @@
 
 mod laws;
 
-pub use laws::{bodies_put, drafts_go_on, files_edited, times_changed, values_rewritten};
+pub use laws::{
+    bodies_put, drafts_go_on, file_is_made, files_edited, times_changed, values_rewritten,
+};

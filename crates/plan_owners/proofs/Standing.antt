@@ -118,7 +118,7 @@ some_file v n f is = only_base_some (get_or v.files n None) f is
 
 -- ---- rule 4
 
-rule_4_parts : (c : Content) (v : Volume) → broken_4 c v ≡ None → (keeps_place v ≡ true) × ((n : ℕ) → n < file_count v → keeps_sizes c v n ≡ true)
+pub rule_4_parts : (c : Content) (v : Volume) → broken_4 c v ≡ None → (keeps_place v ≡ true) × ((n : ℕ) → n < file_count v → keeps_sizes c v n ≡ true)
 unfolding broken_4
 rule_4_parts c v none = elim (cases_Bool (keeps_place v)) [
   | inl placed ↦ (placed, passes_below (keeps_sizes c v) (file_count v) (rw placed at none))

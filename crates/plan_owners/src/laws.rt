@@ -1,3 +1,4 @@
+ghost use Rattle.plan_owners.specs.Agreeing.{OwnedIsAll};
 ghost use Rattle.plan_owners.specs.Kinds.{OwnersByKind};
 ghost use Rattle.plan_owners.specs.States.{StatesStand};
 
@@ -11,4 +12,10 @@ pub fn states_stand()
 /// each cluster as one kind of block.
 pub fn owners_by_kind()
     ensures { OwnersByKind }
+{}
+
+/// Law: a content that agrees with a state's on what the volume owns, but for what is wholly past its
+/// stream's initialised size, is a state of the same volume and tree.
+pub fn owned_is_all()
+    ensures { OwnedIsAll }
 {}

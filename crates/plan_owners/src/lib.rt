@@ -6,4 +6,4 @@
 
 mod laws;
 
-pub use laws::{owners_by_kind, states_stand};
+pub use laws::{owned_is_all, owners_by_kind, states_stand};

@@ -124,7 +124,7 @@ by_number : (v : Volume) (r : Record) (o : Option ℕ) → file_or_none v o ≡ 
 by_number v r None is = absurd cc
 by_number v r (Some m) is = (m, refl, is)
 
-holder_number : (v : Volume) (upper : List ℕ) (r : Record) → journal_file upper v ≡ Some r → (m : ℕ) × (journal_number upper v ≡ Some m) × (file_in v m ≡ Some r)
+pub holder_number : (v : Volume) (upper : List ℕ) (r : Record) → journal_file upper v ≡ Some r → (m : ℕ) × (journal_number upper v ≡ Some m) × (file_in v m ≡ Some r)
 unfolding journal_file
 holder_number v upper r is = by_number v r (journal_number upper v) is
 
