@@ -6,3 +6,4 @@ pub mod Informing
 pub mod Drafting
 pub mod Quiet
 pub mod Making
+pub mod TableSteps

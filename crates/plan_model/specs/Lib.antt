@@ -4,3 +4,4 @@ pub mod Bodies
 pub mod Informed
 pub mod Drafts
 pub mod Made
+pub mod Tables

@@ -2,6 +2,7 @@ ghost use Rattle.plan_model.specs.Bodies.{BodiesPut};
 ghost use Rattle.plan_model.specs.Drafts.{DraftsGoOn};
 ghost use Rattle.plan_model.specs.Edits.{FilesEdited};
 ghost use Rattle.plan_model.specs.Informed.{TimesChanged};
+ghost use Rattle.plan_model.specs.Tables.{TableEdited};
 ghost use Rattle.plan_model.specs.Made.{FileIsMade};
 ghost use Rattle.plan_model.specs.Attributes.{ValuesRewritten};
 
@@ -39,4 +40,10 @@ pub fn drafts_go_on()
 /// with the file.
 pub fn file_is_made()
     ensures { FileIsMade }
+{}
+
+/// Law: an edit that may be of `$MFT` itself, and in which the file table may grow, leads from a
+/// state to a state, with the tree by look-up.
+pub fn table_edited()
+    ensures { TableEdited }
 {}

@@ -7,5 +7,6 @@
 mod laws;
 
 pub use laws::{
-    bodies_put, drafts_go_on, file_is_made, files_edited, times_changed, values_rewritten,
+    bodies_put, drafts_go_on, file_is_made, files_edited, table_edited, times_changed,
+    values_rewritten,
 };
