@@ -30,7 +30,7 @@ has_sectors FileRec = omega arith
 has_sectors Index = omega arith
 
 -- a block shares each of its sectors with itself
-itself : (b : Block) → overlap b b ≡ true
+pub itself : (b : Block) → overlap b b ≡ true
 itself b =
     let some = has_sectors b.kind in
     let below : b.first < b.first + sectors b.kind = omega (arith, some) in

@@ -15,3 +15,4 @@ pub mod Growing
 pub mod Bitmapping
 pub mod Weighing
 pub mod Taking
+pub mod Owning

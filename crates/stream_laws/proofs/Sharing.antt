@@ -105,7 +105,7 @@ stream_uses kind name attrs x = omega (arith, joined_uses (attributes_of kind na
 
 -- ---- which stream an attribute belongs to
 
-same_from_test : (xs ys : List ℕ) → pointwise nat_eq xs ys ≡ true → xs ≡ ys
+pub same_from_test : (xs ys : List ℕ) → pointwise nat_eq xs ys ≡ true → xs ≡ ys
 same_from_test [] [] same = refl
 same_from_test [] (y ∷ ys) same = absurd cc
 same_from_test (x ∷ xs) [] same = absurd cc
@@ -156,7 +156,7 @@ stream_once v s once x = omega (arith, stream_of_volume v s x, once x)
 key : ℕ → ℕ → List ℕ → StreamKey
 key file kind name = record { file = file; kind = kind; name = name }
 
-same_key : (s t : StreamKey) → s.file ≡ t.file → s.kind ≡ t.kind → s.name ≡ t.name → s ≡ t
+pub same_key : (s t : StreamKey) → s.file ≡ t.file → s.kind ≡ t.kind → s.name ≡ t.name → s ≡ t
 unfolding key
 same_key s t file kind name =
     ap (λ (n : ℕ). key n s.kind s.name) file ∙ ap (λ (n : ℕ). key t.file n s.name) kind ∙ ap (λ (l : List ℕ). key t.file t.kind l) name

@@ -1,16 +1,17 @@
 -- The bytes of a stream that gets other clusters and sizes, and of a value that leaves its record.
-use Rattle.std.specs.Prelude.{◌≡◌, ◌≢◌, ◌⊎◌, ℕ, ◌+◌, ◌-◌, ◌*◌, ◌/◌, ◌<◌, ◌≤◌, min, ◌&&◌, true, nat_le, nat_lt, is_some, if◌then◌else◌, List, [], ◌∷◌, ◌++◌, length, take, slice_index, unwrap_or, Option, Some, None}
+use Rattle.std.specs.Prelude.{◌≡◌, ◌≢◌, ◌⊎◌, ℕ, ◌+◌, ◌-◌, ◌*◌, ◌/◌, ◌<◌, ◌≤◌, min, ◌&&◌, true, nat_le, nat_lt, is_some, if◌then◌else◌, List, [], ◌∷◌, ◌++◌, length, take, find, slice_index, unwrap_or, Option, Some, None}
 use Rattle.disk_model.specs.declared.block.Block.{Block}
+use Rattle.disk_model.specs.declared.block.BlockKind.{BlockKind}
 use Rattle.disk_model.specs.declared.block.BlockKind.TheVariants.{Plain}
 use Rattle.disk_model.specs.Bytes.{zeros}
 use Rattle.disk_model.specs.Content.{Content, HasSizes}
 use Rattle.disk_model.specs.Laws.{IsElsewhere}
-use Rattle.disk_model.specs.Sectors.{HasSector}
+use Rattle.disk_model.specs.Sectors.{HasSector, sectors}
 use Rattle.disk_model.specs.Writes.{Write, overlay, later}
 use Rattle.record_model.specs.declared.runs.Run.{Run}
 use Rattle.state_model.specs.declared.stream.Extents.{Extents}
 use Rattle.state_model.specs.declared.stream.Stream.{Stream}
-use Rattle.state_model.specs.Streams.{block_at, extent_bytes}
+use Rattle.state_model.specs.Streams.{holds, block_at, extent_bytes}
 use Rattle.volume_model.specs.Volumes.{Volume, bytes_or, size_or}
 use Rattle.volume_model.specs.Owners.{volume_runs, uses}
 use Rattle.stream_laws.specs.Frames.{IsRead}
@@ -83,3 +84,19 @@ pub record GrownRunsApart : Type 0 where
   pub clusters : (v : Volume) (s t : StreamKey) (runs : List Run) → AreOnce (volume_runs v.files) → TakesFree v s runs → s ≢ t → AreApart runs (runs_in (stream_at v t))
   pub in_another : (v : Volume) (s : StreamKey) (f : Extents) (w : Write) (b : Block) → 0 < v.per → AreOnce (volume_runs v.files) → TakesFree v s f.runs → IsInAnother v s w → IsRead v.per f b → IsElsewhere b w
   pub behind : (v : Volume) (f : Extents) (w : Write) (b : Block) → 0 < v.per → ((d : ℕ) → HasSector w.block d → uses f.runs (d / v.per) ≡ 0) → IsRead v.per f b → IsElsewhere b w
+
+-- ---- runs behind runs
+
+-- the run with so many clusters more
+abbrev pub longer : Run → ℕ → Run
+longer r more = record { vcn = r.vcn; lcn = r.lcn; len = r.len + more }
+
+-- all clusters of a stream's n-th place of this kind lie in one of the runs
+abbrev pub LiesInRun : ℕ → List Run → BlockKind → ℕ → Type 0
+LiesInRun per runs kind n = (r : Run) × (find (holds (sectors kind * n / per) ((sectors kind * n + sectors kind - 1) / per)) runs ≡ Some r)
+
+-- A place that lies in one of the runs has its block still where the last run gets longer and others stand behind it, and where others
+-- stand behind all.
+pub record RunsGoOn : Type 0 where
+  pub longer : (per : ℕ) (front behind : List Run) (r : Run) (more : ℕ) (kind : BlockKind) (n : ℕ) → LiesInRun per (front ++ r ∷ []) kind n → block_at per (front ++ longer r more ∷ behind) kind n ≡ block_at per (front ++ r ∷ []) kind n
+  pub behind : (per : ℕ) (runs behind : List Run) (kind : BlockKind) (n : ℕ) → LiesInRun per runs kind n → block_at per (runs ++ behind) kind n ≡ block_at per runs kind n

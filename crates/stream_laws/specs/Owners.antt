@@ -1,15 +1,17 @@
 -- The blocks that a volume owns.
-use Rattle.std.specs.Prelude.{◌≡◌, ℕ, ◌*◌, ◌<◌, ◌==◌, ◌&&◌, ◌||◌, Bool, nat_eq, [], if◌then◌else◌, Option, Some, None}
+use Rattle.std.specs.Prelude.{◌≡◌, ℕ, ◌*◌, ◌<◌, ◌==◌, ◌&&◌, ◌||◌, Bool, true, false, nat_eq, [], if◌then◌else◌, Option, Some, None}
 use Rattle.std.specs.Cmp.Lexicographic.{pointwise}
 use Rattle.disk_model.specs.declared.block.Block.{Block}
 use Rattle.disk_model.specs.declared.block.BlockKind.{BlockKind}
 use Rattle.disk_model.specs.declared.block.BlockKind.TheVariants.{Plain, FileRec, Index}
-use Rattle.disk_model.specs.Sectors.{sectors}
+use Rattle.disk_model.specs.Sectors.{sectors, overlap, are_rivals}
 use Rattle.record_model.specs.Constants.{data_type, index_allocation}
 use Rattle.state_model.specs.declared.stream.Stream.{Stream}
 use Rattle.state_model.specs.declared.stream.Stream.TheVariants.{Held, Placed}
 use Rattle.state_model.specs.Streams.{block_at}
 use Rattle.volume_model.specs.Volumes.{Volume, table_file, mirror_file}
+use Rattle.volume_model.specs.Owners.{volume_runs}
+use Rattle.stream_laws.specs.Places.{AreOnce}
 use Rattle.stream_laws.specs.Sharing.{StreamKey, stream_at, runs_in}
 
 -- the unnamed data of $MFT or of $MFTMirr
@@ -36,3 +38,11 @@ pub record Owns (v : Volume) (b : Block) : Type 0 where
 pub record IsLive (v : Volume) (b : Block) : Type 0 where
   pub owned : Owns v b
   pub begins : 512 * (sectors (stream_kind owned.stream) * owned.number) < initialised_in (stream_at v owned.stream)
+
+-- Where no cluster lies twice in a volume, two blocks that it owns and that share a sector are one block, at one place of one stream. So no
+-- block that it owns has a rival that it owns, and whether a block is live is the same by whatever place it is owned.
+pub record OwnedOnce : Type 0 where
+  pub one : (v : Volume) (a b : Block) → 0 < v.per → AreOnce (volume_runs v.files) → Owns v a → Owns v b → overlap a b ≡ true → a ≡ b
+  pub no_rivals : (v : Volume) (a b : Block) → 0 < v.per → AreOnce (volume_runs v.files) → Owns v a → Owns v b → are_rivals a b ≡ false
+  pub place : (v : Volume) (b : Block) → 0 < v.per → AreOnce (volume_runs v.files) → (first second : Owns v b) → (first.stream ≡ second.stream) × (first.number ≡ second.number)
+  pub live : (v : Volume) (b : Block) → 0 < v.per → AreOnce (volume_runs v.files) → IsLive v b → (owned : Owns v b) → 512 * (sectors (stream_kind owned.stream) * owned.number) < initialised_in (stream_at v owned.stream)

@@ -1,8 +1,9 @@
 ghost use Rattle.stream_laws.specs.Changes.{BytesAfterWrites, StaysElsewhere};
 ghost use Rattle.stream_laws.specs.Bitmaps.{BitsOfBitmaps, BitsAfterPuts};
 ghost use Rattle.stream_laws.specs.Frames.{FrameOfStreams, FrameOfRecords, FrameOfIndexes};
-ghost use Rattle.stream_laws.specs.Growth.{BytesAfterPuts, StreamsGrow, GrownRunsApart};
+ghost use Rattle.stream_laws.specs.Growth.{BytesAfterPuts, StreamsGrow, GrownRunsApart, RunsGoOn};
 ghost use Rattle.stream_laws.specs.Leaving.{FreeBlocksApart, OtherStreamsStay};
+ghost use Rattle.stream_laws.specs.Owners.{OwnedOnce};
 ghost use Rattle.stream_laws.specs.Places.{NoBlockTwice, OnceByRule};
 ghost use Rattle.stream_laws.specs.Records.{OthersStay, OneRecordChanged};
 ghost use Rattle.stream_laws.specs.Puts.{PutsAreWritten};
@@ -164,4 +165,16 @@ pub fn weights_replaced()
 /// owns for blocks of its kind.
 pub fn clusters_by_kind()
     ensures { ClustersByKind }
+{}
+
+/// Law: two blocks that a volume owns and that share a sector are one block, where no cluster lies
+/// twice in it.
+pub fn owned_once()
+    ensures { OwnedOnce }
+{}
+
+/// Law: a place that lies in one of a stream's runs has its block still where runs follow them, the
+/// last one getting longer or not.
+pub fn runs_go_on()
+    ensures { RunsGoOn }
 {}
