@@ -6,4 +6,6 @@ pub mod Informing
 pub mod Drafting
 pub mod Quiet
 pub mod Making
+pub mod Indexing
+pub mod Parting
 pub mod TableSteps

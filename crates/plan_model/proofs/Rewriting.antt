@@ -281,7 +281,7 @@ unfolding record_links
 same_links may n r s k spares =
     ap (λ (seq : ℕ). filter_map (attr_link (record { number = n; seq = seq })) s.attrs) k.seq ∙ links_spared may (reference n r) spares r.attrs s.attrs k.attrs
 
-names_with : ℕ → List Link → Bool → Bool → Bool
+abbrev pub names_with : ℕ → List Link → Bool → Bool → Bool
 names_with n links directory informed =
     implies (leb first_user_record n) (leb 1 (long_count links))
     && implies directory (eqb (long_count links) 1)
@@ -290,7 +290,7 @@ names_with n links directory informed =
     && list_all (is_only_short links) links
 
 pub same_names : (may : Attr → Bool) (n : ℕ) (r s : Record) (links : List Link) → RewritesValues may r s → keeps_names n s links ≡ keeps_names n r links
-unfolding keeps_names names_with
+unfolding keeps_names
 same_names may n r s links k = ap₂ (names_with n links) (same_directory may r s k) (same_types may r s standard_information k)
 
 pub same_info : (may : Attr → Bool) (r s : Record) → RewritesValues may r s → SparesAll may (λ a. eqb a.head.kind standard_information) → info_of s ≡ info_of r

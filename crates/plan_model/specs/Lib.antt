@@ -4,4 +4,6 @@ pub mod Bodies
 pub mod Informed
 pub mod Drafts
 pub mod Made
+pub mod Indexed
+pub mod Parts
 pub mod Tables

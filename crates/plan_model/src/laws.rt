@@ -1,6 +1,8 @@
 ghost use Rattle.plan_model.specs.Bodies.{BodiesPut};
 ghost use Rattle.plan_model.specs.Drafts.{DraftsGoOn};
 ghost use Rattle.plan_model.specs.Edits.{FilesEdited};
+ghost use Rattle.plan_model.specs.Parts.{AttrsReplaced, PiecesJoined};
+ghost use Rattle.plan_model.specs.Indexed.{IndexWalked};
 ghost use Rattle.plan_model.specs.Informed.{TimesChanged};
 ghost use Rattle.plan_model.specs.Tables.{TableEdited};
 ghost use Rattle.plan_model.specs.Made.{FileIsMade};
@@ -40,6 +42,23 @@ pub fn drafts_go_on()
 /// with the file.
 pub fn file_is_made()
     ensures { FileIsMade }
+{}
+
+/// Law: a directory lists what a walk below its new root gives, in a content with the nodes of a
+/// plan.
+pub fn index_walked()
+    ensures { IndexWalked }
+{}
+
+/// Law: where attributes of a record are put in, taken out or replaced, its names and clusters go and
+/// come with them, and what reads the others stays.
+pub fn attrs_replaced()
+    ensures { AttrsReplaced }
+{}
+
+/// Law: a stream stays where its attributes in one record are joined into one.
+pub fn pieces_joined()
+    ensures { PiecesJoined }
 {}
 
 /// Law: an edit that may be of `$MFT` itself, and in which the file table may grow, leads from a

@@ -7,6 +7,6 @@
 mod laws;
 
 pub use laws::{
-    bodies_put, drafts_go_on, file_is_made, files_edited, table_edited, times_changed,
-    values_rewritten,
+    attrs_replaced, bodies_put, drafts_go_on, file_is_made, files_edited, index_walked,
+    pieces_joined, table_edited, times_changed, values_rewritten,
 };

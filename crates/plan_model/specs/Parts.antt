@@ -1,0 +1,65 @@
+-- Records in which attributes are put in, taken out or replaced.
+use Rattle.std.specs.Prelude.{◌≡◌, ◌+◌, ◌==◌, ℕ, Bool, true, false, List, [], ◌∷◌, ◌++◌, Some}
+use Rattle.std.specs.List.{filter_map, flat_map, list_all, AllByRecursion}
+use Rattle.record_model.specs.declared.attribute.OwnForm.TheVariants.{Mapped}
+use Rattle.record_model.specs.declared.attribute.Attr.{Attr}
+use Rattle.record_model.specs.declared.attribute.Sizes.{Sizes}
+use Rattle.record_model.specs.Records.{Record}
+use Rattle.record_model.specs.Constants.{standard_information}
+use Rattle.file_tree.specs.declared.link.Link.{Link}
+use Rattle.state_model.specs.Files.{attr_link, reference, record_links, has_type, info_of}
+use Rattle.state_model.specs.Rules.{keeps_names}
+use Rattle.state_model.specs.Streams.{is_attribute_of, attributes_of, attribute_runs, stream_of}
+use Rattle.volume_model.specs.Owners.{file_runs, uses}
+use Rattle.volume_model.specs.Sizes.{are_joined, keeps_stream}
+use Rattle.tree_laws.specs.Keeping.{PartReplaced}
+
+-- The record keeps its sequence and flags, and one part of its attributes is replaced: put in, where none was there, or taken out,
+-- where none comes.
+pub record ReplacesAttrs (part new_part : List Attr) (r s : Record) : Type 0 where
+  pub seq : s.head.seq ≡ r.head.seq
+  pub flags : s.head.flags ≡ r.head.flags
+  pub attrs : PartReplaced part new_part r.attrs s.attrs
+
+-- none of these attributes passes the test, neither of those that go nor of those that come
+pub record NonePass (test : Attr → Bool) (part new_part : List Attr) : Type 0 where
+  pub gone : AllByRecursion (λ a. test a ≡ false) part
+  pub come : AllByRecursion (λ a. test a ≡ false) new_part
+
+-- Then the names that stand in these attributes go and come, and so do the clusters. What reads attributes of other types, or of
+-- another stream, stays. Streams keep their rule where those that come do and each of the others is of another stream.
+pub record AttrsReplaced : Type 0 where
+  pub links : (part new_part : List Attr) (n : ℕ) (r s : Record) → ReplacesAttrs part new_part r s → PartReplaced (filter_map (attr_link (reference n r)) part) (filter_map (attr_link (reference n r)) new_part) (record_links n r) (record_links n s)
+  pub uses_sum : (part new_part : List Attr) (r s : Record) (x : ℕ) → ReplacesAttrs part new_part r s
+      → uses (file_runs (Some s)) x + uses (flat_map attribute_runs part) x ≡ uses (file_runs (Some r)) x + uses (flat_map attribute_runs new_part) x
+  pub types : (part new_part : List Attr) (r s : Record) (kind : ℕ) → ReplacesAttrs part new_part r s → NonePass (λ a. a.head.kind == kind) part new_part → has_type kind s ≡ has_type kind r
+  pub info : (part new_part : List Attr) (r s : Record) → ReplacesAttrs part new_part r s → NonePass (λ a. a.head.kind == standard_information) part new_part → info_of s ≡ info_of r
+  pub attributes : (part new_part : List Attr) (r s : Record) (kind : ℕ) (name : List ℕ) → ReplacesAttrs part new_part r s → NonePass (is_attribute_of kind name) part new_part → attributes_of kind name s.attrs ≡ attributes_of kind name r.attrs
+  pub stream : (part new_part : List Attr) (r s : Record) (kind : ℕ) (name : List ℕ) → ReplacesAttrs part new_part r s → NonePass (is_attribute_of kind name) part new_part → stream_of kind name s.attrs ≡ stream_of kind name r.attrs
+  pub names : (part new_part : List Attr) (n : ℕ) (r s : Record) (links : List Link) → ReplacesAttrs part new_part r s → NonePass (λ a. a.head.kind == standard_information) part new_part → keeps_names n s links ≡ keeps_names n r links
+  pub sizes : (part new_part : List Attr) (r s : Record) (per clusters : ℕ) (k : ReplacesAttrs part new_part r s) → list_all (keeps_stream per clusters r.attrs) r.attrs ≡ true → list_all (keeps_stream per clusters s.attrs) new_part ≡ true
+      → AllByRecursion (λ a. NonePass (is_attribute_of a.head.kind a.name) part new_part) (k.attrs.front ++ k.attrs.behind) → list_all (keeps_stream per clusters s.attrs) s.attrs ≡ true
+
+-- The attributes of a stream are joined into one: it begins at VCN 0 and has the runs of all, with the sizes of the first.
+pub record JoinsPieces (kind : ℕ) (name : List ℕ) (r s : Record) : Type 0 where
+  pub first : Attr
+  pub others : List Attr
+  pub pieces : attributes_of kind name r.attrs ≡ first ∷ others
+  pub sizes : Sizes
+  pub pairs : List ℕ
+  pub is_mapped : first.form ≡ Mapped sizes pairs
+  pub one : Attr
+  pub joined : attributes_of kind name s.attrs ≡ one ∷ []
+  pub new_sizes : Sizes
+  pub new_pairs : List ℕ
+  pub form : one.form ≡ Mapped new_sizes new_pairs
+  pub begins : new_sizes.first ≡ 0
+  pub runs : attribute_runs one ≡ flat_map attribute_runs (first ∷ others)
+  pub allocated : new_sizes.allocated ≡ sizes.allocated
+  pub real : new_sizes.real ≡ sizes.real
+  pub initialised : new_sizes.initialised ≡ sizes.initialised
+
+-- Then the stream is the same, with its clusters and blocks, and its attribute is joined.
+pub record PiecesJoined : Type 0 where
+  pub stream : (kind : ℕ) (name : List ℕ) (r s : Record) → JoinsPieces kind name r s → stream_of kind name s.attrs ≡ stream_of kind name r.attrs
+  pub are : (kind : ℕ) (name : List ℕ) (r s : Record) → JoinsPieces kind name r s → are_joined (attributes_of kind name s.attrs) ≡ true
