@@ -212,7 +212,7 @@ module _ (c : Content) (g : Geometry) (clusters : ℕ) (v : Volume) (n : ℕ) (r
     own = (inl (r, p.file), tt);
     alone = (subst (λ (x : Slot). StandsAlone v.per x) (sym slot) (small_alone is_info only_info r s k v.per p.no_list (uncut c g clusters v n r state p.file own.below)), tt);
     files = (sym (file_slot d v n s slot base), tt);
-    each = (inr (record { number = n; chosen = at_own; lies = p.place }), tt);
+    each = (inr (inl (record { number = n; chosen = at_own; lies = p.place })), tt);
     table = refl;
     lists = λ m name. refl;
     spares = record {

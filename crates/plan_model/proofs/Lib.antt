@@ -8,3 +8,4 @@ pub mod Quiet
 pub mod Making
 pub mod Indexing
 pub mod Parting
+pub mod TableSteps

@@ -1,4 +1,5 @@
 -- A file is made in a directory.
+use Rattle.stream_laws.specs.Leaving.{LiesFree}
 use Rattle.stream_laws.specs.Owners.{stream_kind, initialised_in, Owns, IsLive}
 use Rattle.stream_laws.specs.Sharing.{stream_at, runs_in}
 use Rattle.stream_laws.proofs.Changing.{has_sectors}
@@ -63,7 +64,7 @@ use Rattle.tree_laws.proofs.Ascending.{of_system_kept, own_children, all_by}
 use Rattle.tree_laws.proofs.Changing.{all_but, places_ways}
 use Rattle.tree_laws.proofs.Holding.{no_index}
 use Rattle.tree_laws.proofs.Keeping.{rules_of, passes_below}
-use Rattle.tree_laws.proofs.Listing.{index_listed, index_kept_by, index_more}
+use Rattle.tree_laws.proofs.Listing.{there_elsewhere, index_listed, index_kept_by, index_more}
 use Rattle.tree_laws.proofs.Naming.{this_or_other, names_everywhere, file_elsewhere, links_of_all, links_kept}
 use Rattle.tree_laws.proofs.Owning.{same_5, same_6}
 use Rattle.tree_laws.proofs.Parting.{record_bits_stay, cluster_bits_stay, room_stays, upper_stays, number_stays}
@@ -309,11 +310,11 @@ module _ (c : Content) (g : Geometry) (clusters : ℕ) (v : Volume) (n dir : ℕ
       neither true = refl
       neither false = refl
 
-  as_write : (p : NewBody) → IsOwnedIn streams v p.block ⊎ IsInRecord touched v (whole_write p) → IsInStream streams v (whole_write p) ⊎ IsInRecord touched v (whole_write p)
+  as_write : (p : NewBody) → IsOwnedIn streams v p.block ⊎ IsInRecord touched v (whole_write p) → IsInStream streams v (whole_write p) ⊎ IsInRecord touched v (whole_write p) ⊎ LiesFree v (whole_write p).block
   as_write p (inl owned) = inl (record { stream = owned.stream; chosen = owned.chosen; kind = stream_kind owned.stream; number = owned.number; lies = owned.lies })
-  as_write p (inr its) = inr its
+  as_write p (inr its) = inr (inl its)
 
-  each_write : (more : List NewBody) → AllByRecursion (λ p. IsOwnedIn streams v p.block ⊎ IsInRecord touched v (whole_write p)) more → AllByRecursion (λ x. IsInStream streams v x ⊎ IsInRecord touched v x) (writes_in more)
+  each_write : (more : List NewBody) → AllByRecursion (λ p. IsOwnedIn streams v p.block ⊎ IsInRecord touched v (whole_write p)) more → AllByRecursion (λ x. IsInStream streams v x ⊎ IsInRecord touched v x ⊎ LiesFree v x.block) (writes_in more)
   each_write [] all = tt
   each_write (p ∷ more) all = (as_write p all.0, each_write more all.1)
 
@@ -469,7 +470,7 @@ module _ (c : Content) (g : Geometry) (clusters : ℕ) (v : Volume) (n dir : ℕ
   name_middle = and_from _ _ names_dir (ap (list_any (same_link link)) (ap (links_at (table_in middle)) child ∙ named_middle) ∙ or_left (same_link link link) false (link_itself link))
 
   middle_holds : is_index (upper_of c v) (table_in middle) (count_of v) (reference dir r) k.new ≡ true
-  middle_holds = index_more (upper_of c v) (table_in v.files) (table_in middle) n (count_of v) (reference dir r) link link k.old k.new k.within first_differs.others one_there k.put k.rises name_middle old_holds
+  middle_holds = index_more (upper_of c v) (table_in v.files) (table_in middle) n (count_of v) (reference dir r) link link k.old k.new k.within (there_elsewhere (table_in v.files) (table_in middle) n (reference dir r) first_differs.others) one_there k.put k.rises name_middle old_holds
 
   index_holds : is_index (upper_of c v) (files_by_number w) (count_of w) (reference dir s) k.new ≡ true
   index_holds =

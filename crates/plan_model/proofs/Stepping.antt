@@ -1,5 +1,5 @@
 -- An edit whose new files keep the rules leads from a state to a state.
-use Rattle.std.proofs.Common.{◌≡◌, ◌≢◌, ◌⊎◌, ℕ, ◌+◌, ◌*◌, ◌<◌, ◌≤◌, Bool, true, false, ◌||◌, cond, eqb, leb, List, [], ◌∷◌, ◌++◌, get_or, Option, Some, None, Ok, refl, sym, ap, subst, ◌∙◌, inl, inr, arith}
+use Rattle.std.proofs.Common.{◌≡◌, ◌≢◌, ◌⊎◌, ℕ, ◌+◌, ◌*◌, ◌/◌, ◌<◌, ◌≤◌, Bool, true, false, ◌||◌, cond, eqb, leb, List, [], ◌∷◌, ◌++◌, get_or, Option, Some, None, Ok, refl, sym, ap, subst, ◌∙◌, inl, inr, arith}
 use Rattle.std.specs.List.{sum_by, filter, flat_map, range_with_len, AllByRecursion}
 use Rattle.std.proofs.lemmas.Bool.{cases_Bool, cases_lt, cases_eq, or_from, both_ways, eqb-true, ne_eqb, le-leb}
 use Rattle.std.proofs.lemmas.List.Sums.{sum_by-append}
@@ -17,23 +17,25 @@ use Rattle.file_tree.specs.Trees.{node_at as node_by_number}
 use Rattle.state_model.specs.declared.geometry.Geometry.{Geometry}
 use Rattle.state_model.specs.declared.stream.Stream.{Stream}
 use Rattle.state_model.specs.declared.stream.Stream.TheVariants.{Held, Placed}
-use Rattle.state_model.specs.Loads.{Slot, Free, Used, boot_block, record_count, table_slot, slot_at, list_stream, named_attrs, entries_of, all_attrs, whole_file}
+use Rattle.state_model.specs.Loads.{Slot, Free, Used, boot_block, record_count, table_of, table_slot, slot_at, list_stream, named_attrs, entries_of, all_attrs, whole_file}
 use Rattle.state_model.specs.Streams.{is_attribute_of, attribute_runs, stream_of, block_at}
 use Rattle.volume_model.specs.Volumes.{Volume, volume_of, file_in, file_stream, bytes_or, table_file}
 use Rattle.volume_model.specs.Nodes.{node_at}
 use Rattle.volume_model.specs.Owners.{volume_runs, uses}
 use Rattle.volume_state.specs.Trees.{Holds, tree_with, tree_of}
 use Rattle.stream_laws.specs.Changes.{AreElsewhere, LeavesBytes}
+use Rattle.stream_laws.specs.Leaving.{LiesFree}
 use Rattle.stream_laws.specs.Places.{AreOnce, AreApart}
 use Rattle.stream_laws.specs.Replacing.{FileEdit, with_edits, LeaveNumber}
 use Rattle.stream_laws.specs.Rewrites.{StandsAlone, RewritesRecords, is_edited}
 use Rattle.stream_laws.specs.Sharing.{StreamKey, stream_at, runs_in}
 use Rattle.stream_laws.specs.Tables.{table_key}
 use Rattle.stream_laws.specs.Volumes.{base_record}
-use Rattle.stream_laws.proofs.Changing.{apart_elsewhere}
+use Rattle.stream_laws.proofs.Changing.{apart_elsewhere, body_elsewhere}
 use Rattle.stream_laws.proofs.Counting.{one_of_all, two_of_all, filter_of_all, filters_of_all}
-use Rattle.stream_laws.proofs.Placing.{lists_apart}
-use Rattle.stream_laws.proofs.Rewriting.{volume_written, edits_changed}
+use Rattle.stream_laws.proofs.Placing.{lists_apart, apart_from_unused}
+use Rattle.stream_laws.proofs.Rewriting.{volume_parts, volume_written, edits_in_place, rewrites_in_place, count_is}
+use Rattle.stream_laws.proofs.Loading.{same_table}
 use Rattle.stream_laws.proofs.Sharing.{attr_uses, file_uses, uses-flat_map, volume_sum, stream_uses, attribute_kind, stream_of_file, file_weight}
 use Rattle.stream_laws.proofs.Tabling.{table_runs}
 use Rattle.tree_laws.specs.Changed.{TouchesFiles, KeepsTouched}
@@ -103,6 +105,14 @@ list_apart v m f attrs more name t once is are differ x =
           omega (arith, mine, part, whole, all, weight, file_weight v t.file x, stream_of_file t.kind t.name (file_in v t.file) x, two, most))
     ]
 
+-- and are some of the volume's
+list_of_all : (v : Volume) (m : ℕ) (f : Record) (attrs more : List Attr) (name : List ℕ) (x : ℕ) → file_in v m ≡ Some f → f.attrs ≡ attrs ++ more → uses (runs_in (stream_of attribute_list name attrs)) x ≤ uses (volume_runs v.files) x
+list_of_all v m f attrs more name x is are =
+    let mine = part_uses x attribute_list name attrs more f.attrs are in
+    let part = filter_of_all (attr_uses x) (is_attribute_of attribute_list name) f.attrs in
+    let whole : file_uses x (file_in v m) ≡ sum_by (attr_uses x) f.attrs = ap (file_uses x) is ∙ uses-flat_map attribute_runs f.attrs x in
+    omega (arith, mine, part, whole, file_weight v m x, one_of_all (file_uses x) v.files m, volume_sum v.files x)
+
 leaves_if : (writes : List Write) (per : ℕ) (s : Option Stream) → ((n : ℕ) (b : Block) → block_at per (runs_in s) Plain n ≡ Some b → AreElsewhere writes b) → LeavesBytes writes per s
 leaves_if writes per None each = tt
 leaves_if writes per (Some (Held value)) each = tt
@@ -123,27 +133,27 @@ module _ (streams : StreamKey → Bool) (c : Content) (g : Geometry) (clusters :
   no_list : (t : StreamKey) → streams t ≡ true → t.kind ≢ attribute_list
   no_list t chosen same = both_ways (streams t) (subst (λ (n : ℕ). streams (record { file = t.file; kind = n; name = t.name }) ≡ false) (sym same) (k.lists t.file t.name)) chosen
 
-  one_left : (runs : List Run) (n : ℕ) (b : Block) → ((t : StreamKey) → t.kind ≢ attribute_list → AreApart runs (runs_in (stream_at v t))) → block_at v.per runs Plain n ≡ Some b → (w : Write) → IsInStream streams v w ⊎ IsInRecord (is_edited edits) v w → IsElsewhere b w
-  one_left runs n b apart at w (inl is) =
+  one_left : (runs : List Run) (n : ℕ) (b : Block) → ((x : ℕ) → uses runs x ≤ uses (volume_runs v.files) x) → ((t : StreamKey) → t.kind ≢ attribute_list → AreApart runs (runs_in (stream_at v t))) → block_at v.per runs Plain n ≡ Some b → (w : Write) → IsInStream streams v w ⊎ IsInRecord (is_edited edits) v w ⊎ LiesFree v w.block → IsElsewhere b w
+  one_left runs n b some_of_all apart at w (inl is) =
       apart_elsewhere b w (lists_apart v.per runs (runs_in (stream_at v is.stream)) Plain is.kind n is.number b w.block s.some (apart is.stream (no_list is.stream is.chosen)) at is.lies)
-  one_left runs n b apart at w (inr is) =
+  one_left runs n b some_of_all apart at w (inr (inl is)) =
       let there : block_at v.per (runs_in (stream_at v table_key)) FileRec is.number ≡ Some w.block = ap (λ (l : List Run). block_at v.per l FileRec is.number) (table_runs c g clusters v (begins c g clusters v s)) ∙ is.lies in
       apart_elsewhere b w (lists_apart v.per runs (runs_in (stream_at v table_key)) Plain FileRec n is.number b w.block s.some (apart table_key (λ same. omega (arith, same))) at there)
+  one_left runs n b some_of_all apart at w (inr (inr free)) =
+      apart_elsewhere b w (apart_from_unused v.per runs Plain n b w.block s.some at (λ d has. omega (arith, some_of_all (d / v.per), free d has)))
 
   list_left : (m : ℕ) (r : Record) → base_record c v.per v.table m ≡ Some r → LeavesBytes writes v.per (list_stream r)
   unfolding list_stream
   list_left m r is =
       let file = list_of_file c g clusters v m r s is in
       leaves_if writes v.per (list_stream r) (λ n b at.
-      all_by (λ w. IsInStream streams v w ⊎ IsInRecord (is_edited edits) v w) (IsElsewhere b) (one_left (runs_in (list_stream r)) n b (λ t differ. list_apart v m file.0 r.attrs file.2.0 _ t (once c g clusters v s) file.1 file.2.1 differ) at) writes k.each)
+      all_by (λ w. IsInStream streams v w ⊎ IsInRecord (is_edited edits) v w ⊎ LiesFree v w.block) (IsElsewhere b) (one_left (runs_in (list_stream r)) n b (λ x. list_of_all v m file.0 r.attrs file.2.0 _ x file.1 file.2.1) (λ t differ. list_apart v m file.0 r.attrs file.2.0 _ t (once c g clusters v s) file.1 file.2.1 differ) at) writes k.each)
 
-  rewrites : RewritesRecords c writes v.per v.table (is_edited edits)
-  rewrites = record {
-    others = λ m below other. planned_record streams (is_edited edits) c g clusters v writes m written_within other;
-    lists = λ m r other is. list_left m r is;
-    unnamed = λ m r other is. unnamed c g clusters v (is_edited edits) m r s (λ n touches. by_edit (IsOwnRecord c v) edits n k.own touches) other is;
-    alone = λ m below touches. by_edit (λ n. StandsAlone v.per (table_slot (overlay c writes) v.per v.table n)) edits m k.alone touches;
-  }
+  rewrites : RewritesRecords c writes v.per v.table v.table (is_edited edits)
+  rewrites =
+      rewrites_in_place c writes g clusters v (is_edited edits) s.loaded (λ m below other. planned_record streams (is_edited edits) c g clusters v writes m written_within other)
+      (λ m r other is. (list_left m r is, unnamed c g clusters v (is_edited edits) m r s (λ n touches. by_edit (IsOwnRecord c v) edits n k.own touches) other is))
+      (λ m below touches. by_edit (λ n. StandsAlone v.per (table_slot (overlay c writes) v.per v.table n)) edits m k.alone touches)
 
   boot_left : AreElsewhere writes (boot_block g 0)
   unfolding table_slot
@@ -155,8 +165,9 @@ module _ (streams : StreamKey → Bool) (c : Content) (g : Geometry) (clusters :
 
   pub loaded_edited : volume_of (overlay c writes) g clusters ≡ Ok (edited v edits)
   loaded_edited =
-      volume_written c writes g clusters v (is_edited edits) k.spares.sized s.loaded boot_left rewrites
-      ∙ ap (λ (w : Volume). Ok w) (edits_changed (overlay c writes) v edits k.distinct k.files)
+      let extents : table_of (overlay c writes) g ≡ Ok v.table = same_table c (overlay c writes) g (body_elsewhere c writes (boot_block g 0) k.spares.sized boot_left) ∙ (volume_parts c g clusters v s.loaded).table in
+      volume_written c writes g clusters v v.table (is_edited edits) k.spares.sized s.loaded extents rewrites
+      ∙ ap (λ (w : Volume). Ok w) (edits_in_place (overlay c writes) v edits (count_is c g clusters v s.loaded) k.distinct k.files)
 
 pub tree_nodes : (c : Content) (v : Volume) (m : ℕ) → node_by_number (tree_of c v).nodes m ≡ node_at (bytes_or c v.per) v m
 unfolding tree_of tree_with

@@ -13,6 +13,7 @@ use Rattle.state_model.specs.Streams.{block_at}
 use Rattle.volume_model.specs.Volumes.{Volume, count_of, record_bits, table_file}
 use Rattle.volume_model.specs.Nodes.{spare_at}
 use Rattle.volume_state.specs.Trees.{tree_of}
+use Rattle.stream_laws.specs.Leaving.{LiesFree}
 use Rattle.stream_laws.specs.Replacing.{FileEdit, with_edits, AreEdits, LeaveNumber}
 use Rattle.stream_laws.specs.Rewrites.{StandsAlone, new_file, with_files, is_edited}
 use Rattle.stream_laws.specs.Owners.{stream_kind}
@@ -30,15 +31,15 @@ pub record IsOwnedIn (streams : StreamKey → Bool) (v : Volume) (b : Block) : T
   pub lies : block_at v.per (runs_in (stream_at v stream)) (stream_kind stream) number ≡ Some b
 
 -- The writes put these files in the places of those with their numbers, none of which is $MFT. Each record was a file's own or
--- marked free, and stands alone after the writes, which are to these records and to blocks of these streams: none of them the
--- file table, an attribute list, or what the other files show.
+-- marked free, and stands alone after the writes, which are to these records, to free clusters and to blocks of these streams: none of
+-- them the file table, an attribute list, or what the other files show.
 pub record WritesFiles (streams : StreamKey → Bool) (c : Content) (v : Volume) (writes : List Write) (edits : List FileEdit) : Type 0 where
   pub distinct : AreEdits (count_of v) edits
   pub no_table : LeaveNumber table_file edits
   pub own : AllByRecursion (λ e. IsOwnRecord c v e.number) edits
   pub alone : AllByRecursion (λ e. StandsAlone v.per (table_slot (overlay c writes) v.per v.table e.number)) edits
   pub files : AllByRecursion (λ e. e.file ≡ new_file (overlay c writes) v e.number) edits
-  pub each : AllByRecursion (λ w. IsInStream streams v w ⊎ IsInRecord (is_edited edits) v w) writes
+  pub each : AllByRecursion (λ w. IsInStream streams v w ⊎ IsInRecord (is_edited edits) v w ⊎ LiesFree v w.block) writes
   pub table : streams table_key ≡ false
   pub lists : (n : ℕ) (name : List ℕ) → streams (record { file = n; kind = attribute_list; name = name }) ≡ false
   pub spares : SparesOthers (is_edited edits) streams (is_edited edits) c v writes

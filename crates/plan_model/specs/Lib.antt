@@ -6,3 +6,4 @@ pub mod Drafts
 pub mod Made
 pub mod Indexed
 pub mod Parts
+pub mod Tables

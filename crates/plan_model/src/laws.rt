@@ -4,6 +4,7 @@ ghost use Rattle.plan_model.specs.Edits.{FilesEdited};
 ghost use Rattle.plan_model.specs.Parts.{AttrsReplaced, PiecesJoined};
 ghost use Rattle.plan_model.specs.Indexed.{IndexWalked};
 ghost use Rattle.plan_model.specs.Informed.{TimesChanged};
+ghost use Rattle.plan_model.specs.Tables.{TableEdited};
 ghost use Rattle.plan_model.specs.Made.{FileIsMade};
 ghost use Rattle.plan_model.specs.Attributes.{ValuesRewritten};
 
@@ -58,4 +59,10 @@ pub fn attrs_replaced()
 /// Law: a stream stays where its attributes in one record are joined into one.
 pub fn pieces_joined()
     ensures { PiecesJoined }
+{}
+
+/// Law: an edit that may be of `$MFT` itself, and in which the file table may grow, leads from a
+/// state to a state, with the tree by look-up.
+pub fn table_edited()
+    ensures { TableEdited }
 {}
