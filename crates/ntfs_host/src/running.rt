@@ -50,7 +50,7 @@ fn take_turn<L: Lookup, D: Device>(
     command: &Command,
     turns: &mut Vec<Turn>,
 ) -> Result<(), Memory>
-    requires looks { OnlyLooks command.now.what }
+    requires { OnlyLooks command.now.what }
     ensures { OnOk result (Follows (L.upper tree.now) (L.nodes tree.now) (L.links tree.now) next (D.moment_of device.now) (D.fault_count device.now) command.now command.now.what turns.old.items turns.new.items) }
 {
     let What::Op(op) = &command.what else {
@@ -77,7 +77,7 @@ pub fn serial_run<R: Threads + Wait, L: Lookup, D: Device, G: Gate>(
     device: &D,
     gate: &G,
 ) -> Result<Vec<Turn>, Memory>
-    requires looks { AllLook script.now }
+    requires { AllLook script.now }
     ensures { IfOk result (λ turns. IsRunOf (L.upper tree.now) (L.nodes tree.now) (L.links tree.now) next script.now time (D.fault_count device.now) turns.items) }
 {
     let mut turns: Vec<Turn> = Vec::new(alloc);

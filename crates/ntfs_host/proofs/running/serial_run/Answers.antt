@@ -10,5 +10,5 @@ loop-command-init g c = rw c.new-turns.ensures.items (none_yet _ _ _ _ _ _ _ _)
 pub loop-command-preserved : goal.loop-command-preserved
 loop-command-preserved g c = one_more _ _ _ _ _ _ _ _ c.loop-command.command-index c.command-item.result c.loop-command.turns.items c.take_turn.new.turns.items c.loop-command-test.true c.command-item.is c.loop-command.invariant c.in_ok-take_turn.ensures
 
-pub take_turn-requires-clause-looks : goal.take_turn-requires-clause-looks
-take_turn-requires-clause-looks g c = subst (λ (x : Command). OnlyLooks x.what) (sym c.command-item.is) (c.requires.looks c.loop-command.command-index c.command-item.result c.loop-command-test.true)
+pub take_turn-requires : goal.take_turn-requires
+take_turn-requires g c = subst (λ (x : Command). OnlyLooks x.what) (sym c.command-item.is) (c.requires c.loop-command.command-index c.command-item.result c.loop-command-test.true)
