@@ -1,6 +1,7 @@
 //! What the plain step answers on a small tree, which stays as it was; and the same by its maps.
 ghost use Rattle.std.specs.Prelude.{◌≡◌, true, IfOk};
-ghost use Rattle.tree_model.specs.Steps.{is_look};
+ghost use Rattle.file_tree.specs.declared.tree.Tree.{Tree as the_tree};
+ghost use Rattle.tree_model.specs.Steps.{is_look, IsWithinBounds, HasStep};
 
 use std::alloc::Global;
 use std::test::Fail;
@@ -96,6 +97,8 @@ fn path(alloc: Global, parts: &[&str]) -> Result<Path, Fail> {
 
 fn op(alloc: Global, row: &Row) -> Result<Op, Fail>
     ensures looks { IfOk result (λ op. is_look op ≡ true) }
+    ensures bounds { IfOk result (λ op. IsWithinBounds op) }
+    ensures steps { IfOk result (λ op. (t : the_tree) → HasStep op t) }
 {
     let path = path(alloc, row.0)?;
     match row.2 {

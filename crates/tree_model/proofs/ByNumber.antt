@@ -6,7 +6,8 @@ use Rattle.std.proofs.lemmas.Bool.Decides.{nat_tests}
 use Rattle.std.proofs.lemmas.List.Folds.{find-append}
 use Rattle.file_tree.specs.declared.node.Node.{Node}
 use Rattle.file_tree.specs.Trees.{has_number, node_at}
-use Rattle.tree_model.specs.Effects.{with_node}
+use Rattle.host_base.specs.declared.file_ref.FileRef.{FileRef}
+use Rattle.tree_model.specs.Effects.{with_node, has_ref_number, ref_at}
 
 gone_by : {X : Type 0} (b : Bool) (x : X) (p : X → Bool) (rest : List X) → p x ≡ b → find p rest ≡ None → find p (cond (not b) (x ∷ rest) rest) ≡ None
 gone_by true x p rest is none = none
@@ -52,3 +53,20 @@ pub node_put : (nodes : List Node) (new : Node) (list : List Node) → list ≡ 
 unfolding node_at
 node_put nodes new list is number =
     ap (λ (l : List Node). find (has_number number) l) is ∙ put_by (number == new.number) nodes new number refl
+
+-- and with another one at its own
+pub both_put : (nodes : List Node) (new next : Node) (one two : List Node) → ((number : ℕ) → node_at one number ≡ with_node new (node_at nodes) number) → ((number : ℕ) → node_at two number ≡ with_node next (node_at one) number)
+    → (number : ℕ) → node_at two number ≡ with_node next (with_node new (node_at nodes)) number
+both_put nodes new next one two first second number = second number ∙ ap (λ (o : Option Node). if number == next.number then Some next else o) (first number)
+
+ref_gone_by : (b : Bool) (refs : List FileRef) (taken number : ℕ) → (number == taken) ≡ b
+    → find (has_ref_number number) (filter (λ (r : FileRef). not (r.number == taken)) refs) ≡ (if b then None else find (has_ref_number number) refs)
+ref_gone_by true refs taken number is =
+    let same : taken ≡ number = grind (arith, nat_tests, is) in
+    subst (λ (k : ℕ). find (has_ref_number number) (filter (λ (r : FileRef). not (r.number == k)) refs) ≡ None) (sym same) (gone (has_ref_number number) refs)
+ref_gone_by false refs taken number is = kept (has_ref_number number) (has_ref_number taken) (λ x at. apart_by number taken x.number is at) refs
+
+-- the references without one at its number
+pub ref_gone : (refs list : List FileRef) (taken : ℕ) → list ≡ filter (λ (r : FileRef). not (r.number == taken)) refs → (number : ℕ) → ref_at list number ≡ (if number == taken then None else ref_at refs number)
+unfolding ref_at
+ref_gone refs list taken is number = ap (λ (l : List FileRef). find (has_ref_number number) l) is ∙ ref_gone_by (number == taken) refs taken number refl

@@ -4,3 +4,5 @@ pub mod FileNeeds
 pub mod WaysUp
 pub mod ByNumber
 pub mod Filling
+pub mod NewFiles
+pub mod Joining

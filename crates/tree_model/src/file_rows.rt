@@ -1,10 +1,11 @@
 //! What refuses an operation on a file.
-ghost use Rattle.std.specs.Prelude.{◌≡◌, ◌<◌, ◌≤◌, ◌^◌, ◌+◌, [], true, None, length, IfOk, IfNone};
+ghost use Rattle.std.specs.Prelude.{◌≡◌, ◌<◌, ◌≤◌, ◌^◌, ◌+◌, [], true, false, None, length, IfOk, IfSome, IfNone};
+ghost use Rattle.utf16_name.specs.Names.{name_fault};
 ghost use Rattle.tree_model.specs.Needs.{changes_file, needed};
 ghost use Rattle.file_tree.specs.Trees.{is_directory_kind};
 ghost use Rattle.file_tree.specs.declared.node.Node.{Node as the_node};
-ghost use Rattle.tree_model.specs.Refusals.{is_dots, new_name, parent_path, is_bad_new_path, parent_of, is_in_system, is_system_kind, is_system_node, fixed_names, fixed_bytes, has_same_name, written_from, written_to, too_long, table_full, no_space, first_of, change_rows, create_rows};
-ghost use Rattle.tree_model.specs.Steps.{IsWithinBounds};
+ghost use Rattle.tree_model.specs.Refusals.{is_dots, new_name, parent_path, is_bad_new_path, parent_of, is_in_system, is_system_kind, is_system_node, fixed_names, fixed_bytes, has_same_name, written_from, written_to, too_long, table_full, most_records, more_records, no_space, first_of, change_rows, create_rows};
+ghost use Rattle.tree_model.specs.Steps.{IsWithinBounds, is_given_up};
 ghost use Rattle.tree_model.specs.declared.script.Op.TheVariants.{Create};
 
 use crate::needs::{changes_file, needed_to_change, needed_to_create, reserve_of_change, shrinks};
@@ -56,9 +57,11 @@ pub fn parent_path(path: &[Units]) -> &[Units]
 }
 
 /// Whether no new name can stand at this path.
-#[tactic(auto, unfolding(crate::specs::Refusals::is_bad_new_path))]
+#[tactic(auto, using(crate::proofs::NewFiles::lawful_name), unfolding(crate::specs::Refusals::is_bad_new_path))]
 pub fn is_bad_new_path(path: &[Units]) -> bool
-    ensures { result ≡ is_bad_new_path path.now }
+    ensures value { result ≡ is_bad_new_path path.now }
+    ensures part { result ≡ false → 0 < length path.now }
+    ensures lawful { result ≡ false → name_fault (new_name path.now) ≡ None }
 {
     path.len() == 0 || has_bad_part(path) || is_dots(new_name(path))
 }
@@ -113,7 +116,8 @@ fn is_system_node(tree: &Tree, node: &Node) -> bool
 }
 
 fn fixed_names(why: Option<Why>) -> Option<Reply>
-    ensures { result ≡ fixed_names why }
+    ensures value { result ≡ fixed_names why }
+    ensures given { IfSome result (λ row. is_given_up row ≡ false) }
 {
     match why {
         Some(Why::List) => Some(Reply::FixedBy { why: Why::List }),
@@ -146,7 +150,8 @@ fn written_to(op: &Op) -> u64
 
 fn too_long(op: &Op, node: &Node) -> Option<Reply>
     requires bounds { IsWithinBounds op.now }
-    ensures { result ≡ too_long op.now node.now }
+    ensures value { result ≡ too_long op.now node.now }
+    ensures given { IfSome result (λ row. is_given_up row ≡ false) }
 {
     let end = written_to(op);
     if !shrinks(op, node) && end.saturating_sub(written_from(op, node)) > MOST_WRITTEN {
@@ -157,7 +162,9 @@ fn too_long(op: &Op, node: &Node) -> Option<Reply>
 }
 
 fn table_full(tree: &Tree) -> Option<Reply>
-    ensures { result ≡ table_full tree.now }
+    ensures value { result ≡ table_full tree.now }
+    ensures given { IfSome result (λ row. is_given_up row ≡ false) }
+    ensures fits { IfNone result (length tree.now.spare ≡ 0 → tree.now.count + more_records ≤ most_records) }
 {
     if tree.spare.as_slice().len() == 0 && tree.count > MOST_RECORDS - MORE_RECORDS {
         Some(Reply::MftFull {
@@ -170,6 +177,7 @@ fn table_full(tree: &Tree) -> Option<Reply>
 
 fn no_space(tree: &Tree, needed: u64) -> Option<Reply>
     ensures value { result ≡ no_space tree.now needed }
+    ensures given { IfSome result (λ row. is_given_up row ≡ false) }
     ensures room { IfNone result (needed ≤ tree.now.room) }
 {
     if tree.room < needed {
@@ -187,6 +195,7 @@ pub fn change_refusal(tree: &Tree, op: &Op, node: &Node) -> Option<Reply>
     requires bounds { IsWithinBounds op.now }
     requires journal { tree.now.journal ≡ None }
     ensures value { result ≡ first_of (change_rows tree.now 0 [] op.now node.now) }
+    ensures given { IfSome result (λ row. is_given_up row ≡ false) }
     ensures room { IfNone result (changes_file op.now node.now ≡ true → needed tree.now 0 op.now node.now ≤ tree.now.room) }
 {
     if is_directory_kind(node.kind) {
@@ -237,6 +246,8 @@ pub fn create_refusal(
     requires path { 0 < length path.now }
     requires journal { tree.now.journal ≡ None }
     ensures value { IfOk result (λ row. row ≡ first_of (create_rows upper.now tree.now 0 [] (Create path.now) (new_name path.now) directory.now)) }
+    ensures given { IfOk result (λ row. IfSome row (λ r. is_given_up r ≡ false)) }
+    ensures fits { IfOk result (λ row. IfNone row (length tree.now.spare ≡ 0 → tree.now.count + more_records ≤ most_records)) }
 {
     if is_system_node(tree, directory) {
         return Ok(Some(Reply::System));

@@ -1,11 +1,10 @@
 //! Steps of operations on files, on plain lists.
-ghost use Rattle.std.specs.Prelude.{◌≡◌, ◌≢◌, ◌<◌, ◌≤◌, ◌^◌, ◌∷◌, [], true, None, IfOk, List, ℕ};
+ghost use Rattle.std.specs.Prelude.{◌≡◌, ◌≢◌, ◌<◌, ◌≤◌, ◌^◌, ◌∷◌, [], true, false, None, IfOk, List, ℕ};
 ghost use Rattle.tree_model.specs.Needs.{changes_file, needed, clusters_for};
 ghost use Rattle.tree_model.specs.Refusals.{first_of, from_there, change_rows};
 ghost use Rattle.tree_model.specs.Effects.{HasChanged, clusters_after};
-ghost use Rattle.tree_model.specs.Steps.{IsWithinBounds, StepsBy, IsChanged, LeavesFile};
+ghost use Rattle.tree_model.specs.Steps.{IsWithinBounds, StepsBy, IsChanged, LeavesFile, is_given_up};
 ghost use Rattle.tree_model.specs.Walks.{reached, bad_name};
-ghost use Rattle.std.specs.Prelude.{false};
 
 use crate::file_bytes::{bytes_after, valid_after};
 use crate::file_effects::{changed_node, with_node};
@@ -71,7 +70,9 @@ fn change_there(
 ) -> Result<(Tree, Reply), Memory>
     requires bounds { IsWithinBounds op.now }
     requires journal { tree.now.journal ≡ None }
-    ensures { IfOk result (λ s. StepsBy (first_of (change_rows tree.now 0 [] op.now node.now)) ((s.1 ≡ said) × LeavesFile (changes_file op.now node.now) tree.now 0 op.now node.now stamp s.0) s.1 tree.now s.0) }
+    requires said { is_given_up said ≡ false }
+    ensures value { IfOk result (λ s. StepsBy (first_of (change_rows tree.now 0 [] op.now node.now)) ((s.1 ≡ said) × LeavesFile (changes_file op.now node.now) tree.now 0 op.now node.now stamp s.0) s.1 tree.now s.0) }
+    ensures given { IfOk result (λ s. is_given_up s.1 ≡ false) }
 {
     if let Some(reply) = change_refusal(tree, op, node) {
         return Ok((tree.clone()?, reply));
@@ -84,7 +85,7 @@ fn change_there(
 
 /// What is answered to a write, a fill or a truncate at this time, and the tree that it leaves;
 /// `said` answers one that is done. The error is want of memory.
-#[tactic(auto, using(crate::proofs::Refusing::walk_ends))]
+#[tactic(auto, using(crate::proofs::Refusing::walk_ends, crate::proofs::Refusing::walk_given))]
 pub fn change(
     alloc: Global,
     tree: &Tree,
@@ -96,7 +97,9 @@ pub fn change(
 ) -> Result<(Tree, Reply), Memory>
     requires bounds { IsWithinBounds op.now }
     requires journal { tree.now.journal ≡ None }
-    ensures { IfOk result (λ s. StepsBy (first_of (bad_name path.now ∷ from_there (reached upper.now tree.now.nodes tree.now.links path.now) (change_rows tree.now 0 [] op.now))) (IsChanged upper.now path.now op.now 0 stamp said s.1 tree.now s.0) s.1 tree.now s.0) }
+    requires said { is_given_up said ≡ false }
+    ensures value { IfOk result (λ s. StepsBy (first_of (bad_name path.now ∷ from_there (reached upper.now tree.now.nodes tree.now.links path.now) (change_rows tree.now 0 [] op.now))) (IsChanged upper.now path.now op.now 0 stamp said s.1 tree.now s.0) s.1 tree.now s.0) }
+    ensures given { IfOk result (λ s. is_given_up s.1 ≡ false) }
 {
     if has_bad_part(path) {
         return Ok((tree.clone()?, Reply::BadName));

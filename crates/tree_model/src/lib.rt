@@ -10,6 +10,7 @@ mod file_rows;
 mod filing;
 mod laws;
 mod looking;
+mod making;
 mod needs;
 mod path;
 mod plain;

@@ -4,9 +4,11 @@ ghost use Rattle.host_base.specs.Answers.{Gives};
 ghost use Rattle.file_tree.specs.Trees.{is_directory, is_directory_kind};
 ghost use Rattle.tree_model.specs.Walks.{entered, reached, reached_directory};
 ghost use Rattle.file_tree.specs.Walks.{is_bad_part, has_bad_part};
-ghost use Rattle.tree_model.specs.Steps.{is_look, stat_of, reply_cause, Lists, Replies, IsStep};
+ghost use Rattle.tree_model.specs.Steps.{is_look, stat_of, reply_cause, Lists, Replies, IsWithinBounds, HasStep, IsStep};
 
+use crate::filing::change;
 use crate::looking::Lookup;
+use crate::making::create;
 use crate::path::Path;
 use crate::plain::Plain;
 use crate::reply::Reply;
@@ -85,9 +87,9 @@ pub fn reached<'a, L: Lookup>(alloc: Global, tree: &'a L, path: &[Units]) -> Res
     }
 }
 
-// The directory that a path names.
+/// The directory that a path names, or what ends the walk.
 #[tactic(auto, unfolding(crate::specs::Walks::reached_directory))]
-fn reached_directory<'a, L: Lookup>(
+pub fn reached_directory<'a, L: Lookup>(
     alloc: Global,
     tree: &'a L,
     path: &[Units],
@@ -183,10 +185,31 @@ pub fn answer<L: Lookup>(alloc: Global, tree: &L, op: &Op) -> Reply
     }
 }
 
+// The step of an operation that only looks.
+fn look(
+    alloc: Global,
+    tree: &Tree,
+    upper: &[u16],
+    op: &Op,
+    stamp: u64,
+) -> Result<(Tree, Reply), Memory>
+    requires looks { is_look op.now ≡ true }
+    ensures value { IfOk result (λ step. IsStep upper.now op.now stamp step.1 tree.now step.0) }
+    ensures given { IfOk result (λ step. (step.1 ≢ Reply.Memory) × (step.1 ≢ Reply.Fault)) }
+{
+    let _ = stamp;
+    match answer(alloc, &Plain { upper, tree }, op) {
+        Reply::Memory => Err(Memory),
+        reply => Ok((tree.clone()?, reply)),
+    }
+}
+
 /// One step of the tree, by going through its lists at each question: a plain program to compare
-/// others with. `upper` gives each of the 65,536 units its upper-case unit; `stamp` is the time of
-/// the step, in 100 ns since 1601-01-01. The error is want of memory. It copies the tree, and
-/// takes time linear in the tree for each part of the path.
+/// others with. It looks, and on a tree without a journal it makes, writes and cuts files. `upper`
+/// gives each of the 65,536 units its upper-case unit; `stamp` is the time of the step, in 100 ns
+/// since 1601-01-01. The error is want of memory. It copies the tree, and takes time linear in the
+/// tree for each part of the path.
+#[tactic(auto, using(crate::proofs::Joining::is_step, crate::proofs::Joining::no_memory, crate::proofs::Joining::no_fault))]
 pub fn step(
     alloc: Global,
     tree: &Tree,
@@ -196,13 +219,28 @@ pub fn step(
 ) -> Result<(Tree, Reply), Memory>
     requires table { length upper.now ≡ 65536 }
     requires early { stamp < 2 ^ 63 }
-    requires looks { is_look op.now ≡ true }
+    requires bounds { IsWithinBounds op.now }
+    requires steps { HasStep op.now tree.now }
     ensures value { IfOk result (λ step. IsStep upper.now op.now stamp step.1 tree.now step.0) }
     ensures given { IfOk result (λ step. (step.1 ≢ Reply.Memory) × (step.1 ≢ Reply.Fault)) }
 {
-    let _ = stamp;
-    match answer(alloc, &Plain { upper, tree }, op) {
-        Reply::Memory => Err(Memory),
-        reply => Ok((tree.clone()?, reply)),
+    match op {
+        Op::Create { path } => create(alloc, tree, upper, path.as_slice(), stamp),
+        Op::Write { path, bytes, .. } => {
+            let said = Reply::Wrote {
+                count: bytes.len() as u64,
+            };
+            change(alloc, tree, upper, path.as_slice(), op, said, stamp)
+        }
+        Op::Fill { path, count, .. } => {
+            let said = Reply::Wrote { count: *count };
+            change(alloc, tree, upper, path.as_slice(), op, said, stamp)
+        }
+        Op::Truncate { path, size } => {
+            let said = Reply::Size { size: *size };
+            change(alloc, tree, upper, path.as_slice(), op, said, stamp)
+        }
+        Op::Stat { .. } | Op::List { .. } => look(alloc, tree, upper, op, stamp),
+        _ => unreachable!(),
     }
 }

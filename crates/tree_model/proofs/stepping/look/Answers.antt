@@ -1,5 +1,5 @@
 use Rattle.tree_model.proofs.Looks.{look_is_step}
-use Rattle.tree_model.proofs.stepping.step.Goals as goal
+use Rattle.tree_model.proofs.stepping.look.Goals as goal
 
 pub returns-in_ok-clone-in_default : goal.returns-in_ok-clone-in_default
 returns-in_ok-clone-in_default c = record {
