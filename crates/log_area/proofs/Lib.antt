@@ -1,0 +1,5 @@
+mod Shapes
+mod Numbering
+mod Firsts
+mod Keeping
+mod Behind
