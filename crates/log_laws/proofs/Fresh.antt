@@ -85,7 +85,7 @@ says_last raw begins =
     ap (λ (b : Bool). cond b (Some (field 0x08 8 raw)) None) same ∙ ap Some (sym lsn)
 
 -- a page that is whole says an LSN of the lap of its place
-whole_says : (pages : ℕ) (raw : List ℕ) (lap page : ℕ) → page_bytes * pages < 2 ^ 64 → page < pages → is_whole_page pages raw (page_lsn pages lap page) ≡ true → (lsn : ℕ) × (said_lsn raw ≡ Some lsn) × (lap_of pages lsn ≡ lap)
+pub whole_says : (pages : ℕ) (raw : List ℕ) (lap page : ℕ) → page_bytes * pages < 2 ^ 64 → page < pages → is_whole_page pages raw (page_lsn pages lap page) ≡ true → (lsn : ℕ) × (said_lsn raw ≡ Some lsn) × (lap_of pages lsn ≡ lap)
 whole_says pages raw lap page small inside whole =
     let parts = whole_parts pages raw (page_lsn pages lap page) whole in
     (last_lsn (restored raw), says_last raw parts.begins, parts.lap ∙ (says_place pages lap (page_bytes * page + entries_at) small (omega arith) (omega arith)).0)

@@ -1,0 +1,5 @@
+pub mod Numbers
+pub mod PageBytes
+pub mod RingPages
+pub mod RestartPages
+pub mod Laws
