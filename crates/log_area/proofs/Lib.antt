@@ -1,5 +1,5 @@
-mod Shapes
-mod Numbering
-mod Firsts
-mod Keeping
-mod Behind
+pub mod Shapes
+pub mod Numbering
+pub mod Firsts
+pub mod Keeping
+pub mod Behind

@@ -1,0 +1,5 @@
+pub mod Entries
+pub mod Filling
+pub mod Keeps
+pub mod Appending
+pub mod Calling
