@@ -5,3 +5,7 @@ pub mod RingFacts
 pub mod RingWrites
 pub mod RingCalls
 pub mod RingReads
+pub mod RestartFacts
+pub mod RestartWrites
+pub mod RestartCalls
+pub mod StoreImages

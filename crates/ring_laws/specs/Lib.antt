@@ -3,3 +3,4 @@ pub mod PageBytes
 pub mod RingPages
 pub mod RestartPages
 pub mod Laws
+pub mod StoreLogs

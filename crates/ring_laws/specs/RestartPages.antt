@@ -1,5 +1,5 @@
 -- The two restart pages on a disk: what a crash may leave of them is what their numbers say.
-use Rattle.std.specs.Prelude.{◌≡◌, ◌⊎◌, ⊤, ℕ, suc, ◌+◌, ◌-◌, ◌==◌, ◌<◌, ◌≤◌, true, false, if◌then◌else◌, List, [], length, Option, Some, None}
+use Rattle.std.specs.Prelude.{◌≡◌, ◌≢◌, ◌⊎◌, ⊤, ℕ, suc, ◌+◌, ◌-◌, ◌==◌, ◌<◌, ◌≤◌, true, false, if◌then◌else◌, List, [], length, Option, Some, None}
 use Rattle.log_page.specs.declared.restart.Restart.{Restart}
 use Rattle.log_page.specs.declared.places.LogPlace.{LogPlace}
 use Rattle.log_page.specs.Restarts.{restart_of, is_newer, whole_one, is_blank, is_emptied, FitsRestart}
@@ -52,6 +52,8 @@ pub record HoldsRestarts (place : LogPlace) (q : Restarts) (check : Option ℕ) 
   pub lies : IsRingPlace place
   pub restarts : AreRestarts q
   pub sized : (k : ℕ) → k < 2 → IsSizedPage place disk k
+  -- the last durable page stands at its own place alone
+  pub lone : (x : Option ℕ) → PlaceMayHold q.places (restart_place (suc q.sure)) x → x ≢ Some q.sure
   -- whatever a crash leaves of a place, and what a read gives of it, is what the numbers say
   pub leaves : (k : ℕ) (image : SectorBytes) → k < 2 → CanLeavePage place disk image k
       → (x : Option ℕ) × PlaceMayHold q.places k x × ShowsRestart fields q.sure (raw_page place image k) x

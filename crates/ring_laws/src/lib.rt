@@ -11,4 +11,6 @@
 
 mod laws;
 
-pub use laws::{pages_are_bytes, pages_are_numbered, ring_is_read, ring_stands};
+pub use laws::{
+    logs_are_left, pages_are_bytes, pages_are_numbered, restarts_stand, ring_is_read, ring_stands,
+};
