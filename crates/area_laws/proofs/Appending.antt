@@ -1,7 +1,7 @@
 -- A ring stands with an entry more.
-use Rattle.std.proofs.Common.{◌≡◌, ◌≢◌, ◌⊎◌, ℕ, suc, ◌+◌, ◌-◌, ◌*◌, ◌/◌, ◌%◌, ◌^◌, ◌<◌, ◌≤◌, Bool, true, false, cond, eqb, List, [], ◌∷◌, ◌++◌, length, drop, get_or, set, Option, Some, None, refl, sym, ap, ap₂, ◌∙◌, subst, inl, inr, arith}
+use Rattle.std.proofs.Common.{◌≡◌, ◌≢◌, ℕ, ◌+◌, ◌-◌, ◌*◌, ◌/◌, ◌%◌, ◌^◌, ◌<◌, ◌≤◌, Bool, true, cond, List, [], ◌∷◌, ◌++◌, length, drop, get_or, set, Option, Some, None, refl, sym, ap, ap₂, ◌∙◌, subst, inl, inr, arith}
 use Rattle.std.proofs.lemmas.Bool.{cases_lt, eq-eqb, ne_eqb}
-use Rattle.std.proofs.lemmas.List.{append-nil, append_assoc, length-append, length-set, get_or_append_left, get_or-set_same, get_or-set_other}
+use Rattle.std.proofs.lemmas.List.{length-append, length-set, get_or_append_left, get_or-set_same, get_or-set_other}
 use Rattle.std.proofs.Math.Seq.{get_or-append_seam}
 use Rattle.disk_model.specs.Bytes.{written, zeros}
 use Rattle.disk_model.proofs.Frames.{length-written}
@@ -11,18 +11,18 @@ use Rattle.log_model.specs.Entries.{entry_size, entry_spelling, FitsEntry}
 use Rattle.log_model.proofs.EntrySpelled.{length-zeros, length-entry_spelling}
 use Rattle.log_page.specs.Places.{page_bytes, first_page, entries_at, sequence_bits, lsn_at, lap_of}
 use Rattle.log_page.specs.RecordPages.{lsn_of}
-use Rattle.log_page.specs.PageSpellings.{end_lsn, entries_spelling, MakePage}
+use Rattle.log_page.specs.PageSpellings.{end_lsn, entries_spelling}
 use Rattle.log_page.proofs.Readings.{size_some}
 use Rattle.store_model.specs.Rings.{Ring}
 use Rattle.ring_laws.specs.Numbers.{LogSession, ring_size, place_of_page, lap_of_page, lsn_of_page}
-use Rattle.ring_laws.specs.RingPages.{HoldsRing, fixed_to}
+use Rattle.ring_laws.specs.RingPages.{fixed_to}
 use Rattle.ring_laws.proofs.Numbering.{has_places, in_ring}
 use Rattle.ring_laws.proofs.RingCalls.{grows}
 use Rattle.ring_laws.proofs.RingFacts.{has_ring, log_small}
 use Rattle.log_area.specs.Areas.{RingPageOf, LogAreaOf, IsLogArea, no_page, place_at, lap_at, number_lsn, is_filling, next_number, next_at, next_lsn, used_pages, held_page, page_with, appended}
 use Rattle.log_area.proofs.Numbering.{place_inside}
 use Rattle.area_laws.specs.Standing.{IsSessionOf, HoldsEntries, StandsRing, end_before, pages_with}
-use Rattle.area_laws.proofs.Entries.{spelling-nil, spelling-one, spelling-more, length-one, length-more, placed-more, end-more, length-some, lsn_in_page, lap_in_page}
+use Rattle.area_laws.proofs.Entries.{spelling-one, spelling-more, length-one, length-more, placed-more, end-more, length-some, lsn_in_page, lap_in_page}
 use Rattle.area_laws.proofs.Filling.{drop_written, drop-zeros, over_zeros}
 use Rattle.area_laws.proofs.Keeps.{IsPlaced, HasRoom, small_entry, is_placed, filling_then, append_keeps}
 
@@ -50,7 +50,7 @@ module _ (s : LogSession) (n at : ℕ) (e : Entry) (lies : 4 < s.place.pages) (s
       let one = length-one e fit in
       let spelled = length-entry_spelling e fit in
       let over : (page_with e at p).bytes ≡ written 0x40 (entry_spelling e) (zeros page_bytes)
-          = ap₂ (λ (k : ℕ) (b : Bool). written k (entry_spelling e) (cond b (zeros page_bytes) p.bytes)) front (eq-eqb at entries_at front) in
+      = ap₂ (λ (k : ℕ) (b : Bool). written k (entry_spelling e) (cond b (zeros page_bytes) p.bytes)) front (eq-eqb at entries_at front) in
       record {
         made = record {
           some = omega arith;
@@ -176,7 +176,7 @@ module _ (s : LogSession) (a : LogAreaOf) (r : Ring) (pages : List (List Entry))
       let last : get_or (pages ++ (e ∷ []) ∷ []) (n - a.oldest) [] ≡ e ∷ [] = ap (λ (i : ℕ). get_or (pages ++ (e ∷ []) ∷ []) i []) at_last ∙ get_or-append_seam pages (e ∷ []) [] [] in
       stands_then (pages ++ (e ∷ []) ∷ []) (λ i lt. get_or_append_left pages ((e ∷ []) ∷ []) [] i (omega arith)) (length-append pages ((e ∷ []) ∷ []) ∙ omega arith) (omega arith)
       (subst (λ (es : List Entry). HoldsEntries s n es (page_with e at (held_page a n))) (sym last)
-        (first_entry s n at e (has_ring s.place h.ring.lies) (log_small s.place h.ring.lies) fit here p.above p.below (held_page a n) front))
+      (first_entry s n at e (has_ring s.place h.ring.lies) (log_small s.place h.ring.lies) fit here p.above p.below (held_page a n) front))
 
   -- a page goes on
   fills_page : 0x40 < at → at ≡ a.free → n ≡ a.sealed → is_filling a ≡ true → used_pages a ≡ a.sealed - a.oldest + 1
@@ -189,12 +189,12 @@ module _ (s : LogSession) (a : LogAreaOf) (r : Ring) (pages : List (List Entry))
       let second = k.written_pages in
       let third = k.sealed_pages in
       let at_end : get_or (set pages i (es ++ e ∷ [])) (n - a.oldest) [] ≡ get_or pages (n - a.oldest) [] ++ e ∷ []
-          = ap (λ (j : ℕ). get_or (set pages i (es ++ e ∷ [])) (j - a.oldest) []) number ∙ get_or-set_same pages i (es ++ e ∷ []) [] (omega arith) ∙ ap (λ (j : ℕ). get_or pages (j - a.oldest) [] ++ e ∷ []) (sym number) in
+      = ap (λ (j : ℕ). get_or (set pages i (es ++ e ∷ [])) (j - a.oldest) []) number ∙ get_or-set_same pages i (es ++ e ∷ []) [] (omega arith) ∙ ap (λ (j : ℕ). get_or pages (j - a.oldest) [] ++ e ∷ []) (sym number) in
       let old = h.held n (omega (arith, k.sealed_pages)) (omega (arith, k.durable_pages, k.written_pages, k.sealed_pages)) in
       let free_is : at ≡ (held_page a n).free = free ∙ h.free filling ∙ ap (λ (j : ℕ). (held_page a j).free) (sym number) in
       stands_then (set pages i (es ++ e ∷ [])) (λ j lt. get_or-set_other pages i j (es ++ e ∷ []) [] (λ x. omega arith)) (length-set pages i (es ++ e ∷ []) ∙ omega arith) (omega (arith, k.durable_pages, k.written_pages, k.sealed_pages))
       (subst (λ (xs : List Entry). HoldsEntries s n xs (page_with e at (held_page a n))) (sym at_end)
-        (next_entry s n at e (has_ring s.place h.ring.lies) (log_small s.place h.ring.lies) fit here p.above p.below (get_or pages (n - a.oldest) []) (held_page a n) old free_is past))
+      (next_entry s n at e (has_ring s.place h.ring.lies) (log_small s.place h.ring.lies) fit here p.above p.below (get_or pages (n - a.oldest) []) (held_page a n) old free_is past))
 
   pub stands_with : StandsRing s (appended e a) r (pages_with e a pages) disk
   stands_with = elim p.where_is [

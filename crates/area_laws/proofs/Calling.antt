@@ -1,5 +1,5 @@
 -- A ring stands at its start, and after each call of the device.
-use Rattle.std.proofs.Common.{◌≡◌, ◌⊎◌, ℕ, zero, suc, ◌+◌, ◌-◌, ◌%◌, ◌^◌, ◌<◌, ◌≤◌, Bool, true, cond, List, [], ◌++◌, length, map, drop, get_or, max, Option, Some, None, Result, Ok, Err, refl, sym, ap, ap₂, ◌∙◌, subst, inl, inr, arith}
+use Rattle.std.proofs.Common.{◌≡◌, ℕ, zero, suc, ◌+◌, ◌-◌, ◌%◌, ◌^◌, ◌<◌, ◌≤◌, Bool, true, cond, List, [], ◌++◌, map, drop, get_or, Option, Some, None, Ok, Err, refl, sym, ap, ap₂, ◌∙◌, subst, inl, inr, arith}
 use Rattle.std.specs.Prelude.{IfSome, unwrap_or, slice_index}
 use Rattle.std.specs.List.{range_with_len}
 use Rattle.std.specs.Option.{option_map}
@@ -7,19 +7,20 @@ use Rattle.std.proofs.lemmas.Bool.{cases_Bool}
 use Rattle.std.proofs.lemmas.List.{length-drop, get_or-drop}
 use Rattle.std.proofs.lemmas.List.FromFn.{get_or-map-range_with_len}
 use Rattle.disk_model.specs.Sectors.{sector_of, raw_from}
+use Rattle.host_base.specs.declared.outside.Failed.{Failed}
 use Rattle.fixup_record.specs.Protecting.{protected_bytes}
 use Rattle.sector_device.specs.Disks.{Disk, SeesDisk, IsSized, IsTornDisk, IsBetween, put, settled, seen}
 use Rattle.sector_device.specs.Moments.{Changes}
 use Rattle.sector_device.specs.Sectors.{sectors_of}
 use Rattle.log_model.specs.declared.entry.Entry.{Entry}
 use Rattle.log_page.specs.declared.places.LogPlace.{LogPlace}
-use Rattle.log_page.specs.Places.{page_bytes, first_page, sequence_bits, lap_of}
+use Rattle.log_page.specs.Places.{first_page, sequence_bits, lap_of}
 use Rattle.log_page.specs.CheckWords.{IsCheckWord}
 use Rattle.log_page.specs.LiveLogs.{said_lsn}
-use Rattle.log_page.specs.PageSpellings.{end_lsn, entries_spelling, page_front, page_spelling}
+use Rattle.log_page.specs.PageSpellings.{end_lsn, page_front, page_spelling}
 use Rattle.log_reading.specs.Rings.{IsRingPlace}
 use Rattle.store_model.specs.Rings.{PagePlaces, Ring, synced_places}
-use Rattle.ring_laws.specs.Numbers.{LogSession, ring_size, place_of_page, lap_of_page, lsn_of_page, IsInRing}
+use Rattle.ring_laws.specs.Numbers.{LogSession, place_of_page, lap_of_page, lsn_of_page, IsInRing}
 use Rattle.ring_laws.specs.PageBytes.{page_sector, raw_page, IsStill, AreAlike, spelled_page}
 use Rattle.ring_laws.specs.RingPages.{HoldsRing, entries_of_page, first_ring, page_written, page_sent}
 use Rattle.ring_laws.specs.Laws.{page_put}
@@ -28,10 +29,10 @@ use Rattle.ring_laws.proofs.RingFacts.{has_ring}
 use Rattle.ring_laws.proofs.RingCalls.{begins, syncs, frees, picks, kept_by_others}
 use Rattle.ring_laws.proofs.RingWrites.{page_is_written, page_fails}
 use Rattle.log_area.specs.Areas.{RingPageOf, LogAreaOf, IsLogArea, page_first, new_area, is_filling, used_pages, held_page, made_page, sealed_area, written_area, synced_area, page_sector as area_sector}
-use Rattle.log_area.specs.Calls.{IsCheckOf, IsSent}
+use Rattle.log_area.specs.Calls.{IsCheckOf}
 use Rattle.log_area.proofs.Keeping.{seal_keeps, start_keeps}
-use Rattle.area_laws.specs.Standing.{IsSessionOf, HoldsEntries, StandsRing, end_before, freed_to}
-use Rattle.area_laws.specs.Laws.{IsKnown, StandsAfter}
+use Rattle.area_laws.specs.Standing.{HoldsEntries, StandsRing, end_before, freed_to}
+use Rattle.area_laws.specs.Laws.{IsKnown, SendsNext}
 
 -- ---- the start
 
@@ -101,12 +102,12 @@ raw_seen : (place : LogPlace) (gives : List (List ℕ)) (disk : Disk) (k : ℕ) 
 unfolding raw_page
 raw_seen place gives disk k same = raw_as (sector_of gives) (seen disk) (page_sector place k) 8 same
 
-picked_of : (place : LogPlace) (gives : Option (List (List ℕ))) (disk : Disk) (k word : ℕ) → SeesDisk gives (Some disk) → IfSome gives (λ d. IsCheckWord (raw_from (sector_of d) (page_sector place k) 8) word)
+pub picked_of : (place : LogPlace) (gives : Option (List (List ℕ))) (disk : Disk) (k word : ℕ) → SeesDisk gives (Some disk) → IfSome gives (λ d. IsCheckWord (raw_from (sector_of d) (page_sector place k) 8) word)
     → IsCheckWord (raw_page place (seen disk) k) word
 picked_of place None disk k word sees picked = absurd sees
 picked_of place (Some g) disk k word sees picked = subst (λ (raw : List ℕ). IsCheckWord raw word) (raw_seen place g disk k sees) picked
 
-torn_known : (first : ℕ) (new : List (List ℕ)) (disk : Disk) (o : Option Disk) → IsTornDisk first new (Some disk) o → (now : Disk) × (o ≡ Some now) × IsBetween disk (put first new disk) now
+pub torn_known : (first : ℕ) (new : List (List ℕ)) (disk : Disk) (o : Option Disk) → IsTornDisk first new (Some disk) o → (now : Disk) × (o ≡ Some now) × IsBetween disk (put first new disk) now
 torn_known first new disk None torn = absurd torn
 torn_known first new disk (Some now) torn = (now, refl, torn)
 
@@ -123,7 +124,7 @@ module _ (s : LogSession) (a : LogAreaOf) (r : Ring) (pages : List (List Entry))
   entries_are : entries_of_page r pages r.done ≡ get_or pages (a.done - a.oldest) []
   entries_are = ap₂ (λ (d : ℕ) (o : ℕ). get_or pages (d - o) []) h.done h.oldest
 
-  held_here : HoldsEntries s r.done (entries_of_page r pages r.done) (held_page a a.done)
+  pub held_here : HoldsEntries s r.done (entries_of_page r pages r.done) (held_page a a.done)
   held_here =
       subst (λ (es : List Entry). HoldsEntries s r.done es (held_page a a.done)) (sym entries_are)
       (subst (λ (n : ℕ). HoldsEntries s n (get_or pages (a.done - a.oldest) []) (held_page a a.done)) (sym h.done) held)
@@ -235,34 +236,47 @@ module _ (s : LogSession) (a : LogAreaOf) (r : Ring) (pages : List (List Entry))
     durable = h.durable;
   }
 
-pub ring_writes : {D : Type 0} (gives : D → Option (List (List ℕ))) (changes : D → Changes) (moment : D → ℕ) {T E : Type 0} (x : T) (s : LogSession) (a : LogAreaOf) (r : Ring) (pages : List (List Entry)) (disk : Disk) (word : ℕ) (old new : D)
-    → IsKnown gives changes old disk → StandsRing s a r pages disk → a.done < a.sealed
-    → IsSent {D = D} {T = T} {E = E} gives changes moment a.check (area_sector a a.done) (protected_bytes (made_page (held_page a a.done))) word (Ok x) old new
-    → StandsAfter changes s (written_area a) (page_written r) pages new
-ring_writes gives changes moment x s a r pages disk word old new known h lt sent =
+-- A page was sent: the disk then, by the one before, and the ring that stands on it.
+pub record RingAfter {D : Type 0} (changes : D → Changes) (s : LogSession) (a : LogAreaOf) (after : PagePlaces → Ring) (pages : List (List Entry)) (disk : Disk) (first : ℕ) (new : List (List ℕ)) (device : D) : Type 0 where
+  pub now : Disk
+  pub known : (changes device).disk ≡ Some now
+  pub between : IsBetween disk (put first new disk) now
+  pub places : PagePlaces
+  pub stands : StandsRing s a (after places) pages now
+
+-- what is written whole is between
+pub whole_between : (before after : Disk) → ((i : ℕ) → after.durable i ≡ before.durable i) → IsBetween before after after
+whole_between before after same = record { durable = same; written = λ i. inr refl }
+
+pub ring_writes : {D : Type 0} (gives : D → Option (List (List ℕ))) (changes : D → Changes) (moment : D → ℕ) (s : LogSession) (a : LogAreaOf) (r : Ring) (pages : List (List Entry)) (disk : Disk) (word : ℕ) (old new : D)
+    → IsKnown gives changes old disk → StandsRing s a r pages disk → a.done < a.sealed → SendsNext gives changes moment a word (Ok tt) old new
+    → RingAfter changes s (written_area a) (page_written r) pages disk (page_sector s.place (place_of_page s r.done)) (sectors_of (spelled_page s r.done (entries_of_page r pages r.done) word)) new
+ring_writes gives changes moment s a r pages disk word old new known h lt sent =
     let sees = subst (λ (o : Option Disk). SeesDisk (gives old) o) known.known known.sees in
     let ring = ready s a r pages disk h lt (gives old) word sees sent.chosen in
     let after = page_is_written s r pages disk word ring in
     record {
-      disk = page_put s r pages word disk;
+      now = page_put s r pages word disk;
       known = sent.sends.writes.ok ∙ ap (option_map (put (area_sector a a.done) (sectors_of (protected_bytes (made_page (held_page a a.done)) word)))) known.known ∙ ap Some (put_is s a r pages disk h lt word);
+      between = whole_between disk (page_put s r pages word disk) (λ i. refl);
       places = after.0;
       stands = written_stands s a r pages disk h lt after.0 (page_put s r pages word disk) after.1;
     }
 
-pub ring_sends : {D : Type 0} (gives : D → Option (List (List ℕ))) (changes : D → Changes) (moment : D → ℕ) {T E : Type 0} (x : E) (s : LogSession) (a : LogAreaOf) (r : Ring) (pages : List (List Entry)) (disk : Disk) (word : ℕ) (old new : D)
-    → IsKnown gives changes old disk → StandsRing s a r pages disk → a.done < a.sealed
-    → IsSent {D = D} {T = T} {E = E} gives changes moment a.check (area_sector a a.done) (protected_bytes (made_page (held_page a a.done))) word (Err x) old new
-    → StandsAfter changes s (record a { check = Some word }) (page_sent r) pages new
-ring_sends gives changes moment x s a r pages disk word old new known h lt sent =
+pub ring_sends : {D : Type 0} (gives : D → Option (List (List ℕ))) (changes : D → Changes) (moment : D → ℕ) (fault : Failed) (s : LogSession) (a : LogAreaOf) (r : Ring) (pages : List (List Entry)) (disk : Disk) (word : ℕ) (old new : D)
+    → IsKnown gives changes old disk → StandsRing s a r pages disk → a.done < a.sealed → SendsNext gives changes moment a word (Err fault) old new
+    → RingAfter changes s (record a { check = Some word }) (page_sent r) pages disk (page_sector s.place (place_of_page s r.done)) (sectors_of (spelled_page s r.done (entries_of_page r pages r.done) word)) new
+ring_sends gives changes moment fault s a r pages disk word old new known h lt sent =
     let sees = subst (λ (o : Option Disk). SeesDisk (gives old) o) known.known known.sees in
     let ring = ready s a r pages disk h lt (gives old) word sees sent.chosen in
     let torn = torn_known (area_sector a a.done) (sectors_of (protected_bytes (made_page (held_page a a.done)) word)) disk (changes new).disk
-        (subst (λ (o : Option Disk). IsTornDisk (area_sector a a.done) (sectors_of (protected_bytes (made_page (held_page a a.done)) word)) o (changes new).disk) known.known sent.sends.writes.err) in
-    let after = page_fails s r pages disk torn.0 word ring (subst (λ (d : Disk). IsBetween disk d torn.0) (put_is s a r pages disk h lt word) torn.2) in
+    (subst (λ (o : Option Disk). IsTornDisk (area_sector a a.done) (sectors_of (protected_bytes (made_page (held_page a a.done)) word)) o (changes new).disk) known.known sent.sends.writes.err) in
+    let between = subst (λ (d : Disk). IsBetween disk d torn.0) (put_is s a r pages disk h lt word) torn.2 in
+    let after = page_fails s r pages disk torn.0 word ring between in
     record {
-      disk = torn.0;
+      now = torn.0;
       known = torn.1;
+      between = between;
       places = after.0;
       stands = sent_stands s a r pages disk h lt after.0 word torn.0 sent.chosen.above sent.chosen.below after.1;
     }

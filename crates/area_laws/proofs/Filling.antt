@@ -1,5 +1,5 @@
 -- Bytes that are put behind those that stand in a page.
-use Rattle.std.proofs.Common.{◌≡◌, ℕ, zero, suc, ◌+◌, ◌-◌, ◌<◌, ◌≤◌, List, [], ◌∷◌, ◌++◌, length, take, drop, refl, sym, ap, ap₂, ◌∙◌, arith}
+use Rattle.std.proofs.Common.{◌≡◌, ℕ, zero, suc, ◌+◌, ◌-◌, ◌≤◌, List, [], ◌∷◌, ◌++◌, length, drop, refl, sym, ap, ap₂, ◌∙◌, arith}
 use Rattle.std.proofs.lemmas.List.{append_assoc, length-append, take_at, drop_at, drop-replicate}
 use Rattle.disk_model.specs.Bytes.{written, zeros}
 use Rattle.disk_model.proofs.Puts.{written_parts}
@@ -23,5 +23,5 @@ over_zeros front new m le =
     let blank = length-zeros m in
     written_parts (length front) new (front ++ zeros m) (omega arith)
     ∙ ap₂ (λ (f : List ℕ) (b : List ℕ). f ++ (new ++ b)) (take_at front (zeros m) (length front) refl)
-        (ap (drop (length new)) (drop_at front (zeros m) (length front) refl) ∙ drop-zeros (length new) m)
+    (ap (drop (length new)) (drop_at front (zeros m) (length front) refl) ∙ drop-zeros (length new) m)
     ∙ sym (append_assoc front new (zeros (m - length new)))

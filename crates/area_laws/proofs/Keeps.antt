@@ -1,7 +1,7 @@
 -- What a ring keeps when an entry is appended.
-use Rattle.std.proofs.Common.{◌≡◌, ◌⊎◌, ℕ, ◌+◌, ◌-◌, ◌*◌, ◌/◌, ◌^◌, ◌<◌, ◌≤◌, Bool, true, false, cond, ap, ◌∙◌, inl, inr, arith}
+use Rattle.std.proofs.Common.{◌≡◌, ◌⊎◌, ℕ, ◌+◌, ◌-◌, ◌^◌, ◌<◌, ◌≤◌, Bool, true, false, cond, ap, ◌∙◌, inl, inr, arith}
 use Rattle.std.specs.Prelude.{not, ◌&&◌}
-use Rattle.std.proofs.lemmas.Bool.{ cases_lt, lt-ltb, le-ltb, lt-leb, le-leb}
+use Rattle.std.proofs.lemmas.Bool.{cases_lt, lt-ltb, le-ltb, lt-leb, le-leb}
 use Rattle.std.proofs.lemmas.List.{length-set}
 use Rattle.log_model.specs.declared.entry.Entry.{Entry}
 use Rattle.log_model.specs.declared.entry.Act.{Act}

@@ -3,3 +3,5 @@ pub mod Filling
 pub mod Keeps
 pub mod Appending
 pub mod Calling
+pub mod Naming
+pub mod Joined

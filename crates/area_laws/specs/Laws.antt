@@ -1,21 +1,24 @@
 -- The laws of a ring's calls.
-use Rattle.std.specs.Prelude.{◌≡◌, ◌⊎◌, ℕ, ◌-◌, ◌^◌, ◌<◌, ◌≤◌, false, List, [], Option, Some, Result, Ok, Err, drop}
-use Rattle.fixup_record.specs.Protecting.{protected_bytes}
+use Rattle.std.specs.Prelude.{◌≡◌, ◌≢◌, ◌⊎◌, ℕ, suc, ◌-◌, ◌^◌, ◌<◌, ◌≤◌, Bool, true, false, List, [], Option, Some, None, Result, Ok, Err, IfSome, drop}
 use Rattle.host_base.specs.declared.outside.Failed.{Failed}
+use Rattle.fixup_record.specs.Protecting.{protected_bytes}
 use Rattle.sector_device.specs.Disks.{Disk, SeesDisk, IsSized, settled, seen}
 use Rattle.sector_device.specs.Moments.{Changes}
 use Rattle.log_model.specs.declared.entry.Entry.{Entry}
 use Rattle.log_model.specs.Entries.{entry_size, FitsEntry}
-use Rattle.log_page.specs.Places.{sequence_bits, lap_of, first_page}
+use Rattle.log_page.specs.declared.restart.Restart.{Restart}
+use Rattle.log_page.specs.Places.{sequence_bits, lap_of}
 use Rattle.log_page.specs.LiveLogs.{said_lsn}
+use Rattle.log_page.specs.Restarts.{restart_spelling, is_blank}
 use Rattle.log_reading.specs.Rings.{IsRingPlace}
-use Rattle.store_model.specs.Rings.{PagePlaces, Ring, synced_places}
+use Rattle.store_model.specs.Rings.{PagePlaces, Ring, Restarts, synced_places}
 use Rattle.ring_laws.specs.Numbers.{LogSession, IsInRing}
 use Rattle.ring_laws.specs.PageBytes.{raw_page, IsStill, AreAlike}
 use Rattle.ring_laws.specs.RingPages.{first_ring, page_written, page_sent}
-use Rattle.log_area.specs.Areas.{LogAreaOf, new_area, lap_at, next_number, next_lsn, needs_page, free_pages, appended, sealed_area, written_area, synced_area, page_sector, held_page, made_page}
+use Rattle.ring_laws.specs.RestartPages.{RestartFields, IsBelow, said_restart, found_restarts, restart_written, restart_sent, restart_synced}
+use Rattle.log_area.specs.Areas.{LogAreaOf, new_area, lap_at, next_number, next_lsn, needs_page, free_pages, appended, sealed_area, written_area, synced_area, named_area, page_sector, held_page, made_page, IsOldest, restart_sector, sent_word, page_to_send}
 use Rattle.log_area.specs.Calls.{IsSent}
-use Rattle.area_laws.specs.Standing.{StandsRing, pages_with, freed_to}
+use Rattle.area_laws.specs.Standing.{Stands, pages_with, freed_to}
 
 -- A device whose disk is known: what it gives is what is seen of the disk.
 pub record IsKnown {D : Type 0} (gives : D → Option (List (List ℕ))) (changes : D → Changes) (device : D) (disk : Disk) : Type 0 where
@@ -23,35 +26,73 @@ pub record IsKnown {D : Type 0} (gives : D → Option (List (List ℕ))) (change
   pub sees : SeesDisk (gives device) (changes device).disk
 
 -- The device's disk after a call, and places of the ring's pages, with which the ring stands.
-pub record StandsAfter {D : Type 0} (changes : D → Changes) (s : LogSession) (a : LogAreaOf) (after : PagePlaces → Ring) (pages : List (List Entry)) (device : D) : Type 0 where
+pub record StandsAfter {D : Type 0} (changes : D → Changes) (s : LogSession) (a : LogAreaOf) (after : PagePlaces → Ring) (q : Restarts) (pages : List (List Entry)) (fields : RestartFields) (device : D) : Type 0 where
   pub disk : Disk
   pub known : (changes device).disk ≡ Some disk
   pub places : PagePlaces
-  pub stands : StandsRing s a (after places) pages disk
+  pub stands : Stands s a (after places) q pages fields disk
 
--- The next page was sent to its place of a device.
+-- The same of restart pages, of which the one with this number says this, and the others what they said.
+pub record RestartsStandAfter {D : Type 0} (changes : D → Changes) (s : LogSession) (a : LogAreaOf) (r : Ring) (after : PagePlaces → Restarts) (pages : List (List Entry)) (fields : RestartFields) (n : ℕ) (page : Restart) (device : D) : Type 0 where
+  pub disk : Disk
+  pub known : (changes device).disk ≡ Some disk
+  pub places : PagePlaces
+  pub told : RestartFields
+  pub said : told n ≡ Some page
+  pub others : (m : ℕ) → m ≢ n → told m ≡ fields m
+  pub stands : Stands s a r (after places) pages told disk
+
+-- The next page was sent to its place of a device; so was a restart page.
 abbrev pub SendsNext : {D : Type 0} → (D → Option (List (List ℕ))) → (D → Changes) → (D → ℕ) → LogAreaOf → ℕ → Result (Unit {0}) Failed → D → D → Type 0
 SendsNext gives changes moment a word result old new = IsSent gives changes moment a.check (page_sector a a.done) (protected_bytes (made_page (held_page a a.done))) word result old new
 
--- A page that is sent, in a write that answers Ok or fails, leaves a ring that follows.
-pub record PagesAreFollowed {D : Type 0} (gives : D → Option (List (List ℕ))) (changes : D → Changes) (moment : D → ℕ) : Type 0 where
-  pub written : (s : LogSession) (a : LogAreaOf) (r : Ring) (pages : List (List Entry)) (disk : Disk) (word : ℕ) (old new : D) → IsKnown gives changes old disk → StandsRing s a r pages disk → a.done < a.sealed
-      → SendsNext gives changes moment a word (Ok tt) old new → StandsAfter changes s (written_area a) (page_written r) pages new
-  pub failed : (s : LogSession) (a : LogAreaOf) (r : Ring) (pages : List (List Entry)) (disk : Disk) (word : ℕ) (old new : D) → IsKnown gives changes old disk → StandsRing s a r pages disk → a.done < a.sealed
-      → (fault : Failed) → SendsNext gives changes moment a word (Err fault) old new → StandsAfter changes s (record a { check = Some word }) (page_sent r) pages new
+abbrev pub SendsRestart : {D : Type 0} → (D → Option (List (List ℕ))) → (D → Changes) → (D → ℕ) → LogAreaOf → ℕ → Bool → ℕ → Result (Unit {0}) Failed → D → D → Type 0
+SendsRestart gives changes moment a oldest clean word result old new =
+    IsSent gives changes moment (sent_word a.sent) (restart_sector a) (protected_bytes (restart_spelling (page_to_send a oldest clean))) word result old new
+
+-- A restart page may be sent that names this place, and is newer than the last durable one.
+pub record MayName (a : LogAreaOf) (q : Restarts) (fields : RestartFields) (oldest : ℕ) (clean : Bool) : Type 0 where
+  pub synced : a.named ≡ None
+  pub place : IsOldest a oldest
+  pub lap : lap_at a (next_number a 0x58) < 2 ^ sequence_bits a.pages
+  pub again : IfSome a.sent (λ x. x.page.oldest ≡ oldest)
+  pub small : oldest < 2 ^ 64
+  pub few : a.opens < 2 ^ 32
+  pub newer : IsBelow (fields q.sure) (Some (page_to_send a oldest clean))
+
+-- A page that is sent, or a restart page, in a write that answers Ok or fails, leaves a ring that follows.
+pub record CallsAreFollowed {D : Type 0} (gives : D → Option (List (List ℕ))) (changes : D → Changes) (moment : D → ℕ) : Type 0 where
+  pub written : (s : LogSession) (a : LogAreaOf) (r : Ring) (q : Restarts) (pages : List (List Entry)) (fields : RestartFields) (disk : Disk) (word : ℕ) (old new : D)
+      → IsKnown gives changes old disk → Stands s a r q pages fields disk → a.done < a.sealed
+      → SendsNext gives changes moment a word (Ok tt) old new → StandsAfter changes s (written_area a) (page_written r) q pages fields new
+  pub failed : (s : LogSession) (a : LogAreaOf) (r : Ring) (q : Restarts) (pages : List (List Entry)) (fields : RestartFields) (disk : Disk) (word : ℕ) (old new : D)
+      → IsKnown gives changes old disk → Stands s a r q pages fields disk → a.done < a.sealed
+      → (fault : Failed) → SendsNext gives changes moment a word (Err fault) old new → StandsAfter changes s (record a { check = Some word }) (page_sent r) q pages fields new
+  pub named : (s : LogSession) (a : LogAreaOf) (r : Ring) (q : Restarts) (pages : List (List Entry)) (fields : RestartFields) (disk : Disk) (oldest : ℕ) (clean : Bool) (word : ℕ) (old new : D)
+      → IsKnown gives changes old disk → Stands s a r q pages fields disk → MayName a q fields oldest clean
+      → SendsRestart gives changes moment a oldest clean word (Ok tt) old new
+      → RestartsStandAfter changes s (named_area oldest a) r (restart_written q) pages fields (suc q.sure) (page_to_send a oldest clean) new
+  pub not_named : (s : LogSession) (a : LogAreaOf) (r : Ring) (q : Restarts) (pages : List (List Entry)) (fields : RestartFields) (disk : Disk) (oldest : ℕ) (clean : Bool) (word : ℕ) (old new : D)
+      → IsKnown gives changes old disk → Stands s a r q pages fields disk → MayName a q fields oldest clean
+      → (fault : Failed) → SendsRestart gives changes moment a oldest clean word (Err fault) old new
+      → RestartsStandAfter changes s (record a { sent = Some (record { page = page_to_send a oldest clean; check = word }) }) r (restart_sent q) pages fields (suc q.sure) (page_to_send a oldest clean) new
 
 pub record RingIsFollowed : Type 0 where
-  -- a session begins on a log whose ring says no lap from the session's first one on
-  pub start : (s : LogSession) (restart opens : ℕ) (disk : Disk) → IsRingPlace s.place → 1 ≤ s.lap → s.lap < 2 ^ sequence_bits s.place.pages → restart ≤ 1 → IsSized disk
-      → ((k : ℕ) → IsInRing s.place k → IsStill s.place disk k) → ((k lsn : ℕ) → IsInRing s.place k → said_lsn (raw_page s.place (seen disk) k) ≡ Some lsn → lap_of s.place.pages lsn < s.lap)
-      → StandsRing s (new_area s.place s.lap restart opens) (first_ring s) [] disk
+  -- a session begins on a log whose ring says no lap from the session's first one on, and whose next restart page goes to the other place than the chosen one's
+  pub start : (s : LogSession) (restart opens : ℕ) (fields : RestartFields) (disk : Disk) → IsRingPlace s.place → 1 ≤ s.lap → s.lap < 2 ^ sequence_bits s.place.pages → restart < 2 → IsSized disk
+      → ((k : ℕ) → k < s.place.pages → IsStill s.place disk k) → ((k lsn : ℕ) → IsInRing s.place k → said_lsn (raw_page s.place (seen disk) k) ≡ Some lsn → lap_of s.place.pages lsn < s.lap)
+      → said_restart (raw_page s.place (seen disk) (1 - restart)) ≡ fields (1 - restart) → IsBelow (said_restart (raw_page s.place (seen disk) restart)) (fields (1 - restart))
+      → (fields (1 - restart) ≡ None → is_blank (raw_page s.place (seen disk) (1 - restart)) ≡ true)
+      → Stands s (new_area s.place s.lap restart opens) (first_ring s) (found_restarts restart) [] fields disk
   -- an entry is appended where there is room
-  pub append : (s : LogSession) (a : LogAreaOf) (r : Ring) (pages : List (List Entry)) (disk : Disk) (e : Entry) → StandsRing s a r pages disk → FitsEntry e → e.lsn ≡ next_lsn a (entry_size e)
-      → lap_at a (next_number a (entry_size e)) < 2 ^ sequence_bits a.pages → (needs_page a (entry_size e) ≡ false) ⊎ (0 < free_pages a) → StandsRing s (appended e a) r (pages_with e a pages) disk
+  pub append : (s : LogSession) (a : LogAreaOf) (r : Ring) (q : Restarts) (pages : List (List Entry)) (fields : RestartFields) (disk : Disk) (e : Entry) → Stands s a r q pages fields disk → FitsEntry e
+      → e.lsn ≡ next_lsn a (entry_size e) → lap_at a (next_number a (entry_size e)) < 2 ^ sequence_bits a.pages → (needs_page a (entry_size e) ≡ false) ⊎ (0 < free_pages a)
+      → Stands s (appended e a) r q (pages_with e a pages) fields disk
   -- a page is sealed
-  pub seal : (s : LogSession) (a : LogAreaOf) (r : Ring) (pages : List (List Entry)) (disk : Disk) → StandsRing s a r pages disk → StandsRing s (sealed_area a) r pages disk
+  pub seal : (s : LogSession) (a : LogAreaOf) (r : Ring) (q : Restarts) (pages : List (List Entry)) (fields : RestartFields) (disk : Disk) → Stands s a r q pages fields disk → Stands s (sealed_area a) r q pages fields disk
   -- a sync went well: written pages are durable, and those before the oldest place that a restart page names are free
-  pub synced : (s : LogSession) (a : LogAreaOf) (r : Ring) (pages : List (List Entry)) (disk : Disk) → StandsRing s a r pages disk
-      → StandsRing s (synced_area a) (record r { oldest = freed_to a; synced = r.done; places = synced_places r.places }) (drop (freed_to a - a.oldest) pages) (settled disk)
-  -- what is done elsewhere leaves the ring
-  pub elsewhere : (s : LogSession) (a : LogAreaOf) (r : Ring) (pages : List (List Entry)) (disk now : Disk) → StandsRing s a r pages disk → AreAlike s.place first_page s.place.pages disk now → StandsRing s a r pages now
+  pub synced : (s : LogSession) (a : LogAreaOf) (r : Ring) (q : Restarts) (pages : List (List Entry)) (fields : RestartFields) (disk : Disk) → Stands s a r q pages fields disk
+      → Stands s (synced_area a) (record r { oldest = freed_to a; synced = r.done; places = synced_places r.places }) (restart_synced q) (drop (freed_to a - a.oldest) pages) fields (settled disk)
+  -- what is done elsewhere leaves all
+  pub elsewhere : (s : LogSession) (a : LogAreaOf) (r : Ring) (q : Restarts) (pages : List (List Entry)) (fields : RestartFields) (disk now : Disk) → Stands s a r q pages fields disk
+      → AreAlike s.place 0 s.place.pages disk now → Stands s a r q pages fields now

@@ -1,16 +1,18 @@
 -- The ring of a log as its fields and a disk hold it.
-use Rattle.std.specs.Prelude.{◌≡◌, ℕ, ◌+◌, ◌-◌, ◌==◌, ◌<◌, ◌≤◌, true, if◌then◌else◌, List, [], ◌∷◌, ◌++◌, length, drop, get_or, set, slice_index, Some, unwrap_or}
+use Rattle.std.specs.Prelude.{◌≡◌, ℕ, suc, ◌+◌, ◌-◌, ◌==◌, ◌<◌, ◌≤◌, true, if◌then◌else◌, List, [], ◌∷◌, ◌++◌, length, drop, get_or, set, slice_index, Some, is_some, IfSome, unwrap_or}
 use Rattle.disk_model.specs.Bytes.{zeros}
 use Rattle.sector_device.specs.Disks.{Disk}
 use Rattle.log_model.specs.declared.entry.Entry.{Entry}
 use Rattle.log_model.specs.Entries.{entry_size}
 use Rattle.log_page.specs.Places.{page_bytes, entries_at}
 use Rattle.log_page.specs.PageSpellings.{end_lsn, entries_spelling, MakePage}
-use Rattle.store_model.specs.Rings.{Ring}
+use Rattle.log_page.specs.declared.restart.Restart.{Restart}
+use Rattle.store_model.specs.Rings.{Ring, Restarts, restart_place}
 use Rattle.ring_laws.specs.Numbers.{LogSession, place_of_page, lap_of_page, lsn_of_page}
 use Rattle.ring_laws.specs.PageBytes.{page_sector}
 use Rattle.ring_laws.specs.RingPages.{HoldsRing}
-use Rattle.log_area.specs.Areas.{RingPageOf, LogAreaOf, IsLogArea, is_filling, used_pages, held_page, next_at}
+use Rattle.ring_laws.specs.RestartPages.{RestartFields, HoldsRestarts}
+use Rattle.log_area.specs.Areas.{RingPageOf, LogAreaOf, IsLogArea, is_filling, used_pages, held_page, next_at, number_of, sent_word}
 
 -- the ring in memory is that of this session
 pub record IsSessionOf (s : LogSession) (a : LogAreaOf) : Type 0 where
@@ -57,3 +59,17 @@ pages_with e a pages =
 -- the page of the oldest place after the next sync
 abbrev pub freed_to : LogAreaOf → ℕ
 freed_to a = unwrap_or a.named a.oldest
+
+-- The restart pages of a ring: the last one that is durable, and the next one, which goes to the other place.
+pub record StandsRestarts (s : LogSession) (a : LogAreaOf) (q : Restarts) (fields : RestartFields) (disk : Disk) : Type 0 where
+  pub restarts : HoldsRestarts s.place q (sent_word a.sent) fields disk
+  pub done : q.done ≡ is_some a.named
+  pub place : a.restart ≡ restart_place (if q.done then suc (suc q.sure) else suc q.sure)
+  pub said : IfSome a.sent (λ x. fields (suc q.sure) ≡ Some x.page)
+  -- the one that was written names the page up to which the next sync frees the ring
+  pub names : IfSome a.named (λ n. (x : Restart) × (fields (suc q.sure) ≡ Some x) × (number_of a x.oldest ≡ n))
+
+-- The fields of a ring, and a disk, hold this ring and these restart pages.
+pub record Stands (s : LogSession) (a : LogAreaOf) (r : Ring) (q : Restarts) (pages : List (List Entry)) (fields : RestartFields) (disk : Disk) : Type 0 where
+  pub ring : StandsRing s a r pages disk
+  pub restarts : StandsRestarts s a q fields disk

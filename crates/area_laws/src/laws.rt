@@ -1,4 +1,4 @@
-ghost use Rattle.area_laws.specs.Laws.{PagesAreFollowed, RingIsFollowed};
+ghost use Rattle.area_laws.specs.Laws.{CallsAreFollowed, RingIsFollowed};
 
 use sector_device::Device;
 
@@ -8,8 +8,8 @@ pub fn ring_is_followed()
     ensures { RingIsFollowed }
 {}
 
-/// Law: a page that is sent to its place of a device leaves a ring that follows the one before,
-/// whether the write answers `Ok` or fails.
-pub fn pages_are_followed<D: Device>(_device: &D)
-    ensures { PagesAreFollowed D.gives D.changes_of D.moment_of }
+/// Law: a page that is sent to its place of a device, or a restart page, leaves a ring that follows
+/// the one before, whether the write answers `Ok` or fails.
+pub fn calls_are_followed<D: Device>(_device: &D)
+    ensures { CallsAreFollowed D.gives D.changes_of D.moment_of }
 {}

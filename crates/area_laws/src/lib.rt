@@ -7,4 +7,4 @@
 
 mod laws;
 
-pub use laws::{pages_are_followed, ring_is_followed};
+pub use laws::{calls_are_followed, ring_is_followed};
