@@ -5,3 +5,4 @@ pub mod Appending
 pub mod Calling
 pub mod Naming
 pub mod Joined
+pub mod Reading

@@ -2,7 +2,8 @@
 use Rattle.std.specs.Prelude.{◌≡◌, ◌≢◌, ◌⊎◌, ℕ, suc, ◌-◌, ◌^◌, ◌<◌, ◌≤◌, Bool, true, false, List, [], Option, Some, None, Result, Ok, Err, IfSome, drop}
 use Rattle.host_base.specs.declared.outside.Failed.{Failed}
 use Rattle.fixup_record.specs.Protecting.{protected_bytes}
-use Rattle.sector_device.specs.Disks.{Disk, SeesDisk, IsSized, settled, seen}
+use Rattle.disk_model.specs.Sectors.{sector_of}
+use Rattle.sector_device.specs.Disks.{Disk, MayLeave, SeesDisk, IsSized, settled, seen}
 use Rattle.sector_device.specs.Moments.{Changes}
 use Rattle.log_model.specs.declared.entry.Entry.{Entry}
 use Rattle.log_model.specs.Entries.{entry_size, FitsEntry}
@@ -14,9 +15,10 @@ use Rattle.log_reading.specs.Rings.{IsRingPlace}
 use Rattle.store_model.specs.Rings.{PagePlaces, Ring, Restarts, synced_places}
 use Rattle.ring_laws.specs.Numbers.{LogSession, IsInRing}
 use Rattle.ring_laws.specs.PageBytes.{raw_page, IsStill, AreAlike}
+use Rattle.ring_laws.specs.Laws.{ReadsFront}
 use Rattle.ring_laws.specs.RingPages.{first_ring, page_written, page_sent}
-use Rattle.ring_laws.specs.RestartPages.{RestartFields, IsBelow, said_restart, found_restarts, restart_written, restart_sent, restart_synced}
-use Rattle.log_area.specs.Areas.{LogAreaOf, new_area, lap_at, next_number, next_lsn, needs_page, free_pages, appended, sealed_area, written_area, synced_area, named_area, page_sector, held_page, made_page, IsOldest, restart_sector, sent_word, page_to_send}
+use Rattle.ring_laws.specs.RestartPages.{RestartFields, ChoosesRestart, IsBelow, said_restart, found_restarts, restart_written, restart_sent, restart_synced}
+use Rattle.log_area.specs.Areas.{LogAreaOf, new_area, lap_at, number_lsn, next_number, next_lsn, needs_page, free_pages, appended, sealed_area, written_area, synced_area, named_area, page_sector, held_page, made_page, IsOldest, restart_sector, sent_word, page_to_send}
 use Rattle.log_area.specs.Calls.{IsSent}
 use Rattle.area_laws.specs.Standing.{Stands, pages_with, freed_to}
 
@@ -96,3 +98,10 @@ pub record RingIsFollowed : Type 0 where
   -- what is done elsewhere leaves all
   pub elsewhere : (s : LogSession) (a : LogAreaOf) (r : Ring) (q : Restarts) (pages : List (List Entry)) (fields : RestartFields) (disk now : Disk) → Stands s a r q pages fields disk
       → AreAlike s.place 0 s.place.pages disk now → Stands s a r q pages fields now
+  -- the LSN of the front of a page may be named the oldest place, from the oldest one up to the end of the durable ones
+  pub front : (s : LogSession) (a : LogAreaOf) (r : Ring) (q : Restarts) (pages : List (List Entry)) (fields : RestartFields) (disk : Disk) → Stands s a r q pages fields disk → (n : ℕ) → a.oldest ≤ n → n ≤ a.synced
+      → IsOldest a (number_lsn a n 0x40)
+  -- of whatever a crash leaves recovery reads a front of the pages, with all that are durable and none that wasn't sent, and chooses the last durable restart page, or
+  -- the next one, once that was sent
+  pub crash : (s : LogSession) (a : LogAreaOf) (r : Ring) (q : Restarts) (pages : List (List Entry)) (fields : RestartFields) (disk : Disk) → Stands s a r q pages fields disk → (count : ℕ) (image : List (List ℕ)) → MayLeave count disk image
+      → ReadsFront s r pages (sector_of image) × ChoosesRestart s.place q fields (sector_of image)

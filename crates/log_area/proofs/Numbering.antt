@@ -1,9 +1,10 @@
 -- The numbers of a ring's pages, and their LSNs, fit 64 bits.
-use Rattle.std.proofs.Common.{◌≡◌, ℕ, ◌+◌, ◌-◌, ◌*◌, ◌/◌, ◌%◌, ◌^◌, ◌<◌, ◌≤◌, sym, ap, ◌∙◌, ap₂, inl, inr, arith, length}
+use Rattle.std.proofs.Common.{◌≡◌, ℕ, ◌+◌, ◌-◌, ◌*◌, ◌/◌, ◌%◌, ◌^◌, ◌<◌, ◌≤◌, true, sym, ap, ◌∙◌, ap₂, inl, inr, arith, length}
 use Rattle.std.proofs.Math.Nat.{mod-lt, lt-mul-div-succ, div-lt_iff_lt-mul, mul-le-mul_left, mul-le-mul_right, mod-add-mod, mod-eq_of_lt}
 use Rattle.std.proofs.Math.Pow.{pow_mono}
 use Rattle.std.proofs.lemmas.Nat.{pow-add}
-use Rattle.std.proofs.lemmas.Bool.{cases_lt, le-leb, lt-leb}
+use Rattle.std.specs.Prelude.{nat_lt, ◌↔◌}
+use Rattle.std.proofs.lemmas.Bool.{cases_lt, le-leb, lt-leb, lt-ltb, le-ltb}
 use Rattle.log_model.specs.declared.entry.Entry.{Entry}
 use Rattle.log_model.specs.Entries.{entry_size}
 use Rattle.log_page.specs.Places.{page_bytes, first_page, digits, place_bits, sequence_bits, lsn_at, lap_of, page_of}
@@ -58,6 +59,18 @@ next_turn n size some =
 -- a lap whose entries have LSNs ends by 2^64
 pub lsn_room : (a : LogAreaOf) (n at : ℕ) → 4 < a.pages → a.pages < 2 ^ 52 → lap_at a n < 2 ^ sequence_bits a.pages → at + 0x58 ≤ 4096 → number_lsn a n at + 1 < 2 ^ 64
 lsn_room a n at some few lt inside =
+    let size = ring_size a in
+    let w = 2 ^ place_bits a.pages in
+    let laps = 2 ^ sequence_bits a.pages in
+    let room : 512 * a.pages < w = log_fits a.pages (omega arith) (omega arith) in
+    let whole : laps * w ≡ 2 ^ 64 = all_bits a.pages in
+    let place : n % size < size = mod-lt n (omega arith) in
+    let ends : (lap_at a n + 1) * w ≤ laps * w = mul-le-mul_right w (omega arith) in
+    let apart : (lap_at a n + 1) * w ≡ lap_at a n * w + w = omega arith in
+    omega arith
+
+pub lsn_small : (a : LogAreaOf) (n at : ℕ) → 4 < a.pages → a.pages < 2 ^ 52 → lap_at a n < 2 ^ sequence_bits a.pages → at ≤ 4096 → number_lsn a n at < 2 ^ 64
+lsn_small a n at some few lt inside =
     let size = ring_size a in
     let w = 2 ^ place_bits a.pages in
     let laps = 2 ^ sequence_bits a.pages in
@@ -123,10 +136,14 @@ next_inside a bytes few =
       | inr le ↦ rw (le-leb (a.free + bytes) 4096 le) le
     ]
 
-pub current_is : (a : LogAreaOf) (current : ℕ) → IsLogArea a → lap_at a (next_number a 0x58) < 2 ^ sequence_bits a.pages → current ≡ next_lsn a 0x58 % 18446744073709551616 → current ≡ next_lsn a 0x58
-current_is a current k lap is =
-    let few = lsn_room a (next_number a 0x58) (next_at a 0x58) k.some k.few lap (next_inside a 0x58 (omega arith)) in
-    is ∙ mod-eq_of_lt (omega arith)
+pub next_exact : (a : LogAreaOf) (bytes found : ℕ) → IsLogArea a → bytes ≤ 4032 → found ≡ next_lsn a bytes % 18446744073709551616 → lap_at a (next_number a bytes) < 2 ^ sequence_bits a.pages → found ≡ next_lsn a bytes
+next_exact a bytes found k few is lap = is ∙ mod-eq_of_lt (lsn_small a (next_number a bytes) (next_at a bytes) k.some k.few lap (let inside = next_inside a bytes few in omega arith))
+
+pub next_lsn_is : (a : LogAreaOf) (bytes n at found : ℕ) → n ≡ next_number a bytes → at ≡ next_at a bytes → found ≡ number_lsn a n at % 18446744073709551616 → found ≡ next_lsn a bytes % 18446744073709551616
+next_lsn_is a bytes n at found n_is at_is is = is ∙ ap₂ (λ (m : ℕ) (x : ℕ). number_lsn a m x % 18446744073709551616) n_is at_is
+
+pub front_exact : (a : LogAreaOf) (found : ℕ) → IsLogArea a → found ≡ number_lsn a a.sealed 0x40 % 18446744073709551616 → lap_at a a.sealed < 2 ^ sequence_bits a.pages → found ≡ number_lsn a a.sealed 0x40
+front_exact a found k is lap = is ∙ mod-eq_of_lt (lsn_small a a.sealed 0x40 k.some k.few lap (omega arith))
 
 pub entry_small : (a : LogAreaOf) (e : Entry) (at bytes : ℕ) → IsLogArea a → lap_at a (next_number a (entry_size e)) < 2 ^ sequence_bits a.pages → e.lsn ≡ next_lsn a (entry_size e)
     → bytes ≡ entry_size e → at ≡ next_at a bytes → at + bytes ≤ 4096 → e.lsn + 1 < 18446744073709551616
@@ -142,3 +159,42 @@ number_fits a lsn turns pages size k old turns_are pages_are size_is =
     let few = few_pages a k in
     let same : turns * size ≡ (lap_of a.pages lsn - a.lap) * ring_size a = ap₂ (λ (t : ℕ) (z : ℕ). t * z) turns_are size_is in
     omega (arith, old.upto, k.written_pages, k.sealed_pages)
+
+-- ---- the last lap
+
+-- the bits of laps, as a shift makes them
+pub lap_limit : (a : LogAreaOf) (bits : ℕ) → IsLogArea a → bits ≡ sequence_bits a.pages → (bits < 64) × (1 * 2 ^ bits % 18446744073709551616 ≡ 2 ^ sequence_bits a.pages)
+lap_limit a bits k is =
+    let some = k.some in
+    let few = k.few in
+    let room : 512 * a.pages < 2 ^ place_bits a.pages = log_fits a.pages (omega arith) (omega arith) in
+    elim (cases_lt 3 (place_bits a.pages)) [
+      | inl enough ↦
+          let small : bits ≤ 61 = omega arith in
+          (omega arith, shifted bits small ∙ ap (λ (j : ℕ). 2 ^ j) is)
+      | inr none ↦
+          let low : 2 ^ place_bits a.pages ≤ 2 ^ 3 = pow_mono none in
+          absurd (omega arith)
+    ]
+
+pub next_near : (a : LogAreaOf) (bytes : ℕ) → next_number a bytes ≤ a.sealed + 1
+next_near a bytes =
+    elim (cases_lt 4096 (a.free + bytes)) [
+      | inl lt ↦ rw (lt-leb (a.free + bytes) 4096 lt) (omega arith)
+      | inr le ↦ rw (le-leb (a.free + bytes) 4096 le) (omega arith)
+    ]
+
+pub next_sum : (a : LogAreaOf) (bytes lap n size : ℕ) → IsLogArea a → lap ≡ a.lap → n ≡ next_number a bytes → size ≡ ring_size a → lap + n / size < 2 ^ 60
+next_sum a bytes lap n size k lap_is n_is size_is = let near = next_near a bytes in lap_sum a n lap size k (omega arith) lap_is size_is
+
+pub lap_tested : (a : LogAreaOf) (bytes lap n size bits : ℕ) → IsLogArea a → lap ≡ a.lap → n ≡ next_number a bytes → size ≡ ring_size a → bits ≡ sequence_bits a.pages
+    → (nat_lt (lap + n / size) (1 * 2 ^ bits % 18446744073709551616) ≡ true) ↔ (lap_at a (next_number a bytes) < 2 ^ sequence_bits a.pages)
+lap_tested a bytes lap n size bits k lap_is n_is size_is bits_is =
+    let limit = (lap_limit a bits k bits_is).1 in
+    let sum : lap + n / size ≡ lap_at a (next_number a bytes) = ap₂ (λ (l : ℕ) (z : ℕ). l + n / z) lap_is size_is ∙ ap (λ (m : ℕ). a.lap + m / ring_size a) n_is in (
+      λ test. elim (cases_lt (lap + n / size) (1 * 2 ^ bits % 18446744073709551616)) [
+        | inl lt ↦ omega arith
+        | inr le ↦ absurd (let e = le-ltb (lap + n / size) (1 * 2 ^ bits % 18446744073709551616) le in cc)
+      ],
+      λ lt. lt-ltb (lap + n / size) (1 * 2 ^ bits % 18446744073709551616) (omega arith),
+    )

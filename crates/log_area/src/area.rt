@@ -11,7 +11,7 @@ use crate::places::{empty_pages, page_firsts};
 use crate::restart::SentRestart;
 use crate::room::zeroed;
 use host_base::Memory;
-use log_page::{Entry, LogPlace, digits};
+use log_page::{Entry, LogPlace, digits, sequence_bits};
 use std::alloc::Global;
 use std::marker::Model;
 
@@ -90,6 +90,13 @@ impl LogArea {
             named: None,
             out: zeroed(alloc, PAGE)?,
         })
+    }
+
+    /// How many sectors the device has at least.
+    pub fn sectors(&self) -> u64
+        ensures value { result ≡ self.now.sectors }
+    {
+        self.sectors
     }
 
     // The pages of the ring.
@@ -184,8 +191,20 @@ impl LogArea {
     pub fn next(&self, bytes: u64) -> u64
         requires { bytes ≤ 4032 }
         ensures value { result ≡ next_lsn self.now bytes % 2 ^ 64 }
+        ensures exact { lap_at self.now (next_number self.now bytes) < 2 ^ sequence_bits self.now.pages → result ≡ next_lsn self.now bytes }
     {
+        let _ = &self.pages;
         self.lsn_at(self.next_number(bytes), self.next_at(bytes) as u64)
+    }
+
+    /// Whether the place that an entry of so many bytes would get next is of a lap whose LSNs have 64
+    /// bits; what is appended has such a place.
+    pub fn has_lap(&self, bytes: u64) -> bool
+        requires { bytes ≤ 4032 }
+        ensures value { (result ≡ true) ↔ (lap_at self.now (next_number self.now bytes) < 2 ^ sequence_bits self.now.pages) }
+    {
+        let number = self.next_number(bytes);
+        self.lap + number / self.size() < 1u64 << sequence_bits(self.pages)
     }
 
     /// Appends an entry whose LSN is that of its place. It is put where it will stand on the disk:
@@ -231,6 +250,7 @@ impl LogArea {
     pub fn begin_checkpoint(&mut self) -> u64
         ensures sealed { self.new ≡ sealed_area self.old }
         ensures place { result ≡ number_lsn self.new self.new.sealed 0x40 % 2 ^ 64 }
+        ensures exact { lap_at self.new self.new.sealed < 2 ^ sequence_bits self.new.pages → result ≡ number_lsn self.new self.new.sealed 0x40 }
     {
         self.seal();
         self.lsn_at(self.sealed, 0x40)

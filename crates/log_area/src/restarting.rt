@@ -52,7 +52,6 @@ impl LogArea {
         requires { lap_at self.now (next_number self.now 0x58) < 2 ^ sequence_bits self.now.pages }
         ensures value { result ≡ next_lsn self.now 0x58 }
     {
-        let _ = &self.pages;
         self.next(0x58)
     }
 

@@ -1,4 +1,5 @@
 use Rattle.area_laws.proofs.Joined.{starts, appends, seals, syncs_all, stays}
+use Rattle.area_laws.proofs.Reading.{front_named, is_read}
 use Rattle.area_laws.proofs.laws.ring_is_followed.Goals as goal
 
 pub returns : goal.returns
@@ -8,4 +9,6 @@ returns c = record {
   seal = seals;
   synced = syncs_all;
   elsewhere = stays;
+  front = front_named;
+  crash = is_read;
 }
