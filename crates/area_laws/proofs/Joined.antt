@@ -24,10 +24,14 @@ use Rattle.ring_laws.proofs.Numbering.{in_ring}
 use Rattle.ring_laws.proofs.RingFacts.{has_ring}
 use Rattle.ring_laws.proofs.LogSectors.{kept_by_page}
 use Rattle.ring_laws.proofs.RestartCalls.{finds, restarts_kept}
-use Rattle.log_area.specs.Areas.{LogAreaOf, new_area, is_filling, lap_at, next_number, next_lsn, appended, sealed_area, written_area, synced_area}
-use Rattle.area_laws.specs.Standing.{StandsRestarts, Stands, pages_with, freed_to}
+use Rattle.log_area.specs.Areas.{LogAreaOf, new_area, is_filling, lap_at, next_number, next_at, next_lsn, appended, sealed_area, written_area, synced_area}
+use Rattle.area_laws.specs.Standing.{StandsRestarts, Stands, IsOlder, pages_with, freed_to, StandsRing}
 use Rattle.area_laws.specs.Laws.{IsKnown, SendsNext, StandsAfter}
-use Rattle.area_laws.proofs.Keeps.{HasRoom}
+use Rattle.area_laws.proofs.Keeps.{HasRoom, small_entry, is_placed}
+use Rattle.area_laws.proofs.Rising.{next_rises, append_before, lap_below}
+use Rattle.log_page.proofs.Readings.{size_some}
+use Rattle.log_page.specs.declared.restart.Restart.{Restart}
+use Rattle.std.specs.Prelude.{IfSome}
 use Rattle.area_laws.proofs.Appending.{ring_appends}
 use Rattle.area_laws.proofs.Calling.{held_here, ring_starts, ring_seals, ring_writes, ring_sends, sync_stands, ring_stays}
 use Rattle.area_laws.proofs.Naming.{same_restarts, restarts_synced}
@@ -35,26 +39,38 @@ use Rattle.area_laws.proofs.Naming.{same_restarts, restarts_synced}
 pub starts : (s : LogSession) (restart opens : ℕ) (fields : RestartFields) (disk : Disk) → IsRingPlace s.place → 1 ≤ s.lap → s.lap < 2 ^ sequence_bits s.place.pages → restart < 2 → IsSized disk
     → ((k : ℕ) → k < s.place.pages → IsStill s.place disk k) → ((k lsn : ℕ) → IsInRing s.place k → said_lsn (raw_page s.place (seen disk) k) ≡ Some lsn → lap_of s.place.pages lsn < s.lap)
     → said_restart (raw_page s.place (seen disk) (1 - restart)) ≡ fields (1 - restart) → IsBelow (said_restart (raw_page s.place (seen disk) restart)) (fields (1 - restart))
-    → (fields (1 - restart) ≡ None → is_blank (raw_page s.place (seen disk) (1 - restart)) ≡ true)
+    → (fields (1 - restart) ≡ None → is_blank (raw_page s.place (seen disk) (1 - restart)) ≡ true) → ((c : Restart) → fields (1 - restart) ≡ Some c → lap_of s.place.pages c.current < s.lap)
     → Stands s (new_area s.place s.lap restart opens) (first_ring s) (found_restarts restart) [] fields disk
-starts s restart opens fields disk lies begun less two sized still low says older blank =
+starts s restart opens fields disk lies begun less two sized still low says below blank early =
     let some = lies.ring in
     record {
       ring = ring_starts s restart opens disk lies begun less (omega arith) sized (λ k ring. still k ring.inside) low;
       restarts = record {
-        restarts = finds s.place disk restart fields lies sized two (λ k few. still k (omega arith)) says older blank;
+        restarts = finds s.place disk restart fields lies sized two (λ k few. still k (omega arith)) says below blank;
         done = refl;
         place = omega arith;
         said = tt;
+        older = first_older (fields (1 - restart)) early;
+        sent_before = tt;
         names = tt;
       };
     }
+  where
+    first_older : (o : Option Restart) → ((c : Restart) → o ≡ Some c → lap_of s.place.pages c.current < s.lap) → IfSome o (IsOlder (new_area s.place s.lap restart opens))
+    first_older None low = tt
+    first_older (Some c) low = inl (lap_below s c.current lies (low c refl))
+
+append_rises : (s : LogSession) (a : LogAreaOf) (r : Ring) (pages : List (List Entry)) (disk : Disk) (e : Entry) → StandsRing s a r pages disk → FitsEntry e → HasRoom a (entry_size e) → next_lsn a 0x58 ≤ next_lsn (appended e a) 0x58
+append_rises s a r pages disk e h fit room =
+    let some = size_some e in
+    let p = is_placed a (entry_size e) h.area (small_entry e fit) (omega arith) room in
+    next_rises s a h.session h.ring.lies h.area.above h.area.below (appended e a).ring (next_at a (entry_size e) + entry_size e) (next_number a (entry_size e)) (omega (arith, p.above)) (append_before a (entry_size e))
 
 pub appends : (s : LogSession) (a : LogAreaOf) (r : Ring) (q : Restarts) (pages : List (List Entry)) (fields : RestartFields) (disk : Disk) (e : Entry) → Stands s a r q pages fields disk → FitsEntry e → e.lsn ≡ next_lsn a (entry_size e)
     → lap_at a (next_number a (entry_size e)) < 2 ^ sequence_bits a.pages → HasRoom a (entry_size e) → Stands s (appended e a) r q (pages_with e a pages) fields disk
 appends s a r q pages fields disk e h fit is lap room = record {
   ring = ring_appends s a r pages disk e h.ring fit is lap room;
-  restarts = same_restarts s a (appended e a) q fields disk disk refl refl refl refl refl h.restarts.restarts h.restarts;
+  restarts = same_restarts s a (appended e a) q fields disk disk refl refl refl refl refl refl (append_rises s a r pages disk e h.ring fit room) h.restarts.restarts h.restarts;
 }
 
 pub seals : (s : LogSession) (a : LogAreaOf) (r : Ring) (q : Restarts) (pages : List (List Entry)) (fields : RestartFields) (disk : Disk) → Stands s a r q pages fields disk → Stands s (sealed_area a) r q pages fields disk
@@ -63,7 +79,8 @@ seals s a r q pages fields disk h = record {
   restarts = elim (cases_Bool (is_filling a)) [
     | inl filling ↦
         subst (λ (b : LogAreaOf). StandsRestarts s b q fields disk) (sym (ap (λ (b : Bool). cond b (record a { free = 64; sealed = a.sealed + 1 }) a) filling))
-        (same_restarts s a (record a { free = 64; sealed = a.sealed + 1 }) q fields disk disk refl refl refl refl refl h.restarts.restarts h.restarts)
+        (same_restarts s a (record a { free = 64; sealed = a.sealed + 1 }) q fields disk disk refl refl refl refl refl refl
+        (next_rises s a h.ring.session h.ring.ring.lies h.ring.area.above h.ring.area.below a.ring 64 (a.sealed + 1) (omega arith) (inl (omega arith))) h.restarts.restarts h.restarts)
     | inr empty ↦ subst (λ (b : LogAreaOf). StandsRestarts s b q fields disk) (sym (ap (λ (b : Bool). cond b (record a { free = 64; sealed = a.sealed + 1 }) a) empty)) h.restarts
   ];
 }
@@ -83,7 +100,7 @@ stays s a r q pages fields disk now h alike =
     let some = h.ring.ring.lies.ring in
     record {
       ring = ring_stays s a r pages disk now h.ring (part_alike s 0 s.place.pages first_page s.place.pages disk now (omega arith) (omega arith) alike);
-      restarts = same_restarts s a a q fields disk now refl refl refl refl refl
+      restarts = same_restarts s a a q fields disk now refl refl refl refl refl refl (omega arith)
           (restarts_kept s.place q _ fields disk h.restarts.restarts now (part_alike s 0 s.place.pages 0 2 disk now (omega arith) (omega arith) alike)) h.restarts;
     }
 
@@ -114,7 +131,7 @@ writes gives changes moment s a r q pages fields disk word old new known h lt se
       places = after.places;
       stands = record {
         ring = after.stands;
-        restarts = same_restarts s a (written_area a) q fields disk after.now refl refl refl refl refl
+        restarts = same_restarts s a (written_area a) q fields disk after.now refl refl refl refl refl refl (omega arith)
             (restarts_kept s.place q _ fields disk h.restarts.restarts after.now (restarts_apart s a r q pages fields disk after.now word h lt after.between)) h.restarts;
       };
     }
@@ -130,7 +147,7 @@ sends gives changes moment fault s a r q pages fields disk word old new known h 
       places = after.places;
       stands = record {
         ring = after.stands;
-        restarts = same_restarts s a (record a { check = Some word }) q fields disk after.now refl refl refl refl refl
+        restarts = same_restarts s a (record a { check = Some word }) q fields disk after.now refl refl refl refl refl refl (omega arith)
             (restarts_kept s.place q _ fields disk h.restarts.restarts after.now (restarts_apart s a r q pages fields disk after.now word h lt after.between)) h.restarts;
       };
     }

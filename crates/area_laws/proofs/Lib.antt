@@ -6,3 +6,4 @@ pub mod Calling
 pub mod Naming
 pub mod Joined
 pub mod Reading
+pub mod Rising

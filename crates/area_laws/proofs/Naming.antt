@@ -1,8 +1,8 @@
 -- Restart pages stand after each call.
-use Rattle.std.proofs.Common.{◌≡◌, ◌≢◌, ℕ, suc, ◌+◌, ◌-◌, ◌/◌, ◌^◌, ◌<◌, Bool, true, false, cond, List, length, Option, Some, None, Ok, Err, refl, sym, ap, ap₂, ◌∙◌, subst, inl, arith}
+use Rattle.std.proofs.Common.{◌≡◌, ◌≢◌, ℕ, suc, ◌+◌, ◌-◌, ◌/◌, ◌^◌, ◌<◌, Bool, true, false, cond, List, length, Option, Some, None, Ok, Err, refl, sym, ap, ap₂, ◌∙◌, subst, inl, arith, ◌≤◌, inr, ◌⊎◌}
 use Rattle.std.specs.Prelude.{IfSome, is_some, min}
 use Rattle.std.specs.Option.{option_map}
-use Rattle.std.proofs.lemmas.Bool.{eq-eqb, ne_eqb}
+use Rattle.std.proofs.lemmas.Bool.{cases_lt, lt-ltb, eq-eqb, ne_eqb, or_left, or_right, and_from}
 use Rattle.host_base.specs.declared.outside.Failed.{Failed}
 use Rattle.fixup_record.specs.Protecting.{protected_bytes}
 use Rattle.fixup_record.proofs.Protected.{length-protected}
@@ -15,37 +15,58 @@ use Rattle.log_model.specs.declared.entry.Entry.{Entry}
 use Rattle.log_page.specs.declared.restart.Restart.{Restart}
 use Rattle.log_page.specs.Places.{first_page}
 use Rattle.log_page.specs.CheckWords.{IsCheckWord}
-use Rattle.log_page.specs.Restarts.{restart_spelling, FitsRestart}
+use Rattle.log_page.specs.Restarts.{restart_spelling, is_newer, FitsRestart}
 use Rattle.log_page.specs.RestartLaws.{HasRanges}
 use Rattle.log_page.proofs.Spelled.{length-restart_spelling}
 use Rattle.log_reading.specs.Rings.{IsRingPlace}
 use Rattle.store_model.specs.Rings.{PagePlaces, Ring, Restarts, restart_place, synced_places}
 use Rattle.ring_laws.specs.Numbers.{LogSession}
 use Rattle.ring_laws.specs.PageBytes.{page_sector, AreAlike, spelled_restart}
-use Rattle.ring_laws.specs.RestartPages.{RestartFields, HoldsRestarts, with_next, restart_written, restart_sent, restart_synced}
+use Rattle.ring_laws.specs.RestartPages.{RestartFields, HoldsRestarts, with_next, restart_written, restart_sent, restart_synced, IsBelow}
 use Rattle.ring_laws.specs.Laws.{restart_put}
 use Rattle.ring_laws.proofs.LogSectors.{kept_by_page}
 use Rattle.ring_laws.proofs.RestartCalls.{restart_picks, restarts_sync}
 use Rattle.ring_laws.proofs.RestartWrites.{restart_is_sent, restart_not_sent}
-use Rattle.log_area.specs.Areas.{LogAreaOf, IsLogArea, IsSpelled, next_number, next_at, number_of, restart_sector, sent_word, naming_page, page_to_send, named_area, synced_area}
+use Rattle.log_area.specs.Areas.{LogAreaOf, IsLogArea, IsSpelled, next_number, next_at, number_of, restart_sector, sent_word, naming_page, page_to_send, named_area, synced_area, next_lsn}
 use Rattle.log_area.specs.declared.restart.SentRestart.{SentRestart}
 use Rattle.log_area.specs.Calls.{IsCheckOf}
 use Rattle.log_area.proofs.Numbering.{lsn_room, next_inside}
-use Rattle.area_laws.specs.Standing.{StandsRing, StandsRestarts, Stands}
+use Rattle.area_laws.specs.Standing.{StandsRing, StandsRestarts, Stands, IsOlder}
 use Rattle.area_laws.specs.Laws.{IsKnown, SendsRestart, MayName, RestartsStandAfter}
 use Rattle.area_laws.proofs.Calling.{picked_of, torn_known, whole_between, ring_stays}
 
 -- restart pages of a ring whose fields on them are those of before
-pub same_restarts : (s : LogSession) (a b : LogAreaOf) (q : Restarts) (fields : RestartFields) (disk now : Disk) → b.sent ≡ a.sent → b.named ≡ a.named → b.restart ≡ a.restart → b.pages ≡ a.pages → b.lap ≡ a.lap
+pub same_restarts : (s : LogSession) (a b : LogAreaOf) (q : Restarts) (fields : RestartFields) (disk now : Disk) → b.sent ≡ a.sent → b.named ≡ a.named → b.restart ≡ a.restart → b.pages ≡ a.pages → b.lap ≡ a.lap → b.opens ≡ a.opens → next_lsn a 0x58 ≤ next_lsn b 0x58
     → HoldsRestarts s.place q (sent_word a.sent) fields now → StandsRestarts s a q fields disk → StandsRestarts s b q fields now
-same_restarts s a b q fields disk now sent named restart pages lap holds h = record {
+same_restarts s a b q fields disk now sent named restart pages lap opens rises holds h = record {
   restarts = subst (λ (o : Option SentRestart). HoldsRestarts s.place q (sent_word o) fields now) (sym sent) holds;
   done = h.done ∙ ap (λ (o : Option ℕ). is_some o) (sym named);
   place = restart ∙ h.place;
   said = subst (λ (o : Option SentRestart). IfSome o (λ x. fields (suc q.sure) ≡ Some x.page)) (sym sent) h.said;
+  older = still_older (fields (cond q.done (suc q.sure) q.sure)) h.older;
+  sent_before = subst (λ (o : Option SentRestart). IfSome o (λ x. (x.page.current ≤ next_lsn b 0x58) × (x.page.opens ≡ b.opens))) (sym sent) (still_before a.sent h.sent_before);
   names = subst (λ (o : Option ℕ). IfSome o (λ n. (x : Restart) × (fields (suc q.sure) ≡ Some x) × (number_of b x.oldest ≡ n))) (sym named) (renamed a.named h.names);
 }
   where
+    older_then : (x : Restart) → IsOlder a x → IsOlder b x
+    older_then x (inl lt) = inl (omega (arith, lt, rises))
+    older_then x (inr (same, count)) = elim (cases_lt (next_lsn a 0x58) (next_lsn b 0x58)) [
+      | inl lt ↦ inl (omega arith)
+      | inr le ↦ inr (omega (arith, rises), counted count)
+    ]
+      where
+        counted : (x.opens < a.opens) ⊎ (a.opens ≡ 2 ^ 32 - 1) → (x.opens < b.opens) ⊎ (b.opens ≡ 2 ^ 32 - 1)
+        counted (inl lt) = inl (omega arith)
+        counted (inr top) = inr (opens ∙ top)
+
+    still_older : (o : Option Restart) → IfSome o (IsOlder a) → IfSome o (IsOlder b)
+    still_older None older = tt
+    still_older (Some x) older = older_then x older
+
+    still_before : (o : Option SentRestart) → IfSome o (λ x. (x.page.current ≤ next_lsn a 0x58) × (x.page.opens ≡ a.opens)) → IfSome o (λ x. (x.page.current ≤ next_lsn b 0x58) × (x.page.opens ≡ b.opens))
+    still_before None before = tt
+    still_before (Some x) before = (omega (arith, before.0, rises), before.1 ∙ sym opens)
+
     same_number : (x : ℕ) → number_of b x ≡ number_of a x
     same_number x = ap₂ (λ (p : ℕ) (l : ℕ). number_of (record a { pages = p; lap = l }) x) pages lap
 
@@ -87,6 +108,22 @@ module _ (s : LogSession) (a : LogAreaOf) (r : Ring) (q : Restarts) (pages : Lis
   put_is : (word : ℕ) → put (restart_sector a) (sectors_of (protected_bytes (restart_spelling next) word)) disk ≡ restart_put s.place q next word disk
   put_is word = ap₂ (λ (f : ℕ) (b : List ℕ). put f (sectors_of b) disk) sector_is (bytes_are word)
 
+  -- the last durable one is below a new one
+  below_new : (o : Option Restart) → fields q.sure ≡ o → IsBelow o (Some (naming_page a oldest clean))
+  below_new None is = tt
+  below_new (Some x) is = by_age (subst (λ (o : Option Restart). IfSome o (IsOlder a)) (ap (λ (b : Bool). fields (cond b (suc q.sure) q.sure)) early ∙ is) h.restarts.older)
+    where
+      by_current : x.current < next_lsn a 0x58 → is_newer x (naming_page a oldest clean) ≡ true
+      by_current lt = or_left _ _ (lt-ltb x.current (next_lsn a 0x58) lt)
+
+      by_age : IsOlder a x → is_newer x (naming_page a oldest clean) ≡ true
+      by_age (inl lt) = by_current lt
+      by_age (inr (same, inl lt)) = or_right _ _ (and_from _ _ (eq-eqb x.current (next_lsn a 0x58) same) (lt-ltb x.opens a.opens lt))
+      by_age (inr (same, inr top)) = elim (may.newer x is) [
+        | inl room ↦ absurd (omega arith)
+        | inr lt ↦ by_current lt
+      ]
+
   -- the restart page as it is begun by this word
   abbrev IsReady : ℕ → Type 0
   IsReady word = (told : RestartFields) × (told (suc q.sure) ≡ Some next) × ((m : ℕ) → m ≢ suc q.sure → told m ≡ fields m) × HoldsRestarts s.place q (Some word) told disk
@@ -121,7 +158,7 @@ module _ (s : LogSession) (a : LogAreaOf) (r : Ring) (q : Restarts) (pages : Lis
             with_next q next fields,
             told_next,
             told_others,
-            restart_picks s.place q fields disk next word (subst (λ (o : Option SentRestart). HoldsRestarts s.place q (sent_word o) fields disk) is h.restarts.restarts) early fits ranges may.newer
+            restart_picks s.place q fields disk next word (subst (λ (o : Option SentRestart). HoldsRestarts s.place q (sent_word o) fields disk) is h.restarts.restarts) early fits ranges (subst (λ (p : Restart). IsBelow (fields q.sure) (Some p)) (sym page) (below_new (fields q.sure) refl))
                 (picked_of s.place gives disk (restart_place (suc q.sure)) word sees picked),
           )
 
@@ -145,6 +182,30 @@ module _ (s : LogSession) (a : LogAreaOf) (r : Ring) (q : Restarts) (pages : Lis
           let page : next ≡ x.page = ap (λ (o : Option SentRestart). page_to_send (record a { sent = o }) oldest clean) is in
           ap (λ (p : Restart). p.oldest) page ∙ subst (λ (o : Option SentRestart). IfSome o (λ y. y.page.oldest ≡ oldest)) is may.again
       by_sent None is = ap (λ (o : Option SentRestart). (page_to_send (record a { sent = o }) oldest clean).oldest) is
+
+  before_next : (next.current ≤ next_lsn a 0x58) × (next.opens ≡ a.opens)
+  before_next = by_sent a.sent refl
+    where
+      by_sent : (o : Option SentRestart) → a.sent ≡ o → (next.current ≤ next_lsn a 0x58) × (next.opens ≡ a.opens)
+      by_sent (Some x) is =
+          let page : next ≡ x.page = ap (λ (o : Option SentRestart). page_to_send (record a { sent = o }) oldest clean) is in
+          subst (λ (p : Restart). (p.current ≤ next_lsn a 0x58) × (p.opens ≡ a.opens)) (sym page) (subst (λ (o : Option SentRestart). IfSome o (λ y. (y.page.current ≤ next_lsn a 0x58) × (y.page.opens ≡ a.opens))) is h.restarts.sent_before)
+      by_sent None is =
+          let page : next ≡ naming_page a oldest clean = ap (λ (o : Option SentRestart). page_to_send (record a { sent = o }) oldest clean) is in
+          subst (λ (p : Restart). (p.current ≤ next_lsn a 0x58) × (p.opens ≡ a.opens)) (sym page) (omega arith, refl)
+
+  -- once it is written it is older than the one after it
+  next_older : IsOlder (named_area oldest a) next
+  next_older =
+      let few = may.few in
+      let facts = before_next in
+      elim (cases_lt next.current (next_lsn a 0x58)) [
+        | inl lt ↦ inl lt
+        | inr le ↦ elim (cases_lt a.opens (2 ^ 32 - 1)) [
+          | inl room ↦ inr (omega (arith, facts.0), inl (omega (arith, facts.1)))
+          | inr top ↦ inr (omega (arith, facts.0), inr (omega arith))
+        ]
+      ]
 
   -- the ring isn't touched
   ring_kept : (word : ℕ) (now : Disk) → IsBetween disk (restart_put s.place q next word disk) now → AreAlike s.place first_page s.place.pages disk now
@@ -228,19 +289,24 @@ module _ (s : LogSession) (a : LogAreaOf) (r : Ring) (q : Restarts) (pages : Lis
       done = refl;
       place = (let here = place_is in let two = k.two in omega arith);
       said = tt;
+      older = subst (λ (o : Option Restart). IfSome o (IsOlder (named_area oldest a))) (sym said) next_older;
+      sent_before = tt;
       names = (next, said, ap (number_of a) oldest_next);
     };
   }
 
-  sent_stands : (word : ℕ) (told : RestartFields) (places : PagePlaces) (now : Disk) → 0 < word → word < 0xFFFF → told (suc q.sure) ≡ Some next → IsBetween disk (restart_put s.place q next word disk) now
+  sent_stands : (word : ℕ) (told : RestartFields) (places : PagePlaces) (now : Disk) → 0 < word → word < 0xFFFF → told (suc q.sure) ≡ Some next → ((m : ℕ) → m ≢ suc q.sure → told m ≡ fields m) → IsBetween disk (restart_put s.place q next word disk) now
       → HoldsRestarts s.place (restart_sent q places) (Some word) told now → Stands s (record a { sent = Some (record { page = next; check = word }) }) r (restart_sent q places) pages told now
-  sent_stands word told places now above below said between holds = record {
+  sent_stands word told places now above below said others between holds = record {
     ring = ring_with a.restart a.opens (Some (record { page = next; check = word })) a.named now (sent_keeps word above below) (ring_stays s a r pages disk now h.ring (ring_kept word now between));
     restarts = record {
       restarts = holds;
       done = h.restarts.done;
       place = h.restarts.place;
       said = said;
+      older = subst (λ (b : Bool). IfSome (told (cond b (suc q.sure) q.sure)) (IsOlder a)) (sym early)
+          (subst (λ (o : Option Restart). IfSome o (IsOlder a)) (sym (others q.sure (λ e. omega (arith, e)))) (subst (λ (b : Bool). IfSome (fields (cond b (suc q.sure) q.sure)) (IsOlder a)) early h.restarts.older));
+      sent_before = before_next;
       names = none_named a.named may.synced;
     };
   }
@@ -285,7 +351,7 @@ restart_fails gives changes moment fault s a r q pages fields disk oldest clean 
       told = begun.0;
       said = begun.1;
       others = begun.2;
-      stands = sent_stands s a r q pages fields disk oldest clean h may word begun.0 after.0 torn.0 sent.chosen.above sent.chosen.below begun.1 between after.1;
+      stands = sent_stands s a r q pages fields disk oldest clean h may word begun.0 after.0 torn.0 sent.chosen.above sent.chosen.below begun.1 begun.2 between after.1;
     }
 
 -- ---- a sync
@@ -316,6 +382,8 @@ restarts_synced s a q fields disk h = by_done q.done refl
           done = refl;
           place = h.place ∙ ap (λ (b : Bool). restart_place (cond b (suc (suc q.sure)) (suc q.sure))) is;
           said = none_sent is a.sent refl;
+          older = subst (λ (b : Bool). IfSome (fields (cond b (suc q.sure) q.sure)) (IsOlder a)) is h.older;
+          sent_before = h.sent_before;
           names = tt;
         })
     by_done false is =
@@ -325,5 +393,7 @@ restarts_synced s a q fields disk h = by_done q.done refl
           done = is;
           place = h.place;
           said = h.said;
+          older = h.older;
+          sent_before = h.sent_before;
           names = tt;
         })

@@ -1,12 +1,12 @@
 -- What a crash leaves of a ring, and which LSNs may be named.
-use Rattle.std.proofs.Common.{◌≡◌, ℕ, ◌+◌, ◌-◌, ◌*◌, ◌/◌, ◌%◌, ◌≤◌, true, List, Option, sym, ap, ap₂, ◌∙◌, subst, arith}
+use Rattle.std.proofs.Common.{◌≡◌, ℕ, ◌+◌, ◌-◌, ◌*◌, ◌/◌, ◌%◌, ◌≤◌, List, sym, ap, ap₂, ◌∙◌, arith}
 use Rattle.std.proofs.lemmas.Nat.{div-add-mod'}
 use Rattle.disk_model.specs.Sectors.{sector_of}
 use Rattle.sector_device.specs.Disks.{Disk, MayLeave}
 use Rattle.log_model.specs.declared.entry.Entry.{Entry}
-use Rattle.log_page.specs.Places.{page_bytes, first_page, lap_of, page_of, is_in_ring}
+use Rattle.log_page.specs.Places.{lap_of, page_of, is_in_ring}
 use Rattle.store_model.specs.Rings.{Ring, Restarts}
-use Rattle.ring_laws.specs.Numbers.{LogSession, place_of_page, lap_of_page, lsn_of_page}
+use Rattle.ring_laws.specs.Numbers.{LogSession, lsn_of_page}
 use Rattle.ring_laws.specs.Laws.{ReadsFront}
 use Rattle.ring_laws.specs.RestartPages.{RestartFields, ChoosesRestart}
 use Rattle.ring_laws.proofs.Numbering.{says_lap, says_page, says_ring}

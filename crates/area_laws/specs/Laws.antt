@@ -52,7 +52,7 @@ abbrev pub SendsRestart : {D : Type 0} → (D → Option (List (List ℕ))) → 
 SendsRestart gives changes moment a oldest clean word result old new =
     IsSent gives changes moment (sent_word a.sent) (restart_sector a) (protected_bytes (restart_spelling (page_to_send a oldest clean))) word result old new
 
--- A restart page may be sent that names this place, and is newer than the last durable one.
+-- A restart page may be sent that names this place: where the open count stays at its type's end, an entry was appended since the last one.
 pub record MayName (a : LogAreaOf) (q : Restarts) (fields : RestartFields) (oldest : ℕ) (clean : Bool) : Type 0 where
   pub synced : a.named ≡ None
   pub place : IsOldest a oldest
@@ -60,7 +60,7 @@ pub record MayName (a : LogAreaOf) (q : Restarts) (fields : RestartFields) (olde
   pub again : IfSome a.sent (λ x. x.page.oldest ≡ oldest)
   pub small : oldest < 2 ^ 64
   pub few : a.opens < 2 ^ 32
-  pub newer : IsBelow (fields q.sure) (Some (page_to_send a oldest clean))
+  pub newer : (x : Restart) → fields q.sure ≡ Some x → (a.opens < 2 ^ 32 - 1) ⊎ (x.current < next_lsn a 0x58)
 
 -- A page that is sent, or a restart page, in a write that answers Ok or fails, leaves a ring that follows.
 pub record CallsAreFollowed {D : Type 0} (gives : D → Option (List (List ℕ))) (changes : D → Changes) (moment : D → ℕ) : Type 0 where
@@ -84,7 +84,7 @@ pub record RingIsFollowed : Type 0 where
   pub start : (s : LogSession) (restart opens : ℕ) (fields : RestartFields) (disk : Disk) → IsRingPlace s.place → 1 ≤ s.lap → s.lap < 2 ^ sequence_bits s.place.pages → restart < 2 → IsSized disk
       → ((k : ℕ) → k < s.place.pages → IsStill s.place disk k) → ((k lsn : ℕ) → IsInRing s.place k → said_lsn (raw_page s.place (seen disk) k) ≡ Some lsn → lap_of s.place.pages lsn < s.lap)
       → said_restart (raw_page s.place (seen disk) (1 - restart)) ≡ fields (1 - restart) → IsBelow (said_restart (raw_page s.place (seen disk) restart)) (fields (1 - restart))
-      → (fields (1 - restart) ≡ None → is_blank (raw_page s.place (seen disk) (1 - restart)) ≡ true)
+      → (fields (1 - restart) ≡ None → is_blank (raw_page s.place (seen disk) (1 - restart)) ≡ true) → ((c : Restart) → fields (1 - restart) ≡ Some c → lap_of s.place.pages c.current < s.lap)
       → Stands s (new_area s.place s.lap restart opens) (first_ring s) (found_restarts restart) [] fields disk
   -- an entry is appended where there is room
   pub append : (s : LogSession) (a : LogAreaOf) (r : Ring) (q : Restarts) (pages : List (List Entry)) (fields : RestartFields) (disk : Disk) (e : Entry) → Stands s a r q pages fields disk → FitsEntry e

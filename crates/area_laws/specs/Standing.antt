@@ -1,5 +1,5 @@
 -- The ring of a log as its fields and a disk hold it.
-use Rattle.std.specs.Prelude.{◌≡◌, ℕ, suc, ◌+◌, ◌-◌, ◌==◌, ◌<◌, ◌≤◌, true, if◌then◌else◌, List, [], ◌∷◌, ◌++◌, length, drop, get_or, set, slice_index, Some, is_some, IfSome, unwrap_or}
+use Rattle.std.specs.Prelude.{◌≡◌, ◌⊎◌, ℕ, suc, ◌+◌, ◌-◌, ◌^◌, ◌==◌, ◌<◌, ◌≤◌, true, if◌then◌else◌, List, [], ◌∷◌, ◌++◌, length, drop, get_or, set, slice_index, Some, is_some, IfSome, unwrap_or}
 use Rattle.disk_model.specs.Bytes.{zeros}
 use Rattle.sector_device.specs.Disks.{Disk}
 use Rattle.log_model.specs.declared.entry.Entry.{Entry}
@@ -12,7 +12,7 @@ use Rattle.ring_laws.specs.Numbers.{LogSession, place_of_page, lap_of_page, lsn_
 use Rattle.ring_laws.specs.PageBytes.{page_sector}
 use Rattle.ring_laws.specs.RingPages.{HoldsRing}
 use Rattle.ring_laws.specs.RestartPages.{RestartFields, HoldsRestarts}
-use Rattle.log_area.specs.Areas.{RingPageOf, LogAreaOf, IsLogArea, is_filling, used_pages, held_page, next_at, number_of, sent_word}
+use Rattle.log_area.specs.Areas.{RingPageOf, LogAreaOf, IsLogArea, is_filling, used_pages, held_page, next_at, next_lsn, number_of, sent_word}
 
 -- the ring in memory is that of this session
 pub record IsSessionOf (s : LogSession) (a : LogAreaOf) : Type 0 where
@@ -60,12 +60,19 @@ pages_with e a pages =
 abbrev pub freed_to : LogAreaOf → ℕ
 freed_to a = unwrap_or a.named a.oldest
 
+-- A restart page that says this is older than the one that would go next: by its current LSN, or else by its open count, but where that stays at its type's end.
+abbrev pub IsOlder : LogAreaOf → Restart → Type 0
+IsOlder a x = (x.current < next_lsn a 0x58) ⊎ ((x.current ≡ next_lsn a 0x58) × ((x.opens < a.opens) ⊎ (a.opens ≡ 2 ^ 32 - 1)))
+
 -- The restart pages of a ring: the last one that is durable, and the next one, which goes to the other place.
 pub record StandsRestarts (s : LogSession) (a : LogAreaOf) (q : Restarts) (fields : RestartFields) (disk : Disk) : Type 0 where
   pub restarts : HoldsRestarts s.place q (sent_word a.sent) fields disk
   pub done : q.done ≡ is_some a.named
   pub place : a.restart ≡ restart_place (if q.done then suc (suc q.sure) else suc q.sure)
   pub said : IfSome a.sent (λ x. fields (suc q.sure) ≡ Some x.page)
+  -- the last one that was written is older than the next one, and so is one that was sent than those after it
+  pub older : IfSome (fields (if q.done then suc q.sure else q.sure)) (IsOlder a)
+  pub sent_before : IfSome a.sent (λ x. (x.page.current ≤ next_lsn a 0x58) × (x.page.opens ≡ a.opens))
   -- the one that was written names the page up to which the next sync frees the ring
   pub names : IfSome a.named (λ n. (x : Restart) × (fields (suc q.sure) ≡ Some x) × (number_of a x.oldest ≡ n))
 
