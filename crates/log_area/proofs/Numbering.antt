@@ -1,6 +1,6 @@
 -- The numbers of a ring's pages, and their LSNs, fit 64 bits.
 use Rattle.std.proofs.Common.{◌≡◌, ℕ, ◌+◌, ◌-◌, ◌*◌, ◌/◌, ◌%◌, ◌^◌, ◌<◌, ◌≤◌, true, sym, ap, ◌∙◌, ap₂, inl, inr, arith, length}
-use Rattle.std.proofs.Math.Nat.{mod-lt, lt-mul-div-succ, div-lt_iff_lt-mul, mul-le-mul_left, mul-le-mul_right, mod-add-mod, mod-eq_of_lt}
+use Rattle.std.proofs.Math.Nat.{mod-lt, lt-mul-div-succ, div-lt_iff_lt-mul, mul-le-mul_left, mul-le-mul_right, mod-add-mod, mod-eq_of_lt, div-mul-le_self}
 use Rattle.std.proofs.Math.Pow.{pow_mono}
 use Rattle.std.proofs.lemmas.Nat.{pow-add}
 use Rattle.std.specs.Prelude.{nat_lt, ◌↔◌}
@@ -153,12 +153,22 @@ entry_small a e at bytes k lap place bytes_are at_is inside =
     let few = lsn_room a (next_number a (entry_size e)) (next_at a (entry_size e)) k.some k.few lap (omega arith) in
     omega arith
 
-pub number_fits : (a : LogAreaOf) (lsn turns pages size : ℕ) → IsLogArea a → IsOldest a lsn → turns ≡ lap_of a.pages lsn - a.lap → pages ≡ page_of a.pages lsn - first_page → size ≡ ring_size a
-    → turns * size + pages < 2 ^ 56
-number_fits a lsn turns pages size k old turns_are pages_are size_is =
-    let few = few_pages a k in
-    let same : turns * size ≡ (lap_of a.pages lsn - a.lap) * ring_size a = ap₂ (λ (t : ℕ) (z : ℕ). t * z) turns_are size_is in
-    omega (arith, old.upto, k.written_pages, k.sealed_pages)
+pub number_fits : (a : LogAreaOf) (lsn turns pages size : ℕ) → IsLogArea a → lsn < 2 ^ 64 → turns ≡ lap_of a.pages lsn - a.lap → pages ≡ page_of a.pages lsn - first_page → size ≡ ring_size a
+    → turns * size + pages < 2 ^ 60
+number_fits a lsn turns pages size k small turns_are pages_are size_is =
+    let w = 2 ^ place_bits a.pages in
+    let q = lap_of a.pages lsn in
+    let some = k.some in
+    let few = k.few in
+    let room : 512 * a.pages < w = log_fits a.pages (omega arith) (omega arith) in
+    let most : w ≤ 2 ^ 61 = pow_mono (few_bits a.pages) in
+    let back : q * w ≤ lsn = div-mul-le_self lsn w in
+    let rest : lsn % w < w = mod-lt lsn (omega arith) in
+    let less : turns * size ≤ q * size = mul-le-mul_right size (omega arith) in
+    let wide : q * (512 * size) ≤ q * w = mul-le-mul_left q (omega arith) in
+    let apart : q * (512 * size) ≡ 512 * (q * size) = omega arith in
+    omega arith
+
 
 -- ---- the last lap
 

@@ -1,8 +1,8 @@
 //! Restart pages, which name the oldest place.
-ghost use Rattle.std.specs.Prelude.{◌≡◌, ◌+◌, ◌<◌, ◌≤◌, ◌^◌, None, OnOk, OnErr, IfSome, length};
+ghost use Rattle.std.specs.Prelude.{◌≡◌, ◌↔◌, true, false, ◌+◌, ◌<◌, ◌≤◌, ◌^◌, None, OnOk, OnErr, IfSome, length};
 ghost use Rattle.host_base.specs.Causes.{FailsByCause};
 ghost use Rattle.fixup_record.specs.Protecting.{protected_bytes};
-ghost use Rattle.log_page.specs.Places.{sequence_bits};
+ghost use Rattle.log_page.specs.Places.{sequence_bits, lap_of, is_in_ring};
 ghost use Rattle.log_page.specs.Restarts.{restart_spelling, FitsRestart};
 ghost use Rattle.log_area.specs.Areas.{IsWord, lap_at, next_number, next_lsn, number_of, IsOldest, restart_sector, sent_word, naming_page, page_to_send, named_area};
 ghost use Rattle.log_area.specs.Calls.{Sends, IsSentOrNot};
@@ -12,7 +12,7 @@ use crate::restart::SentRestart;
 use crate::sending::{choose, send};
 use fixup_record::protect;
 use host_base::Failed;
-use log_page::{Restart, lap_of, offset_of};
+use log_page::{Restart, is_in_ring, lap_of, offset_of};
 use sector_device::Device;
 
 // Writes a restart page as it stands on the disk, protected by this check word.
@@ -29,11 +29,38 @@ fn put_restart(page: &Restart, check: u16, out: &mut [u8])
 impl LogArea {
     // The number of the page in which an LSN of this session lies.
     fn number_of(&self, lsn: u64) -> u64
-        requires { IsOldest self.now lsn }
+        requires lap { self.now.lap ≤ lap_of self.now.pages lsn }
+        requires inside { is_in_ring self.now.pages lsn ≡ true }
         ensures value { result ≡ number_of self.now lsn }
     {
         let lap = lap_of(self.pages, lsn) - self.lap;
         lap * self.size() + (offset_of(self.pages, lsn) / 4096 - 4)
+    }
+
+    /// Whether an LSN may be named the oldest place: it lies in a page from the oldest one up to the
+    /// end of the durable ones.
+    pub fn may_name(&self, lsn: u64) -> bool
+        ensures { (result ≡ true) ↔ IsOldest self.now lsn }
+    {
+        if !is_in_ring(self.pages, lsn) || lap_of(self.pages, lsn) < self.lap {
+            return false;
+        }
+        let number = self.number_of(lsn);
+        self.oldest <= number && number <= self.synced
+    }
+
+    /// The restart page that was sent, perhaps in part, and whose write didn't answer `Ok`.
+    pub fn sent(&self) -> Option<SentRestart>
+        ensures value { result ≡ self.now.sent }
+    {
+        self.sent
+    }
+
+    /// Whether a restart page was written since the last sync that succeeded.
+    pub fn awaits_sync(&self) -> bool
+        ensures { (result ≡ false) ↔ (self.now.named ≡ None) }
+    {
+        self.named.is_some()
     }
 
     // The check word of the restart page that was sent already.
