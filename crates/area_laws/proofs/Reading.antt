@@ -26,7 +26,7 @@ module _ (s : LogSession) (a : LogAreaOf) (r : Ring) (q : Restarts) (pages : Lis
   abbrev lsn : ℕ
   lsn = number_lsn a n 0x40
 
-  is_first : lsn ≡ lsn_of_page s n
+  pub is_first : lsn ≡ lsn_of_page s n
   is_first = session_lsn s a n 0x40 h.ring.session
 
   lap_is : lap_of a.pages lsn ≡ a.lap + n / ring_size a
@@ -39,7 +39,7 @@ module _ (s : LogSession) (a : LogAreaOf) (r : Ring) (q : Restarts) (pages : Lis
       ap₂ page_of h.ring.session.pages is_first ∙ says_page s (has_ring s.place h.ring.ring.lies) (log_small s.place h.ring.ring.lies) n
       ∙ ap (λ (p : ℕ). 4 + n % (p - 4)) (sym h.ring.session.pages)
 
-  number_is : number_of a lsn ≡ n
+  pub number_is : number_of a lsn ≡ n
   number_is =
       ap₂ (λ (l : ℕ) (p : ℕ). (l - a.lap) * ring_size a + (p - 4)) lap_is page_is
       ∙ ap₂ (λ (l : ℕ) (p : ℕ). l * ring_size a + p) (let e : a.lap + n / ring_size a - a.lap ≡ n / ring_size a = omega arith in e) (let e : 4 + n % ring_size a - 4 ≡ n % ring_size a = omega arith in e)

@@ -13,12 +13,12 @@ use Rattle.log_page.specs.LiveLogs.{said_lsn}
 use Rattle.log_page.specs.Restarts.{restart_spelling, is_blank}
 use Rattle.log_reading.specs.Rings.{IsRingPlace}
 use Rattle.store_model.specs.Rings.{PagePlaces, Ring, Restarts, synced_places}
-use Rattle.ring_laws.specs.Numbers.{LogSession, IsInRing}
+use Rattle.ring_laws.specs.Numbers.{LogSession, lsn_of_page, IsInRing}
 use Rattle.ring_laws.specs.PageBytes.{raw_page, IsStill, AreAlike}
 use Rattle.ring_laws.specs.Laws.{ReadsFront}
 use Rattle.ring_laws.specs.RingPages.{first_ring, page_written, page_sent}
 use Rattle.ring_laws.specs.RestartPages.{RestartFields, ChoosesRestart, IsBelow, said_restart, found_restarts, restart_written, restart_sent, restart_synced}
-use Rattle.log_area.specs.Areas.{LogAreaOf, new_area, lap_at, number_lsn, next_number, next_lsn, needs_page, free_pages, appended, sealed_area, written_area, synced_area, named_area, page_sector, held_page, made_page, IsOldest, restart_sector, sent_word, page_to_send}
+use Rattle.log_area.specs.Areas.{LogAreaOf, new_area, lap_at, number_lsn, number_of, next_number, next_lsn, needs_page, free_pages, appended, sealed_area, written_area, synced_area, named_area, page_sector, held_page, made_page, IsOldest, restart_sector, sent_word, page_to_send}
 use Rattle.log_area.specs.Calls.{IsSent}
 use Rattle.area_laws.specs.Standing.{Stands, pages_with, freed_to}
 
@@ -98,6 +98,9 @@ pub record RingIsFollowed : Type 0 where
   -- what is done elsewhere leaves all
   pub elsewhere : (s : LogSession) (a : LogAreaOf) (r : Ring) (q : Restarts) (pages : List (List Entry)) (fields : RestartFields) (disk now : Disk) → Stands s a r q pages fields disk
       → AreAlike s.place 0 s.place.pages disk now → Stands s a r q pages fields now
+  -- the LSN of the front of a page is that of the session's page with this number, and says the number
+  pub numbers : (s : LogSession) (a : LogAreaOf) (r : Ring) (q : Restarts) (pages : List (List Entry)) (fields : RestartFields) (disk : Disk) → Stands s a r q pages fields disk → (n : ℕ)
+      → (number_lsn a n 0x40 ≡ lsn_of_page s n) × (number_of a (number_lsn a n 0x40) ≡ n)
   -- the LSN of the front of a page may be named the oldest place, from the oldest one up to the end of the durable ones
   pub front : (s : LogSession) (a : LogAreaOf) (r : Ring) (q : Restarts) (pages : List (List Entry)) (fields : RestartFields) (disk : Disk) → Stands s a r q pages fields disk → (n : ℕ) → a.oldest ≤ n → n ≤ a.synced
       → IsOldest a (number_lsn a n 0x40)
