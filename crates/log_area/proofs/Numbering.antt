@@ -169,7 +169,6 @@ number_fits a lsn turns pages size k small turns_are pages_are size_is =
     let apart : q * (512 * size) ≡ 512 * (q * size) = omega arith in
     omega arith
 
-
 -- ---- the last lap
 
 -- the bits of laps, as a shift makes them
