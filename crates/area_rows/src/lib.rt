@@ -5,6 +5,8 @@
 #[cfg(test)]
 mod filling;
 #[cfg(test)]
+mod naming;
+#[cfg(test)]
 mod rings;
 #[cfg(test)]
 mod writing;

@@ -8,13 +8,13 @@ use std::alloc::{AllocError, Global};
 use std::test::Fail;
 
 /// The bytes of the device, and the LSN of the first entry of its ring.
-const BYTES: usize = 20_480;
+pub const BYTES: usize = 20_480;
 
 const FIRST: u64 = 6_152;
 
 /// A device of old bytes, whose calls with these numbers fail, and a failed write puts three
 /// sectors.
-fn device(alloc: Global, failing: &[u64]) -> Result<MemoryDevice, AllocError> {
+pub fn device(alloc: Global, failing: &[u64]) -> Result<MemoryDevice, AllocError> {
     let bytes = vec![in alloc; 0xffu8; BYTES]?;
     let mut device = MemoryDevice::new(alloc, bytes, failing.to_vec(alloc)?);
     device.tearing = 3;
@@ -22,7 +22,7 @@ fn device(alloc: Global, failing: &[u64]) -> Result<MemoryDevice, AllocError> {
 }
 
 /// Writes the next page, if there is one and the device has its place; whether it went well.
-fn is_written(area: &mut LogArea, device: &mut MemoryDevice) -> bool {
+pub fn is_written(area: &mut LogArea, device: &mut MemoryDevice) -> bool {
     area.sealed() > 0 && area.sectors() <= device.sectors() && area.write_next(device).is_ok()
 }
 
