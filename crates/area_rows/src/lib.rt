@@ -1,0 +1,12 @@
+//! Rows of inputs and answers of the ring of a log: where entries go and which pages are free, and
+//! what a crash leaves of a page that is written. The crate has tests and no more.
+#![tactic(auto)]
+
+#[cfg(test)]
+mod filling;
+#[cfg(test)]
+mod naming;
+#[cfg(test)]
+mod rings;
+#[cfg(test)]
+mod writing;

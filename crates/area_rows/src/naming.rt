@@ -1,0 +1,105 @@
+//! A ring of one page that goes round through checkpoints, and the restart pages that name its
+//! oldest places.
+use crate::rings::Step::{Commit, Seal, Update};
+use crate::rings::{make, ring};
+use crate::writing::{BYTES, device, is_written};
+use log_area::LogArea;
+use log_page::{PageFault, Restart, chosen};
+use sector_device::{Device, MemoryDevice};
+use std::alloc::{AllocError, Global};
+use std::test::Fail;
+
+/// Writes a restart page that names the place behind the last entry; whether it went well.
+fn is_named(area: &mut LogArea, device: &mut MemoryDevice) -> bool {
+    let oldest = area.begin_checkpoint();
+    if area.awaits_sync() || area.sent().is_some() || !area.may_name(oldest) {
+        return false;
+    }
+    area.has_lap(0x58)
+        && area.sectors() <= device.sectors()
+        && area.write_restart(device, oldest, false).is_ok()
+}
+
+/// Fills, writes and frees the ring's page; whether each call went well.
+fn goes_round(
+    alloc: Global,
+    area: &mut LogArea,
+    device: &mut MemoryDevice,
+) -> Result<bool, AllocError> {
+    if make(alloc, area, &[Update(512), Commit, Seal])?.is_some() {
+        return Ok(false);
+    }
+    let written = is_written(area, device) && area.sync(device).is_ok();
+    Ok(written && is_named(area, device) && area.sync(device).is_ok())
+}
+
+/// What a restart page of an image says.
+fn restart_at(image: &[u8], page: usize) -> Result<Restart, PageFault> {
+    if image.len() != BYTES || 1 < page {
+        return Err(PageFault::NotWhole);
+    }
+    Restart::read(image.split_at(4096 * page).1.split_at(4096).0)
+}
+
+/// The current LSN, the oldest one and the open count of the chosen restart page of an image.
+fn said(image: &[u8]) -> Option<(u64, u64, u32)> {
+    let restart = chosen(restart_at(image, 0), restart_at(image, 1))?;
+    Some((restart.current, restart.oldest, restart.opens))
+}
+
+/// How often the ring goes round, the free pages then, and what the chosen restart page says.
+struct Row(usize, u64, Option<(u64, u64, u32)>);
+
+/// The LSNs of the page's first entries, from the second lap on.
+const ROWS: &[Row] = &[
+    Row(0, 1, None),
+    Row(1, 1, Some((10_248, 10_248, 1))),
+    Row(2, 1, Some((14_344, 14_344, 2))),
+    Row(3, 1, Some((18_440, 18_440, 3))),
+];
+
+#[test]
+fn a_ring_goes_round(rt: HostRuntime) -> Result<(), Fail> {
+    let alloc = rt.alloc();
+    for Row(rounds, room, wanted) in ROWS {
+        let mut device = device(alloc, &[])?;
+        let Some(mut area) = ring(alloc, 5, 1)? else {
+            panic!(rt; "five pages are no ring");
+        };
+        for round in 0..*rounds {
+            assert!(rt; goes_round(alloc, &mut area, &mut device)?, "{round}");
+        }
+        let image = device.left_by(alloc, device.done.len(), &[])?;
+        assert_eq!(rt; (area.room(), said(&image)), (*room, *wanted), "{rounds}");
+    }
+    Ok(())
+}
+
+#[test]
+fn a_torn_restart_page_is_passed_over(rt: HostRuntime) -> Result<(), Fail> {
+    let alloc = rt.alloc();
+    let mut device = device(alloc, &[])?;
+    let Some(mut area) = ring(alloc, 5, 1)? else {
+        panic!(rt; "five pages are no ring");
+    };
+    let round = goes_round(alloc, &mut area, &mut device)?;
+    make(alloc, &mut area, &[Commit, Seal])?;
+    let written = is_written(&mut area, &mut device) && area.sync(&mut device).is_ok();
+    assert!(rt; round && written && is_named(&mut area, &mut device));
+    let mut counts: [usize; 3] = [0, 0, 0];
+    for choice in 0..256 {
+        let mut take = [false; 8];
+        for sector in 0..8 {
+            take[sector] = (choice >> sector) % 2 == 1;
+        }
+        let image = device.left_by(alloc, device.done.len(), &take)?;
+        let place = match said(&image) {
+            Some((_, 10_248, 1)) => 0,
+            Some((_, 14_344, 2)) => 1,
+            _ => 2,
+        };
+        counts[place] = counts[place].saturating_add(1);
+    }
+    assert_eq!(rt; counts, [255, 1, 0]);
+    Ok(())
+}
