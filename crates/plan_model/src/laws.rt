@@ -1,5 +1,5 @@
 ghost use Rattle.plan_model.specs.Bodies.{BodiesPut};
-ghost use Rattle.plan_model.specs.Drafts.{DraftsGoOn};
+ghost use Rattle.plan_model.specs.Drafts.{DraftsGoOn, RunsGiven};
 ghost use Rattle.plan_model.specs.Edits.{FilesEdited};
 ghost use Rattle.plan_model.specs.Parts.{AttrsReplaced, PiecesJoined};
 ghost use Rattle.plan_model.specs.Indexed.{IndexWalked};
@@ -58,4 +58,9 @@ pub fn attrs_replaced()
 /// Law: a stream stays where its attributes in one record are joined into one.
 pub fn pieces_joined()
     ensures { PiecesJoined }
+{}
+
+/// Law: runs that a plan takes get the kind of their blocks beside what it gave before.
+pub fn runs_given()
+    ensures { RunsGiven }
 {}
