@@ -34,8 +34,8 @@ use Rattle.stream_laws.specs.Rewrites.{StandsAlone, is_edited}
 use Rattle.stream_laws.specs.Owners.{initialised_in}
 use Rattle.stream_laws.specs.Sharing.{StreamKey, runs_in}
 use Rattle.stream_laws.proofs.Replacing.{clusters_replaced}
-use Rattle.plan_model.specs.Drafts.{GoesOn}
-use Rattle.plan_model.proofs.Quiet.{KeepsExtents, owns_as_before, live_before, record_owned}
+use Rattle.plan_model.specs.Drafts.{KeepsExtents, GoesOn}
+use Rattle.plan_model.proofs.Quiet.{owns_as_before, live_before, record_owned}
 use Rattle.stream_laws.specs.Tables.{table_key}
 use Rattle.record_model.specs.declared.runs.Run.{Run}
 use Rattle.state_model.specs.Files.{is_base_record}

@@ -35,7 +35,7 @@ use Rattle.state_model.specs.Files.{file_at, reference, links_of, links_at, reco
 use Rattle.state_model.specs.Loads.{Slot, Used, table_slot, table_in, has_cut_index_block}
 use Rattle.state_model.specs.Rules.{first_failing, implies, at_file, same_link, keeps_names, keeps_1, is_directory_with, is_directory_at, keeps_2, is_name_in, is_index, keeps_8}
 use Rattle.state_model.specs.Streams.{stream_of}
-use Rattle.state_model.specs.Trees.{all_links, leads, is_system, first_user_record}
+use Rattle.state_model.specs.Trees.{all_links, leads, is_system, first_user_record, is_in_system}
 use Rattle.volume_model.specs.Volumes.{Volume, count_of, file_in, files_by_number, file_stream, bytes_or, is_in_use, record_bits, cluster_bits, table_file, mirror_file, bitmap_file, upcase_file, upper_of}
 use Rattle.volume_model.specs.Indexes.{void_block, index_links, keeps_index}
 use Rattle.volume_model.specs.Nodes.{first_flags, kind_in, data_shown, node_by, some_node, node_at, spare_at, free_clusters}
@@ -60,7 +60,7 @@ use Rattle.tree_laws.specs.Parts.{journal_number}
 use Rattle.tree_laws.specs.Planned.{IsInStream, IsInRecord, WritesWithin}
 use Rattle.tree_laws.specs.Ways.{IsOutside}
 use Rattle.tree_laws.proofs.Agreeing.{no_more_torn, same_upper, kept_sizes, same_journal}
-use Rattle.tree_laws.proofs.Ascending.{of_system_kept, own_children, all_by}
+use Rattle.tree_laws.proofs.Ascending.{of_system_kept, own_children, all_by, in_system_kept}
 use Rattle.tree_laws.proofs.Changing.{all_but, places_ways}
 use Rattle.tree_laws.proofs.Holding.{no_index}
 use Rattle.tree_laws.proofs.Keeping.{rules_of, passes_below}
@@ -578,6 +578,24 @@ module _ (c : Content) (g : Geometry) (clusters : ℕ) (v : Volume) (n dir : ℕ
       ap (λ (x : ℕ). is_system (table_in files) x dir (record_links dir r)) count_now
       ∙ of_system_kept inside (table_in v.files) (table_in files) (count_of v) dir (record_links dir r) (places_ways inside (table_in v.files) (table_in files) places) above
 
+  in_system_now : is_in_system (table_in files) (length files) dir ≡ is_in_system (table_in v.files) (count_of v) dir
+  in_system_now =
+      let stays : inside dir ≡ true = ap not (ne_eqb dir n (λ same. apart (sym same))) in
+      ap (λ (x : ℕ). is_in_system (table_in files) x dir) count_now ∙ in_system_kept inside (table_in v.files) (table_in files) (count_of v) dir (places_ways inside (table_in v.files) (table_in files) places) stays
+
+  or_nothing : (t : Bool) → (t || false) ≡ t
+  or_nothing true = refl
+  or_nothing false = refl
+
+  made_system : is_system (files_by_number w) (count_of w) n (record_links n f) ≡ is_in_system (files_by_number v) (count_of v) dir
+  unfolding is_system
+  made_system =
+      ap (λ (t : Bool). t || list_any (λ (l : Link). is_in_system (table_in files) (length files) l.parent.number) (record_links n f)) (le-ltb n first_user_record k.user)
+      ∙ ap (list_any (λ (l : Link). is_in_system (table_in files) (length files) l.parent.number)) k.name
+      ∙ or_nothing (is_in_system (table_in files) (length files) link.parent.number)
+      ∙ ap (is_in_system (table_in files) (length files)) parent_number
+      ∙ in_system_now
+
   kind_dir : kind_in v dir r ≡ Directory
   unfolding kind_in
   kind_dir = rw (k.directory) refl
@@ -617,6 +635,7 @@ module _ (c : Content) (g : Geometry) (clusters : ℕ) (v : Volume) (n dir : ℕ
   unfolding tree_of tree_with volume_journal free_clusters
   has_made = record {
     made = tree_nodes d w n ∙ made_node;
+    system = made_system;
     directory = tree_nodes d w dir ∙ dir_node ∙ sym (ap (option_map (with_info (info_of s))) (tree_nodes c v dir));
     others = λ m other more. leads_to_made.nodes m (others_not m other more);
     links = links_now;

@@ -84,16 +84,16 @@ module _ (may : Attr → Bool) (only : OnlySmall may) (r s : Record) (k : Rewrit
   pub small_1 : (n : ℕ) → keeps_names n s (record_links n s) ≡ keeps_names n r (record_links n r)
   small_1 n = ap (keeps_names n s) (small_names n) ∙ same_names may n r s (record_links n r) k
 
-streams_test : Content → ℕ → ℕ → Bool → Bool → Option Stream → Option Stream → Option Stream → Option Stream → Bool
+abbrev pub streams_test : Content → ℕ → ℕ → Bool → Bool → Option Stream → Option Stream → Option Stream → Option Stream → Bool
 streams_test c per n each directory records bits blocks used =
     each
     && (implies (is_whole_file n) (not (has_hole records)) && implies (eqb n table_file) (not (has_hole bits)) && implies directory (not (has_hole blocks) && not (has_hole used)))
     && implies (eqb n table_file) (is_initialised records)
     && (implies ((eqb n table_file) || (eqb n mirror_file)) (not (stream_has_torn c per FileRec 1024 records)) && implies directory (not (stream_has_torn c per Index 4096 blocks)))
 
-by_test : (c : Content) (v : Volume) (n : ℕ) (r : Record)
+pub by_test : (c : Content) (v : Volume) (n : ℕ) (r : Record)
     → keeps_streams c v n r ≡ streams_test c v.per n (list_all (keeps_stream v.per v.clusters r.attrs) r.attrs) (is_directory_record r) (stream_of data_type [] r.attrs) (stream_of bitmap_type [] r.attrs) (stream_of index_allocation names_index r.attrs) (stream_of bitmap_type names_index r.attrs)
-unfolding keeps_streams keeps_whole keeps_untorn streams_test
+unfolding keeps_streams keeps_whole keeps_untorn
 by_test c v n r = refl
 
 pub small_4 : (may : Attr → Bool) (only : OnlySmall may) (r s : Record) (k : RewritesValues may r s) (d : Content) (v w : Volume) (n : ℕ) → w.per ≡ v.per → w.clusters ≡ v.clusters → keeps_streams d w n s ≡ keeps_streams d v n r

@@ -1,7 +1,7 @@
 -- Records in which attributes are put in, taken out or replaced.
-use Rattle.std.proofs.Common.{◌≡◌, ℕ, ◌+◌, ◌/◌, ◌%◌, Bool, true, false, ◌&&◌, ◌||◌, cond, eqb, List, [], ◌∷◌, ◌++◌, find, Option, Some, None, refl, sym, ap, ap₂, ◌∙◌, arith}
+use Rattle.std.proofs.Common.{◌≡◌, ℕ, ◌+◌, ◌/◌, ◌%◌, Bool, true, false, ◌&&◌, ◌||◌, cond, eqb, List, [], ◌∷◌, ◌++◌, find, Option, Some, None, refl, sym, ap, ap₂, ◌∙◌, arith, inl, inr}
 use Rattle.std.specs.List.{filter, filter_map, flat_map, cons_option, list_all, list_any, AllByRecursion}
-use Rattle.std.proofs.lemmas.Bool.{and_parts, and_from}
+use Rattle.std.proofs.lemmas.Bool.{and_parts, and_from, or_left}
 use Rattle.std.proofs.lemmas.List.{append-nil}
 use Rattle.std.proofs.lemmas.List.Elements.{filter-append}
 use Rattle.std.proofs.lemmas.List.Concat.{flat_map-append}
@@ -9,18 +9,21 @@ use Rattle.record_model.specs.declared.attribute.OwnForm.{OwnForm}
 use Rattle.record_model.specs.declared.attribute.Attr.{Attr}
 use Rattle.record_model.specs.declared.runs.Run.{Run}
 use Rattle.record_model.specs.Records.{Record}
-use Rattle.record_model.specs.Constants.{file_name, standard_information}
+use Rattle.record_model.specs.Constants.{file_name, standard_information, data_type, bitmap_type, index_allocation, names_index}
 use Rattle.file_tree.specs.declared.link.Link.{Link}
 use Rattle.state_model.specs.declared.stream.Stream.{Stream}
 use Rattle.state_model.specs.declared.stream.Stream.TheVariants.{Placed}
-use Rattle.state_model.specs.Files.{attr_link, reference, record_links, has_type, attr_info, info_of}
+use Rattle.state_model.specs.Files.{attr_link, reference, record_links, has_type, attr_info, info_of, is_directory_record}
 use Rattle.state_model.specs.Rules.{keeps_names}
 use Rattle.state_model.specs.Streams.{form_first, is_attribute_of, sorted_into, attributes_of, attribute_runs, form_stream, joined, stream_of}
 use Rattle.volume_model.specs.Owners.{file_runs, uses}
-use Rattle.volume_model.specs.Sizes.{are_joined, fits_volume, keeps_stream}
+use Rattle.volume_model.specs.Sizes.{are_joined, fits_volume, keeps_stream, keeps_streams}
 use Rattle.stream_laws.proofs.Placing.{uses-append}
 use Rattle.tree_laws.specs.Keeping.{PartReplaced}
-use Rattle.plan_model.specs.Parts.{ReplacesAttrs, NonePass, JoinsPieces}
+use Rattle.plan_model.specs.Parts.{ReplacesAttrs, NonePass, IsOfAnother, SparesBlocks, JoinsPieces}
+use Rattle.plan_model.proofs.OneRecord.{streams_test, by_test}
+use Rattle.disk_model.specs.Content.{Content}
+use Rattle.volume_model.specs.Volumes.{Volume}
 use Rattle.plan_model.proofs.Rewriting.{names_with}
 
 -- ---- lists
@@ -138,20 +141,40 @@ module _ (part new_part : List Attr) (r s : Record) (k : ReplacesAttrs part new_
   split_by P [] ys all = (tt, all)
   split_by P (x ∷ xs) ys all = let rest = split_by P xs ys all.1 in ((all.0, rest.0), rest.1)
 
-  all_still : (per clusters : ℕ) (xs : List Attr) → AllByRecursion (λ a. NonePass (is_attribute_of a.head.kind a.name) part new_part) xs → list_all (keeps_stream per clusters r.attrs) xs ≡ true → list_all (keeps_stream per clusters s.attrs) xs ≡ true
+  one_still : (per clusters : ℕ) (a : Attr) → IsOfAnother part new_part a → keeps_stream per clusters r.attrs a ≡ true → keeps_stream per clusters s.attrs a ≡ true
+  unfolding keeps_stream
+  one_still per clusters a (inl name) kept = or_left (eqb a.head.kind file_name) _ name
+  one_still per clusters a (inr none) kept = still_keeps per clusters a none ∙ kept
+
+  all_still : (per clusters : ℕ) (xs : List Attr) → AllByRecursion (λ a. IsOfAnother part new_part a) xs → list_all (keeps_stream per clusters r.attrs) xs ≡ true → list_all (keeps_stream per clusters s.attrs) xs ≡ true
   all_still per clusters [] none kept = refl
-  all_still per clusters (x ∷ xs) none kept = let parts = and_parts _ _ kept in and_from _ _ (still_keeps per clusters x none.0 ∙ parts.0) (all_still per clusters xs none.1 parts.1)
+  all_still per clusters (x ∷ xs) none kept = let parts = and_parts _ _ kept in and_from _ _ (one_still per clusters x none.0 parts.0) (all_still per clusters xs none.1 parts.1)
 
   pub sizes_replaced : (per clusters : ℕ) → list_all (keeps_stream per clusters r.attrs) r.attrs ≡ true → list_all (keeps_stream per clusters s.attrs) new_part ≡ true
-      → AllByRecursion (λ a. NonePass (is_attribute_of a.head.kind a.name) part new_part) (k.attrs.front ++ k.attrs.behind) → list_all (keeps_stream per clusters s.attrs) s.attrs ≡ true
+      → AllByRecursion (λ a. IsOfAnother part new_part a) (k.attrs.front ++ k.attrs.behind) → list_all (keeps_stream per clusters s.attrs) s.attrs ≡ true
   sizes_replaced per clusters kept come others =
       let old : Attr → Bool = keeps_stream per clusters r.attrs in
       let new : Attr → Bool = keeps_stream per clusters s.attrs in
-      let split = split_by (λ a. NonePass (is_attribute_of a.head.kind a.name) part new_part) k.attrs.front k.attrs.behind others in
+      let split = split_by (λ a. IsOfAnother part new_part a) k.attrs.front k.attrs.behind others in
       let was = split_all old k.attrs.front (part ++ k.attrs.behind) (sym (ap (list_all old) k.attrs.was) ∙ kept) in
       let rest = split_all old part k.attrs.behind was.1 in
       ap (list_all new) k.attrs.is
       ∙ join_all new k.attrs.front (new_part ++ k.attrs.behind) (all_still per clusters k.attrs.front split.0 was.0) (join_all new new_part k.attrs.behind come (all_still per clusters k.attrs.behind split.1 rest.1))
+
+  pub streams_replaced : (c : Content) (v : Volume) (n : ℕ) → SparesBlocks part new_part → keeps_streams c v n r ≡ true → list_all (keeps_stream v.per v.clusters s.attrs) new_part ≡ true → AllByRecursion (λ a. IsOfAnother part new_part a) (k.attrs.front ++ k.attrs.behind)
+      → keeps_streams c v n s ≡ true
+  streams_replaced c v n spares kept come others =
+      let old = and_parts _ _ (sym (by_test c v n r) ∙ kept) in
+      let first = and_parts _ _ old.0 in
+      let second = and_parts _ _ first.0 in
+      let each = sizes_replaced v.per v.clusters second.0 come others in
+      let directory : is_directory_record s ≡ is_directory_record r = ap (λ (f : ℕ). eqb (f / 2 % 2) 1) k.flags in
+      by_test c v n s
+      ∙ ap₂ (λ (t u : Bool). streams_test c v.per n t u (stream_of data_type [] s.attrs) (stream_of bitmap_type [] s.attrs) (stream_of index_allocation names_index s.attrs) (stream_of bitmap_type names_index s.attrs)) (each ∙ sym second.0) directory
+      ∙ ap₂ (λ (o p : Option Stream). streams_test c v.per n (list_all (keeps_stream v.per v.clusters r.attrs) r.attrs) (is_directory_record r) o p (stream_of index_allocation names_index s.attrs) (stream_of bitmap_type names_index s.attrs)) (stream_same data_type [] spares.records) (stream_same bitmap_type [] spares.bits)
+      ∙ ap₂ (λ (o p : Option Stream). streams_test c v.per n (list_all (keeps_stream v.per v.clusters r.attrs) r.attrs) (is_directory_record r) (stream_of data_type [] r.attrs) (stream_of bitmap_type [] r.attrs) o p) (stream_same index_allocation names_index spares.blocks) (stream_same bitmap_type names_index spares.used)
+      ∙ sym (by_test c v n r)
+      ∙ kept
 
 -- ---- pieces that are joined
 

@@ -1,6 +1,6 @@
 -- A plan while it is made: the state at which it begins, the state to which its bodies have led, and the kind that it gave to each
 -- cluster that it ever took.
-use Rattle.std.specs.Prelude.{◌≡◌, ◌⊎◌, ℕ, ◌<◌, Bool, true, false, List, [], ◌∷◌, Option, Some, None}
+use Rattle.std.specs.Prelude.{◌≡◌, ◌⊎◌, ℕ, ◌<◌, Bool, true, false, List, [], ◌∷◌, Option, Some, None, nat_le, if◌then◌else◌}
 use Rattle.std.specs.List.{AllByRecursion}
 use Rattle.disk_model.specs.declared.block.Block.{Block}
 use Rattle.disk_model.specs.declared.block.BlockKind.{BlockKind}
@@ -12,7 +12,9 @@ use Rattle.log_model.specs.Logs.{is_in_grid}
 use Rattle.state_model.specs.declared.geometry.Geometry.{Geometry}
 use Rattle.volume_model.specs.Volumes.{Volume, cluster_bits}
 use Rattle.volume_model.specs.Owners.{volume_runs, uses}
-use Rattle.stream_laws.specs.Owners.{Owns, IsLive}
+use Rattle.stream_laws.specs.Owners.{initialised_in, Owns, IsLive}
+use Rattle.stream_laws.specs.Sharing.{StreamKey, stream_at, runs_in}
+use Rattle.record_model.specs.declared.runs.Run.{Run}
 use Rattle.plan_owners.specs.States.{Stands}
 use Rattle.plan_owners.specs.Kinds.{cluster_of, OwnsAs}
 use Rattle.plan_model.specs.Attributes.{RewritesValues}
@@ -58,12 +60,23 @@ pub record GoesOn (c : Content) (v : Volume) (d : Content) (g : Geometry) (clust
   pub touched : AllByRecursion (λ p. Owns w p.block ⊎ Owns u p.block) more
   pub covers : (b : Block) → IsLive u b → IsLive w b ⊎ IsPut more b
 
+-- the streams of the second volume have the runs and the initialised sizes of those of the first
+pub record KeepsExtents (v w : Volume) : Type 0 where
+  pub per : w.per ≡ v.per
+  pub runs : (s : StreamKey) → runs_in (stream_at w s) ≡ runs_in (stream_at v s)
+  pub sizes : (s : StreamKey) → initialised_in (stream_at w s) ≡ initialised_in (stream_at v s)
+
+-- the clusters of these runs get this kind, and the others keep what they were given
+abbrev pub gives_runs : BlockKind → List Run → (ℕ → Option BlockKind) → ℕ → Option BlockKind
+gives_runs kind runs gave x = if nat_le 1 (uses runs x) then Some kind else gave x
+
 -- nothing is given
 abbrev pub gives_none : ℕ → Option BlockKind
 gives_none x = None
 
 -- A plan begins empty and goes on edit by edit, into one list of bodies. No block that it changes has a rival that the first state
--- owns, and no two of them are rivals. A node's times changed are such an edit.
+-- owns, and no two of them are rivals. A node's times changed are such an edit, and so is
+-- each that keeps all runs, initialised sizes and bits, and puts bodies of owned blocks.
 pub record DraftsGoOn : Type 0 where
   pub begins : (c : Content) (g : Geometry) (clusters : ℕ) (v : Volume) → HasSizes c → Stands c g clusters v → DraftIn c g clusters v [] v gives_none
   pub goes_on : (c : Content) (g : Geometry) (clusters : ℕ) (v w u : Volume) (bodies more : List NewBody) (gave gives : ℕ → Option BlockKind) → HasSizes c → g.per_cluster ≡ 8 → Stands c g clusters v
@@ -72,3 +85,14 @@ pub record DraftsGoOn : Type 0 where
       → AllByRecursion (λ p. ((r : Block) → Owns v r → are_rivals p.block r ≡ false) × AllByRecursion (λ q. are_rivals p.block q.block ≡ false) bodies) bodies
   pub times : (c : Content) (v : Volume) (d : Content) (g : Geometry) (clusters : ℕ) (w : Volume) (n : ℕ) (r s : Record) (p : NewBody) (gave : ℕ → Option BlockKind) → HasSizes d → Stands d g clusters w → IsApart n → PutsRecord w n r s p
       → RewritesValues is_info r s → ((kind : BlockKind) (x : ℕ) → gave x ≡ Some kind → bit (cluster_bits c v) x ≡ false) → GoesOn c v d g clusters w (p ∷ []) (with_record w n s) gave gave
+  pub quiet : (first : Content) (start : Volume) (c : Content) (g : Geometry) (clusters : ℕ) (v : Volume) (bodies : List NewBody) (u : Volume) (gave : ℕ → Option BlockKind) → AreBodies bodies → Stands (content_with c bodies) g clusters u → KeepsExtents v u
+      → ((x : ℕ) → x < clusters → bit (cluster_bits (content_with c bodies) u) x ≡ bit (cluster_bits c v) x) → ((x : ℕ) → uses (volume_runs u.files) x ≡ uses (volume_runs v.files) x) → AllByRecursion (λ p. Owns v p.block) bodies
+      → ((kind : BlockKind) (x : ℕ) → gave x ≡ Some kind → bit (cluster_bits first start) x ≡ false) → GoesOn first start c g clusters v bodies u gave gave
+
+-- Runs that get a kind have it. What was given before stays, where the runs have none of it as another kind; and all that was given
+-- was clear, where the runs were.
+pub record RunsGiven : Type 0 where
+  pub here : (kind : BlockKind) (runs : List Run) (gave : ℕ → Option BlockKind) (x : ℕ) → 0 < uses runs x → gives_runs kind runs gave x ≡ Some kind
+  pub before : (kind : BlockKind) (runs : List Run) (gave : ℕ → Option BlockKind) → ((x : ℕ) (other : BlockKind) → 0 < uses runs x → gave x ≡ Some other → other ≡ kind) → (other : BlockKind) (x : ℕ) → gave x ≡ Some other → gives_runs kind runs gave x ≡ Some other
+  pub clear : (kind : BlockKind) (runs : List Run) (gave : ℕ → Option BlockKind) (bits : List Bool) → ((x : ℕ) → 0 < uses runs x → bit bits x ≡ false) → ((other : BlockKind) (x : ℕ) → gave x ≡ Some other → bit bits x ≡ false)
+      → (other : BlockKind) (x : ℕ) → gives_runs kind runs gave x ≡ Some other → bit bits x ≡ false

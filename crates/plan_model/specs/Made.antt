@@ -17,8 +17,8 @@ use Rattle.state_model.specs.Files.{reference, record_links, is_directory_record
 use Rattle.state_model.specs.Loads.{Used, slot_of}
 use Rattle.state_model.specs.Rules.{keeps_names, is_rising}
 use Rattle.state_model.specs.Streams.{block_at}
-use Rattle.state_model.specs.Trees.{first_user_record}
-use Rattle.volume_model.specs.Volumes.{Volume, count_of, file_in, bytes_or, table_file, cluster_bits, record_bits, upper_of}
+use Rattle.state_model.specs.Trees.{first_user_record, is_in_system, is_system}
+use Rattle.volume_model.specs.Volumes.{Volume, count_of, file_in, bytes_or, table_file, cluster_bits, record_bits, upper_of, files_by_number}
 use Rattle.volume_model.specs.Indexes.{void_block, index_links}
 use Rattle.volume_model.specs.Nodes.{node_by, spare_at}
 use Rattle.volume_model.specs.Owners.{file_runs}
@@ -91,10 +91,12 @@ pub record MakesFile (c : Content) (v : Volume) (n dir : ℕ) (f r s : Record) (
   pub void : body_in bodies void_block ≡ None
   pub each : AllByRecursion (λ p. IsOwnedIn (made_streams dir) v p.block ⊎ IsInRecord (is_edited (made_edits n f dir s)) v (whole_write p)) bodies
 
--- The tree has one node more, one name more and one spare number less; the directory's node has its new standard information, and
+-- The tree has one node more, one name more and one spare number less; the node is the volume's own where its directory stands below
+-- one that is; the directory's node has its new standard information, and
 -- all else stays.
 pub record HasMade (c : Content) (v : Volume) (n dir : ℕ) (f s : Record) (link : Link) (d : Content) (w : Volume) : Type 0 where
   pub made : node_by_number (tree_of d w).nodes n ≡ Some (node_by (bytes_or d w.per) w n f)
+  pub system : is_system (files_by_number w) (count_of w) n (record_links n f) ≡ is_in_system (files_by_number v) (count_of v) dir
   pub directory : node_by_number (tree_of d w).nodes dir ≡ option_map (with_info (info_of s)) (node_by_number (tree_of c v).nodes dir)
   pub others : (m : ℕ) → m ≢ n → m ≢ dir → node_by_number (tree_of d w).nodes m ≡ node_by_number (tree_of c v).nodes m
   pub links : PartReplaced [] (link ∷ []) (tree_of c v).links (tree_of d w).links

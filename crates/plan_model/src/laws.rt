@@ -1,5 +1,5 @@
 ghost use Rattle.plan_model.specs.Bodies.{BodiesPut};
-ghost use Rattle.plan_model.specs.Drafts.{DraftsGoOn};
+ghost use Rattle.plan_model.specs.Drafts.{DraftsGoOn, RunsGiven};
 ghost use Rattle.plan_model.specs.Edits.{FilesEdited};
 ghost use Rattle.plan_model.specs.Parts.{AttrsReplaced, PiecesJoined};
 ghost use Rattle.plan_model.specs.Indexed.{IndexWalked};
@@ -65,4 +65,9 @@ pub fn pieces_joined()
 /// state to a state, with the tree by look-up.
 pub fn table_edited()
     ensures { TableEdited }
+{}
+
+/// Law: runs that a plan takes get the kind of their blocks beside what it gave before.
+pub fn runs_given()
+    ensures { RunsGiven }
 {}

@@ -1,4 +1,4 @@
-use Rattle.plan_model.proofs.Parting.{links_replaced, uses_replaced, types_same, info_same, attributes_same, stream_same, names_same, sizes_replaced}
+use Rattle.plan_model.proofs.Parting.{links_replaced, uses_replaced, types_same, info_same, attributes_same, stream_same, names_same, sizes_replaced, streams_replaced}
 use Rattle.plan_model.proofs.laws.attrs_replaced.Goals as goal
 
 pub returns : goal.returns
@@ -11,4 +11,5 @@ returns c = record {
   stream = λ part new_part r s kind name k none. stream_same part new_part r s k kind name none;
   names = λ part new_part n r s links k none. names_same part new_part r s k n links none;
   sizes = λ part new_part r s per clusters k kept come others. sizes_replaced part new_part r s k per clusters kept come others;
+  streams = λ part new_part c v n r s k spares kept come others. streams_replaced part new_part r s k c v n spares kept come others;
 }
