@@ -13,4 +13,4 @@ loop-command-preserved g c = one_more _ _ _ _ _ _ _ _ c.loop-command.command-ind
 pub take_turn-requires : goal.take_turn-requires
 take_turn-requires g c =
     subst (λ (x : Command). OnlyLooks x.what) (sym c.command-item.is)
-      ((subst (λ (commands : List Command). AllLook commands) (sym c.as_slice-command-items.ensures) c.requires) c.loop-command.command-index c.command-item.result c.loop-command-test.true)
+    ((subst (λ (commands : List Command). AllLook commands) (sym c.as_slice-command-items.ensures) c.requires) c.loop-command.command-index c.command-item.result c.loop-command-test.true)
