@@ -9,3 +9,4 @@ pub mod Making
 pub mod Indexing
 pub mod Parting
 pub mod TableSteps
+pub mod PlannedIndexing

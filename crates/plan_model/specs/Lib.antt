@@ -7,3 +7,4 @@ pub mod Made
 pub mod Indexed
 pub mod Parts
 pub mod Tables
+pub mod PlannedIndexes

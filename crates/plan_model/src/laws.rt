@@ -1,3 +1,4 @@
+ghost use Rattle.plan_model.specs.PlannedIndexes.{IndexesOfPlans};
 ghost use Rattle.plan_model.specs.Bodies.{BodiesPut};
 ghost use Rattle.plan_model.specs.Drafts.{DraftsGoOn, RunsGiven};
 ghost use Rattle.plan_model.specs.Edits.{FilesEdited};
@@ -70,4 +71,10 @@ pub fn table_edited()
 /// Law: runs that a plan takes get the kind of their blocks beside what it gave before.
 pub fn runs_given()
     ensures { RunsGiven }
+{}
+
+/// Law: after a plan of a directory's index the directory lists what the plan says, and a link put
+/// among links that rise stands there as one more.
+pub fn indexes_of_plans()
+    ensures { IndexesOfPlans }
 {}
