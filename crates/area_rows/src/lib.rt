@@ -9,6 +9,8 @@ mod filling;
 #[cfg(test)]
 mod naming;
 #[cfg(test)]
+mod naming_again;
+#[cfg(test)]
 mod rings;
 #[cfg(test)]
 mod writing;
