@@ -11,6 +11,8 @@ mod naming;
 #[cfg(test)]
 mod naming_again;
 #[cfg(test)]
+mod retrying;
+#[cfg(test)]
 mod rings;
 #[cfg(test)]
 mod writing;

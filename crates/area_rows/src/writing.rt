@@ -92,12 +92,12 @@ fn entries_on(alloc: Global, image: &[u8]) -> Result<Option<usize>, AllocError> 
     }
 }
 
-/// How many of the images by the first so many choices of eight sectors hold the page.
-fn holding(alloc: Global, device: &MemoryDevice, choices: usize) -> Result<usize, AllocError> {
+/// How many of the images by the first so many choices of eleven sectors hold the page.
+pub fn holding(alloc: Global, device: &MemoryDevice, choices: usize) -> Result<usize, AllocError> {
     let mut count: usize = 0;
     for choice in 0..choices {
-        let mut take = [false; 8];
-        for sector in 0..8 {
+        let mut take = [false; 11];
+        for sector in 0..11 {
             take[sector] = (choice >> sector) % 2 == 1;
         }
         let image = device.left_by(alloc, device.done.len(), &take)?;
