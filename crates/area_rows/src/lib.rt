@@ -5,6 +5,8 @@
 #[cfg(test)]
 mod checking;
 #[cfg(test)]
+mod choosing;
+#[cfg(test)]
 mod filling;
 #[cfg(test)]
 mod naming;
