@@ -3,9 +3,17 @@
 #![tactic(auto)]
 
 #[cfg(test)]
+mod checking;
+#[cfg(test)]
+mod choosing;
+#[cfg(test)]
 mod filling;
 #[cfg(test)]
 mod naming;
+#[cfg(test)]
+mod naming_again;
+#[cfg(test)]
+mod retrying;
 #[cfg(test)]
 mod rings;
 #[cfg(test)]

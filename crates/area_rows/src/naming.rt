@@ -1,5 +1,7 @@
 //! A ring of one page that goes round through checkpoints, and the restart pages that name its
 //! oldest places.
+ghost use Rattle.std.specs.Prelude.{◌≡◌, IsTrue, IfSome};
+
 use crate::rings::Step::{Commit, Seal, Update};
 use crate::rings::{make, ring};
 use crate::writing::{BYTES, device, is_written};
@@ -9,15 +11,26 @@ use sector_device::{Device, MemoryDevice};
 use std::alloc::{AllocError, Global};
 use std::test::Fail;
 
-/// Writes a restart page that names the place behind the last entry; whether it went well.
-fn is_named(area: &mut LogArea, device: &mut MemoryDevice) -> bool {
+/// Whether the restart page that was sent, if there is one, names this place with this flag.
+fn is_again(area: &LogArea, oldest: u64, clean: bool) -> bool
+    ensures { IsTrue result → IfSome area.now.sent (λ s. (s.page.oldest ≡ oldest) × (s.page.clean ≡ clean)) }
+{
+    match area.sent() {
+        Some(sent) => sent.page.oldest == oldest && sent.page.clean == clean,
+        None => true,
+    }
+}
+
+/// Writes a restart page that names the place behind the last entry, perhaps of a closed log;
+/// whether it went well.
+pub fn is_named(area: &mut LogArea, device: &mut MemoryDevice, clean: bool) -> bool {
     let oldest = area.begin_checkpoint();
-    if area.awaits_sync() || area.sent().is_some() || !area.may_name(oldest) {
+    if area.awaits_sync() || !is_again(area, oldest, clean) || !area.may_name(oldest) {
         return false;
     }
     area.has_lap(0x58)
         && area.sectors() <= device.sectors()
-        && area.write_restart(device, oldest, false).is_ok()
+        && area.write_restart(device, oldest, clean).is_ok()
 }
 
 /// Fills, writes and frees the ring's page; whether each call went well.
@@ -30,11 +43,11 @@ fn goes_round(
         return Ok(false);
     }
     let written = is_written(area, device) && area.sync(device).is_ok();
-    Ok(written && is_named(area, device) && area.sync(device).is_ok())
+    Ok(written && is_named(area, device, false) && area.sync(device).is_ok())
 }
 
 /// What a restart page of an image says.
-fn restart_at(image: &[u8], page: usize) -> Result<Restart, PageFault> {
+pub fn restart_at(image: &[u8], page: usize) -> Result<Restart, PageFault> {
     if image.len() != BYTES || 1 < page {
         return Err(PageFault::NotWhole);
     }
@@ -85,7 +98,7 @@ fn a_torn_restart_page_is_passed_over(rt: HostRuntime) -> Result<(), Fail> {
     let round = goes_round(alloc, &mut area, &mut device)?;
     make(alloc, &mut area, &[Commit, Seal])?;
     let written = is_written(&mut area, &mut device) && area.sync(&mut device).is_ok();
-    assert!(rt; round && written && is_named(&mut area, &mut device));
+    assert!(rt; round && written && is_named(&mut area, &mut device, false));
     let mut counts: [usize; 3] = [0, 0, 0];
     for choice in 0..256 {
         let mut take = [false; 8];

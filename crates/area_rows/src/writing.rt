@@ -26,8 +26,40 @@ pub fn is_written(area: &mut LogArea, device: &mut MemoryDevice) -> bool {
     area.sealed() > 0 && area.sectors() <= device.sectors() && area.write_next(device).is_ok()
 }
 
+/// A page whose sectors end with these words, and 0xff at the other bytes.
+fn page_ending(words: &[u16; 8]) -> [u8; 4096] {
+    let mut page = [0xffu8; 4096];
+    for sector in 0..8 {
+        page[512 * sector + 510] = (words[sector] % 256) as u8;
+        page[512 * sector + 511] = (words[sector] / 256) as u8;
+    }
+    page
+}
+
+/// Puts a page whose sectors end with these words at a place of the device; whether it went well.
+pub fn is_put(device: &mut MemoryDevice, page: u64, words: &[u16; 8]) -> bool {
+    let bytes = page_ending(words);
+    page < 5
+        && device.sectors() >= 40
+        && device.write(8 * page, &bytes).is_ok()
+        && device.sync().is_ok()
+}
+
+/// The words with which the sectors of a page of an image end.
+pub fn words_of(image: &[u8], page: usize) -> [u16; 8] {
+    let mut words = [0u16; 8];
+    if image.len() != BYTES || 4 < page {
+        return words;
+    }
+    for sector in 0..8 {
+        let at = 4096 * page + 512 * sector + 510;
+        words[sector] = u16::from(image[at]) + 256 * u16::from(image[at + 1]);
+    }
+    words
+}
+
 /// How many of so many writes of the next page went well.
-fn written_of(area: &mut LogArea, device: &mut MemoryDevice, tries: usize) -> usize {
+pub fn written_of(area: &mut LogArea, device: &mut MemoryDevice, tries: usize) -> usize {
     let mut count: usize = 0;
     for _ in 0..tries {
         if is_written(area, device) {
@@ -60,12 +92,12 @@ fn entries_on(alloc: Global, image: &[u8]) -> Result<Option<usize>, AllocError> 
     }
 }
 
-/// How many of the images by the first so many choices of eight sectors hold the page.
-fn holding(alloc: Global, device: &MemoryDevice, choices: usize) -> Result<usize, AllocError> {
+/// How many of the images by the first so many choices of eleven sectors hold the page.
+pub fn holding(alloc: Global, device: &MemoryDevice, choices: usize) -> Result<usize, AllocError> {
     let mut count: usize = 0;
     for choice in 0..choices {
-        let mut take = [false; 8];
-        for sector in 0..8 {
+        let mut take = [false; 11];
+        for sector in 0..11 {
             take[sector] = (choice >> sector) % 2 == 1;
         }
         let image = device.left_by(alloc, device.done.len(), &take)?;
