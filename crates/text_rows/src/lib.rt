@@ -12,4 +12,6 @@ mod scripts;
 #[cfg(test)]
 mod steps;
 #[cfg(test)]
+mod steps_of_files;
+#[cfg(test)]
 mod word_lines;
