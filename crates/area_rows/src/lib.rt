@@ -1,5 +1,6 @@
-//! Rows of inputs and answers of the ring of a log: where entries go and which pages are free, and
-//! what a crash leaves of a page that is written. The crate has tests and no more.
+//! Rows of inputs and answers of the ring of a log: where entries go and which pages are free, the
+//! check words of pages, what is sent again after a failure, and what a crash leaves of what is
+//! written. The crate has tests and no more.
 #![tactic(auto)]
 
 #[cfg(test)]

@@ -1,5 +1,5 @@
 //! A restart page that is tried again after calls of the device that failed.
-use crate::naming::{is_named, restart_at};
+use crate::naming::{goes_round, is_named, restart_at, said};
 use crate::rings::Step::{Commit, Seal, Update};
 use crate::rings::{make, ring};
 use crate::writing::{device, is_put, is_written, words_of};
@@ -138,6 +138,61 @@ fn a_crash_leaves_a_restart_page_or_none(rt: HostRuntime) -> Result<(), Fail> {
         let synced = area.sync(&mut device).is_ok();
         let after = (synced, area.room(), naming(alloc, &device, *clean)?);
         assert_eq!(rt; after, (true, 1, 2048), "{failing:?}");
+    }
+    Ok(())
+}
+
+/// Of the images by the first so many choices of eleven sectors, those of which the first restart
+/// page is chosen, those of which the second one is, and all others.
+fn chosen_of(
+    alloc: Global,
+    device: &MemoryDevice,
+    choices: usize,
+) -> Result<[usize; 3], AllocError> {
+    let mut counts: [usize; 3] = [0, 0, 0];
+    for choice in 0..choices {
+        let mut take = [false; 11];
+        for sector in 0..11 {
+            take[sector] = (choice >> sector) % 2 == 1;
+        }
+        let image = device.left_by(alloc, device.done.len(), &take)?;
+        let place = match said(&image) {
+            Some((_, 10_248, 1)) => 0,
+            Some((_, 14_344, 2)) => 1,
+            _ => 2,
+        };
+        counts[place] = counts[place].saturating_add(1);
+    }
+    Ok(counts)
+}
+
+/// The calls that fail, how many tries of the second restart page, how many images, and of these
+/// how many have the first one chosen, the second one, and another or none.
+struct Torn(&'static [u64], usize, usize, [usize; 3]);
+
+const TORN: &[Torn] = &[
+    Torn(&[], 0, 256, [256, 0, 0]),
+    Torn(&[], 1, 256, [255, 1, 0]),
+    Torn(&[10], 1, 256, [256, 0, 0]),
+    Torn(&[11], 1, 256, [256, 0, 0]),
+    Torn(&[11], 2, 2048, [2021, 27, 0]),
+    Torn(&[11, 12], 3, 2048, [2021, 27, 0]),
+];
+
+#[test]
+fn a_torn_restart_page_is_passed_over(rt: HostRuntime) -> Result<(), Fail> {
+    let alloc = rt.alloc();
+    for Torn(failing, tries, choices, counts) in TORN {
+        let mut device = device(alloc, failing)?;
+        let Some(mut area) = ring(alloc, 5, 1)? else {
+            panic!(rt; "five pages are no ring");
+        };
+        let round = goes_round(alloc, &mut area, &mut device)?;
+        make(alloc, &mut area, &[Commit, Seal])?;
+        let written = is_written(&mut area, &mut device) && area.sync(&mut device).is_ok();
+        named_of(&mut area, &mut device, *tries, false);
+        let found = (round, written, chosen_of(alloc, &device, *choices)?);
+        assert_eq!(rt; found, (true, true, *counts), "{failing:?} {tries}");
     }
     Ok(())
 }
