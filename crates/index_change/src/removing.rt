@@ -15,7 +15,6 @@ ghost use Rattle.index_change.specs.Amounts.{keys_of};
 ghost use Rattle.index_change.specs.Changing.{AllWereOld};
 ghost use Rattle.index_change.specs.Faults.{AfterFind, DeepAfterWalk, IsOfView, Planned};
 ghost use Rattle.index_change.specs.Holding.{HoldsNodesOf};
-ghost use Rattle.state_model.specs.Rules.{same_link};
 ghost use Rattle.index_change.specs.Orders.{has_link, link_of, stands};
 ghost use Rattle.index_change.specs.Plans.{clusters_of, root_room, seventeen, IsMade};
 ghost use Rattle.index_change.specs.Removals.{IsEmptied, RemoveGives, TakesLink};
@@ -30,10 +29,10 @@ use crate::naming::Wanted;
 use crate::plan::DirPlan;
 use block_view::{View, ViewFault};
 use file_tree::Link;
-use host_base::is_same_reference;
 use index_plan::{Draft, Numbers, PlanFault, Rooted};
 use index_tree::{DirPlace, TreeFault, entry_link, find, walk};
 use record_model::{Entry, EntryList, last_entry};
+use state_model::is_same_link;
 use std::alloc::{AllocError, Global};
 use upcase_order::Upcase;
 
@@ -206,16 +205,6 @@ impl<'a> Removal<'a> {
         }
         self.take_out(v)
     }
-}
-
-// Whether two links are the same.
-fn is_same_link(l: &Link, m: &Link) -> bool
-    ensures { result ≡ same_link l.now m.now }
-{
-    is_same_reference(l.child, m.child)
-        && is_same_reference(l.parent, m.parent)
-        && l.space == m.space
-        && l.name.units() == m.name.units()
 }
 
 // Whether some link is this one.

@@ -10,16 +10,7 @@ use crate::rising::is_rising;
 use file_record::FileRec;
 use file_tree::{Link, LinkList};
 use host_base::{FileRef, is_same_reference};
-
-// Whether two names agree in file, directory, namespace and units.
-fn is_same_link(a: &Link, b: &Link) -> bool
-    ensures { result ≡ same_link a.now b.now }
-{
-    is_same_reference(a.child, b.child)
-        && is_same_reference(a.parent, b.parent)
-        && a.space == b.space
-        && a.name.units() == b.name.units()
-}
+use state_model::is_same_link;
 
 fn contains_link(links: &[Link], link: &Link) -> bool
     ensures { result ≡ list_any (same_link link.now) links.now }

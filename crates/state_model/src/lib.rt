@@ -7,9 +7,11 @@
 mod broken;
 mod cluster_size;
 mod geometry;
+mod linking;
 mod stream;
 
 pub use broken::Broken;
 pub use cluster_size::ClusterSize;
 pub use geometry::{Geometry, MapRefusal};
+pub use linking::is_same_link;
 pub use stream::{Extents, Stream};
