@@ -26,7 +26,7 @@ use Rattle.volume_format.specs.Files.{in_clusters, mapped, one_run, bad_name, st
 use Rattle.volume_format.specs.Indexes.{root_node}
 use Rattle.format_blocks.specs.Blocks.{block, whole, HasBlocks}
 use Rattle.format_files.specs.Volumes.{extents_at}
-use Rattle.format_laws.specs.Rules.{NewVolumeKeepsSizes}
+use Rattle.format_rules.specs.Rules.{NewVolumeKeepsSizes}
 use Rattle.format_blocks.proofs.Naming.{of_twelve}
 use Rattle.format_blocks.proofs.Fitting.{IsSmallRun}
 use Rattle.format_files.proofs.Streams.{mapped_stream, fixed_run, log_run, bits_run, block_run, bad_run, block_in_run, data_is, record_bitmap_is, root_blocks_are, root_bitmap_is}

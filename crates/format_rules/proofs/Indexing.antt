@@ -41,7 +41,7 @@ use Rattle.volume_format.specs.Files.{system_name, sequence, is_directory, name_
 use Rattle.volume_format.specs.Indexes.{in_order, root_entries, root_node}
 use Rattle.format_blocks.specs.Blocks.{block, whole, HasBlocks}
 use Rattle.format_files.specs.Volumes.{extents_at}
-use Rattle.format_laws.specs.Rules.{NewVolumeKeepsIndexes}
+use Rattle.format_rules.specs.Rules.{NewVolumeKeepsIndexes}
 use Rattle.format_blocks.proofs.Naming.{of_twelve, name_read}
 use Rattle.format_blocks.proofs.Recording.{root_fits, extend_fits}
 use Rattle.format_blocks.proofs.Sizing.{node_fits}
@@ -49,8 +49,8 @@ use Rattle.format_files.proofs.Streams.{block_in_run, root_blocks_are}
 use Rattle.format_files.proofs.Loading.{passes}
 use Rattle.format_files.specs.Volumes.{new_link}
 use Rattle.format_files.proofs.Linking.{vol, files, count_is, none_failing, of_each, links_here, links_reserved}
-use Rattle.format_laws.proofs.Listing.{no_journal}
-use Rattle.format_laws.proofs.Ordering.{upper_is, Before, in_order_here}
+use Rattle.format_rules.proofs.Listing.{no_journal}
+use Rattle.format_rules.proofs.Ordering.{upper_is, Before, in_order_here}
 
 abbrev Low : List ℕ → Type 0
 Low ns = AllByRecursion (λ n. n < 12) ns
@@ -60,15 +60,15 @@ low_in_order = (omega arith, (omega arith, (omega arith, (omega arith, (omega ar
 
 -- ---- the order of the links
 
-before_gives : (o : Ordering) → is_lt o ≡ true → not (is_gt o) ≡ true
+pub before_gives : (o : Ordering) → is_lt o ≡ true → not (is_gt o) ≡ true
 before_gives Less is = refl
 before_gives Equal is = absurd cc
 before_gives Greater is = absurd cc
 
-may_precede : (n m : ℕ) → Before n m → precedes standard_table (new_link n) (new_link m) ≡ true
+pub may_precede : (n m : ℕ) → Before n m → precedes standard_table (new_link n) (new_link m) ≡ true
 may_precede n m is = before_gives (name_order standard_table (system_name n) (system_name m)) is
 
-both : {a b : Bool} → a ≡ true → b ≡ true → (a && b) ≡ true
+pub both : {a b : Bool} → a ≡ true → b ≡ true → (a && b) ≡ true
 both {a} {b} p q = and_from a b p q
 
 links_rise : rises standard_table (map new_link in_order) ≡ true
@@ -86,14 +86,14 @@ names_rise =
 -- ---- the tree of the root's index
 
 module _ (v : Layout) (layout : IsLayout v) (time : ℕ) (small : time < 2 ^ 64) where
-  abbrev key : ℕ → Key
+  abbrev pub key : ℕ → Key
   key n = record { child = new_reference n; value = name_value v time n }
 
   abbrev tree_of : List ℕ → Tree
   tree_of [] = Leaf
   tree_of (n ∷ ns) = Entry (key n) (tree_of ns)
 
-  link_of : (n : ℕ) → n < 12 → key_link (key n) ≡ Some (new_link n)
+  pub link_of : (n : ℕ) → n < 12 → key_link (key n) ≡ Some (new_link n)
   unfolding key_link
   link_of n lt = ap (named (new_reference n)) (name_read v layout time n small lt)
 
@@ -187,7 +187,7 @@ module _ (v : Layout) (layout : IsLayout v) (time : ℕ) (small : time < 2 ^ 64)
   abbrev place_of : List Block → Place
   place_of blocks = record { blocks = blocks; step = 1 }
 
-  one_block : blocks_of 8 (extents_at (block_first v) 1 4096) ≡ block (8 * block_first v) Index ∷ []
+  pub one_block : blocks_of 8 (extents_at (block_first v) 1 4096) ≡ block (8 * block_first v) Index ∷ []
   unfolding blocks_of block_count index_block
   one_block =
       let at : 8 * block_first v + 8 * 0 ≡ 8 * block_first v = omega arith in
@@ -249,7 +249,7 @@ module _ (v : Layout) (layout : IsLayout v) (time : ℕ) (small : time < 2 ^ 64)
       is_index = record { root_is = refl; stands = tt; once = λ x. omega arith; height = omega arith; ordered = refl };
     }
 
-    root_links : index_links c 8 standard_table (system_record v time 5) ≡ Some (map new_link in_order)
+    pub root_links : index_links c 8 standard_table (system_record v time 5) ≡ Some (map new_link in_order)
     unfolding index_links
     root_links =
         ap (λ (at : Place). links_below c at standard_table (root_value (system_record v time 5))) root_place_is

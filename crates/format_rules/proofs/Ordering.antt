@@ -75,13 +75,13 @@ module _ (v : Layout) (layout : IsLayout v) (seed time : ℕ) (c : Content) (has
 
 -- ---- the order of names
 
-plain_order : List ℕ → List ℕ → Ordering
+pub plain_order : List ℕ → List ℕ → Ordering
 plain_order a b = ordering_then (slice_cmp nat_cmp (map standard_upper a) (map standard_upper b)) (slice_cmp nat_cmp a b)
 
-abbrev are_small : List ℕ → Bool
+abbrev pub are_small : List ℕ → Bool
 are_small units = list_all (λ unit. nat_lt unit 65536) units
 
-upper_name : (units : List ℕ) → are_small units ≡ true → upper_units standard_table units ≡ map standard_upper units
+pub upper_name : (units : List ℕ) → are_small units ≡ true → upper_units standard_table units ≡ map standard_upper units
 unfolding upper_units
 upper_name [] small = refl
 upper_name (u ∷ units) small =
@@ -89,7 +89,7 @@ upper_name (u ∷ units) small =
     ap (λ (x : ℕ). x ∷ map (slice_index standard_table) units) (table_gives u (ltb-true u 65536 parts.0))
     ∙ ap (λ (l : List ℕ). standard_upper u ∷ l) (upper_name units parts.1)
 
-names_small : (n : ℕ) → n < 12 → are_small (system_name n) ≡ true
+pub names_small : (n : ℕ) → n < 12 → are_small (system_name n) ≡ true
 unfolding system_name
 names_small n lt = of_twelve (λ k. are_small (system_name k) ≡ true) refl refl refl refl refl refl refl refl refl refl refl refl n lt
 

@@ -18,16 +18,16 @@ use Rattle.volume_state.specs.Trees.{Holds, IsState, volume_journal, tree_with, 
 use Rattle.volume_format.specs.declared.layout.Layout.{Layout}
 use Rattle.volume_format.specs.Layouts.{IsLayout}
 use Rattle.format_blocks.specs.Blocks.{HasBlocks}
-use Rattle.format_laws.specs.Trees.{new_tree, LoadedVolumeStands}
+use Rattle.format_rules.specs.Trees.{new_tree, LoadedVolumeStands}
 use Rattle.format_files.specs.Volumes.{new_geometry}
 use Rattle.format_files.proofs.Tabling.{volume_loaded}
 use Rattle.format_files.proofs.Linking.{vol, count_is, keeps_names_law}
 use Rattle.format_files.proofs.Bits.{free_are}
 use Rattle.format_files.proofs.Owning.{keeps_bits_law}
-use Rattle.format_laws.proofs.Keeping.{keeps_sizes_law}
-use Rattle.format_laws.proofs.Listing.{all_links_are, no_journal}
-use Rattle.format_laws.proofs.Indexing.{keeps_indexes_law}
-use Rattle.format_laws.proofs.Nodes.{nodes_are, spares_are}
+use Rattle.format_rules.proofs.Keeping.{keeps_sizes_law}
+use Rattle.format_rules.proofs.Listing.{all_links_are, no_journal}
+use Rattle.format_rules.proofs.Indexing.{keeps_indexes_law}
+use Rattle.format_rules.proofs.Nodes.{nodes_are, spares_are}
 
 unbroken : (rule : ℕ) (o : Option ℕ) (rest : Option Broken) → o ≡ None → rest ≡ None → broken_or rule o rest ≡ None
 unbroken rule o rest is then = ap (λ (o : Option ℕ). broken_or rule o rest) is ∙ then

@@ -30,7 +30,7 @@ use Rattle.volume_format.specs.declared.layout.Layout.{Layout}
 use Rattle.volume_format.specs.Layouts.{IsLayout}
 use Rattle.volume_format.specs.Files.{sequence, is_directory, standard_value, standard, named as name_attr, system_attrs, system_data, other_streams, volume_streams, root_streams, extend_streams, system_record, reserved_record, record_of}
 use Rattle.format_blocks.specs.Blocks.{HasBlocks}
-use Rattle.format_laws.specs.Trees.{new_node, new_spare}
+use Rattle.format_rules.specs.Trees.{new_node, new_spare}
 use Rattle.format_blocks.proofs.Naming.{of_twelve}
 use Rattle.format_blocks.proofs.Recording.{record_fits}
 use Rattle.format_files.proofs.Streams.{stream_of_data, data_is}
