@@ -133,12 +133,12 @@ first_fits stamp small =
     (record { lsn = omega arith; seq = sequence_small 24; links = omega arith; flags = omega arith; base = omega arith; base_seq = omega arith; next_id = omega arith; number = omega arith })
     (information_fits (stamped stamp), (titled_fits stamp small, (empty_fits, tt))) refl refl (omega arith)
 
+first_pairs : (stamp : ℕ) → has_all_pairs (first_record stamp) ≡ true
+unfolding has_all_pairs information titled
+first_pairs stamp = refl
+
 pub first_slot : (stamp : ℕ) → stamp < 2 ^ 64 → slot_of (whole (record_spelling (first_record stamp))) ≡ Used (first_record stamp)
 first_slot stamp small = slot_is (first_record stamp) (first_fits stamp small) refl (first_pairs stamp)
-  where
-    first_pairs : (stamp : ℕ) → has_all_pairs (first_record stamp) ≡ true
-    unfolding has_all_pairs information titled
-    first_pairs stamp = refl
 
 -- ---- the record of the root
 
@@ -192,7 +192,7 @@ record IsFit (e : Entry) : Type 0 where
   short : entry_length e ≤ 104
   leaf : e.down ≡ None
 
-AreFit : List Entry → Type 0
+abbrev AreFit : List Entry → Type 0
 AreFit entries = AllByRecursion IsFit entries
 
 last_fits : FitEntries (last_entry None ∷ [])

@@ -14,12 +14,13 @@ use Rattle.record_model.specs.Nodes.{node_spelling}
 use Rattle.record_model.specs.Records.{Record, record_spelling}
 use Rattle.record_model.proofs.RecordSpelling.{length-record_spelling}
 use Rattle.record_model.proofs.NodeSpelling.{length-node_spelling}
+use Rattle.record_model.proofs.UnitBytes.{length-zeros}
 use Rattle.file_tree.specs.declared.link.Link.{Link}
 use Rattle.bit_set.specs.Bits.{bit}
 use Rattle.state_model.specs.declared.stream.Stream.{Stream}
 use Rattle.state_model.specs.Files.{reference, is_base_record, is_directory_record, has_type}
 use Rattle.state_model.specs.Rules.{keeps_names, is_rising, has_partner, is_only_short}
-use Rattle.state_model.specs.Streams.{block_at, is_attribute_of, attributes_of, stream_of}
+use Rattle.state_model.specs.Streams.{block_at, attribute_runs, is_attribute_of, attributes_of, stream_of}
 use Rattle.upcase_order.specs.Tables.{standard_table}
 use Rattle.volume_model.specs.Volumes.{file_stream, count_of, record_bits, upper_of}
 use Rattle.volume_model.specs.Indexes.{void_block, index_links}
@@ -38,10 +39,11 @@ use Rattle.format_files.specs.Volumes.{new_geometry, new_volume, new_link}
 use Rattle.format_files.proofs.Streams.{block_in_run, root_blocks_are}
 use Rattle.format_files.proofs.Linking.{vol, count_is, system_here}
 use Rattle.format_files.proofs.Bits.{record_bitmap_here, record_bit_is}
+use Rattle.format_files.proofs.Tabling.{volume_loaded}
 use Rattle.format_rules.proofs.Ordering.{upper_is}
 use Rattle.format_rules.proofs.Indexing.{root_links}
-use Rattle.format_rules.proofs.Checking.{state_here}
-use Rattle.stream_laws.specs.Owners.{holds_records, stream_kind}
+use Rattle.format_rules.proofs.Checking.{holds_here}
+use Rattle.stream_laws.specs.Owners.{stream_kind}
 use Rattle.stream_laws.specs.Sharing.{StreamKey, stream_at, runs_in}
 use Rattle.stream_laws.specs.Replacing.{FileEdit}
 use Rattle.stream_laws.specs.Rewrites.{is_edited}
@@ -72,19 +74,17 @@ module _ (stamp : ℕ) where
   no_list = refl
 
   no_directory : is_directory_record (first_record stamp) ≡ false
-  unfolding is_directory_record
   no_directory = refl
 
   is_base : is_base_record (first_record stamp) ≡ true
-  unfolding is_base_record
   is_base = refl
 
   names_kept : keeps_names 24 (first_record stamp) (title_link ∷ []) ≡ true
-  unfolding keeps_names is_directory_record has_type has_partner is_only_short information titled sequence
+  unfolding keeps_names has_type has_partner is_only_short information titled sequence
   names_kept = refl
 
   no_clusters : file_runs (Some (first_record stamp)) ≡ []
-  unfolding file_runs information titled
+  unfolding attribute_runs information titled
   no_clusters = refl
 
   sizes_kept : (clusters : ℕ) → list_all (keeps_stream 8 clusters (first_record stamp).attrs) (first_record stamp).attrs ≡ true
@@ -95,8 +95,12 @@ module _ (stamp : ℕ) where
 
 module _ (v : Layout) (time stamp : ℕ) where
   root_directory : is_directory_record (system_record v time 5) ≡ true
-  unfolding is_directory_record system_record is_directory
+  unfolding system_record is_directory
   root_directory = refl
+
+  parent_is : title_link.parent ≡ reference 5 (system_record v time 5)
+  unfolding system_record sequence
+  parent_is = refl
 
   root_no_list : has_type attribute_list (system_record v time 5) ≡ false
   unfolding has_type system_record system_attrs system_data other_streams root_streams standard name_attr
@@ -142,19 +146,27 @@ module _ (v : Layout) (layout : IsLayout v) (seed time stamp : ℕ) (small : tim
   d = content_with c bodies
 
   stands : Stands c new_geometry v.clusters (vol v time)
-  stands =
-      let state = state_here v layout seed time small c has in
-      record { loaded = state.loaded; kept = state.holds.kept; some = omega arith; room = omega (arith, layout.inside) }
+  stands = record {
+    loaded = volume_loaded v seed time c layout small has;
+    kept = (holds_here v layout seed time small c has).kept;
+    some = omega arith;
+    room = omega (arith, layout.inside);
+  }
 
   -- the bodies are whole, and of blocks of their own
   length-bits : length bits_with ≡ 512
   unfolding bits_with
-  length-bits = refl
+  length-bits = omega (arith, length-zeros 508)
 
   are_bodies : AreBodies bodies
   are_bodies = record {
-    whole = (length-record_spelling (first_record stamp) (first_fits stamp stamp_small), (length-record_spelling (changed_root v time stamp) (root_record_fits v layout time stamp small),
-      (length-node_spelling (node_with v time stamp) (node_fits v layout time stamp small stamp_small), (length-bits, tt))));
+    whole = (
+      length-record_spelling (first_record stamp) (first_fits stamp stamp_small),
+      (
+        length-record_spelling (changed_root v time stamp) (root_record_fits v layout time stamp small),
+        (length-node_spelling (node_with v time stamp) (node_fits v layout time stamp small stamp_small), (length-bits, tt)),
+      ),
+    );
     own = ((refl, (and_none _, (refl, tt))), ((and_none _, (refl, tt)), ((and_none _, tt), (tt, tt))));
   }
 
@@ -187,7 +199,7 @@ module _ (v : Layout) (layout : IsLayout v) (seed time stamp : ℕ) (small : tim
   edits = made_edits 24 (first_record stamp) 5 (changed_root v time stamp)
 
   bits_owned : IsOwnedIn (made_streams 5) (vol v time) (block 24 Plain)
-  unfolding stream_kind holds_records
+  unfolding stream_kind
   bits_owned = record {
     stream = bit_key;
     chosen = refl;
@@ -196,7 +208,7 @@ module _ (v : Layout) (layout : IsLayout v) (seed time stamp : ℕ) (small : tim
   }
 
   block_owned : IsOwnedIn (made_streams 5) (vol v time) (block (8 * block_first v) Index)
-  unfolding stream_kind holds_records
+  unfolding stream_kind
   block_owned =
       let at : 8 * block_first v + 8 * 0 ≡ 8 * block_first v = omega arith in
       record {
@@ -241,13 +253,13 @@ module _ (v : Layout) (layout : IsLayout v) (seed time stamp : ℕ) (small : tim
     no_list = no_list stamp;
     no_directory = no_directory stamp;
     name = links_are stamp stamp_small;
-    parent = parent_is;
+    parent = parent_is v time stamp;
     names = names_kept stamp;
     no_clusters = no_clusters stamp;
     sizes = sizes_kept stamp v.clusters;
     file = system_here v time 5 (omega arith);
-    directory = root_directory v time;
-    lists_none = root_no_list v time;
+    directory = root_directory v time stamp;
+    lists_none = root_no_list v time stamp;
     apart = record { table = omega arith; bitmap = omega arith; upcase = omega arith };
     not_extend = omega arith;
     anew = root_reads;
@@ -263,10 +275,6 @@ module _ (v : Layout) (layout : IsLayout v) (seed time stamp : ℕ) (small : tim
     void = void_none;
     each = each;
   }
-    where
-      parent_is : title_link.parent ≡ reference 5 (system_record v time 5)
-      unfolding system_record sequence
-      parent_is = refl
 
   pub takes : TakesFirstFile v time stamp c
   takes = record {

@@ -75,7 +75,7 @@ module _ (v : Layout) (layout : IsLayout v) (seed time : ℕ) (c : Content) (has
 
 -- ---- the order of names
 
-pub plain_order : List ℕ → List ℕ → Ordering
+unfoldable pub plain_order : List ℕ → List ℕ → Ordering
 plain_order a b = ordering_then (slice_cmp nat_cmp (map standard_upper a) (map standard_upper b)) (slice_cmp nat_cmp a b)
 
 abbrev pub are_small : List ℕ → Bool
