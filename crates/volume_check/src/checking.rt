@@ -1,7 +1,7 @@
 //! The check.
 ghost use Rattle.std.specs.Prelude.{◌≡◌, IfSome};
 ghost use Rattle.host_base.specs.Answers.{GivesOrFails};
-ghost use Rattle.volume_map.specs.Maps.{volume_in, IsMap, IsMapOf};
+ghost use Rattle.volume_map.specs.Maps.{volume_in, IsMapOf};
 ghost use Rattle.block_view.specs.Views.{AsksView};
 ghost use Rattle.volume_state.specs.Trees.{checked};
 ghost use Rattle.volume_check.specs.Errors.{check_cause};
@@ -31,7 +31,6 @@ fn check_ordered<V: View>(
     upper: &Upcase,
     body: &mut Body,
 ) -> Result<Tree, CheckFault>
-    requires map { IsMap map.now }
     requires names { AreNames map.now.files.items names.now }
     requires records { climber.now.records.now ≡ map.now.files.items }
     ensures value { IfSome (V.content view.old) (λ c. AreParts c map.now upper.now → GivesOrFails (λ tree. tree) check_cause result (checked c (volume_in map.now))) }
@@ -51,7 +50,6 @@ fn check_named<V: View>(
     names: &Names,
     climber: &Climber,
 ) -> Result<Tree, CheckFault>
-    requires map { IsMap map.now }
     requires names { AreNames map.now.files.items names.now }
     requires records { climber.now.records.now ≡ map.now.files.items }
     ensures value { IfSome (V.content view.old) (λ c. IsMapOf c map.now → GivesOrFails (λ tree. tree) check_cause result (checked c (volume_in map.now))) }
@@ -85,7 +83,6 @@ fn check_named<V: View>(
 /// linear in the records, the names and the runs. Blocks of an index that no node lies in cost
 /// nothing.
 pub fn check<V: View>(alloc: Global, view: &mut V, map: &VolumeMap) -> Result<Tree, CheckFault>
-    requires map { IsMap map.now }
     ensures value { IfSome (V.content view.old) (λ c. IsMapOf c map.now → GivesOrFails (λ tree. tree) check_cause result (checked c (volume_in map.now))) }
     ensures kept { AsksView V.content V.kept V.faults check_cause view.old view.new result }
 {

@@ -5,7 +5,7 @@ ghost use Rattle.disk_model.specs.Content.{Content as the_content};
 ghost use Rattle.state_model.specs.Loads.{table_in};
 ghost use Rattle.state_model.specs.Trees.{all_links};
 ghost use Rattle.volume_model.specs.Nodes.{bare_nodes};
-ghost use Rattle.volume_map.specs.Maps.{volume_in, IsMap, IsMapOf};
+ghost use Rattle.volume_map.specs.Maps.{volume_in, IsMapOf};
 ghost use Rattle.block_view.specs.Views.{AsksView};
 ghost use Rattle.volume_state.specs.Trees.{tree_with};
 ghost use Rattle.volume_check.specs.Errors.{check_cause};
@@ -37,7 +37,6 @@ fn with_journal<V: View>(
     links: LinkList,
     body: &mut Body,
 ) -> Result<Tree, CheckFault>
-    requires map { IsMap map.now }
     requires names { AreNames map.now.files.items names.now }
     requires records { climber.now.records.now ≡ map.now.files.items }
     requires links { links ≡ all_links (table_in map.now.files.items) (length map.now.files.items) }
@@ -62,7 +61,6 @@ pub fn report<V: View>(
     upper: &Upcase,
     body: &mut Body,
 ) -> Result<Tree, CheckFault>
-    requires map { IsMap map.now }
     requires names { AreNames map.now.files.items names.now }
     requires records { climber.now.records.now ≡ map.now.files.items }
     ensures value { IfSome (V.content view.old) (λ c. AreParts c map.now upper.now → GivesOrFails (λ tree. tree) check_cause result (ninth c (volume_in map.now))) }

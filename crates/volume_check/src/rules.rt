@@ -2,7 +2,7 @@
 ghost use Rattle.std.specs.Prelude.{◌≡◌, ◌+◌, ◌*◌, ◌<◌, IfOk, IfSome, IsSome};
 ghost use Rattle.disk_model.specs.Content.{Content as the_content};
 ghost use Rattle.volume_model.specs.Owners.{volume_runs};
-ghost use Rattle.volume_map.specs.Maps.{volume_in, IsMap, IsMapOf};
+ghost use Rattle.volume_map.specs.Maps.{volume_in, IsMapOf};
 ghost use Rattle.block_view.specs.Views.{AsksView};
 ghost use Rattle.volume_check.specs.Errors.{check_cause, NeverBroken};
 ghost use Rattle.volume_check.specs.Parts.{AreParts};
@@ -81,7 +81,6 @@ fn from_5(alloc: Global, map: &VolumeMap, climber: &Climber) -> Result<Option<Br
 
 // Whether the record with this number, by the runs of the file table, is that of the boot sector.
 fn is_in_place(map: &VolumeMap, number: u64) -> bool
-    requires map { IsMap map.now }
     requires number { number < 4 }
     ensures { result ≡ is_at (map.now.mft * map.now.per_cluster + 2 * number) (placed_record (volume_in map.now) number) }
 {
@@ -96,7 +95,6 @@ fn is_in_place(map: &VolumeMap, number: u64) -> bool
 // Whether the file table begins where the boot sector says.
 #[tactic(auto, unfolding(volume_model::specs::Sizes::keeps_place))]
 fn keeps_place(map: &VolumeMap) -> bool
-    requires { IsMap map.now }
     ensures { result ≡ keeps_place (volume_in map.now) }
 {
     is_in_place(map, 0) && is_in_place(map, 1) && is_in_place(map, 2) && is_in_place(map, 3)
@@ -110,7 +108,6 @@ fn first_unfit<V: View>(
     map: &VolumeMap,
     body: &mut Body,
 ) -> Result<Option<u64>, CheckFault>
-    requires map { IsMap map.now }
     ensures value { IfSome (V.content view.old) (λ c. IfOk result (λ number. number ≡ broken_4 c (volume_in map.now))) }
     ensures never { NeverBroken result }
     ensures kept { AsksView V.content V.kept V.faults check_cause view.old view.new result }
@@ -132,7 +129,6 @@ fn from_4<V: View>(
     climber: &Climber,
     body: &mut Body,
 ) -> Result<Option<Broken>, CheckFault>
-    requires map { IsMap map.now }
     requires records { climber.now.records.now ≡ map.now.files.items }
     ensures value { IfSome (V.content view.old) (λ c. IsMapOf c map.now → IfOk result (λ broken. broken ≡ from_4 c (volume_in map.now))) }
     ensures never { NeverBroken result }
@@ -155,7 +151,6 @@ fn from_3<V: View>(
     upper: &Upcase,
     body: &mut Body,
 ) -> Result<Option<Broken>, CheckFault>
-    requires map { IsMap map.now }
     requires names { AreNames map.now.files.items names.now }
     requires records { climber.now.records.now ≡ map.now.files.items }
     ensures value { IfSome (V.content view.old) (λ c. AreParts c map.now upper.now → IfOk result (λ broken. broken ≡ from_3 c (volume_in map.now))) }
@@ -187,7 +182,6 @@ fn from_2<V: View>(
     upper: &Upcase,
     body: &mut Body,
 ) -> Result<Option<Broken>, CheckFault>
-    requires map { IsMap map.now }
     requires names { AreNames map.now.files.items names.now }
     requires records { climber.now.records.now ≡ map.now.files.items }
     ensures value { IfSome (V.content view.old) (λ c. AreParts c map.now upper.now → IfOk result (λ broken. broken ≡ from_2 c (volume_in map.now))) }
@@ -217,7 +211,6 @@ pub fn from_1<V: View>(
     upper: &Upcase,
     body: &mut Body,
 ) -> Result<Option<Broken>, CheckFault>
-    requires map { IsMap map.now }
     requires names { AreNames map.now.files.items names.now }
     requires records { climber.now.records.now ≡ map.now.files.items }
     ensures value { IfSome (V.content view.old) (λ c. AreParts c map.now upper.now → IfOk result (λ broken. broken ≡ from_1 c (volume_in map.now))) }
