@@ -1,5 +1,5 @@
 use Rattle.volume_map.proofs.Mapped.{map_answered, map_parts}
-use Rattle.volume_map.proofs.map.load_volume.Goals as goal
+use Rattle.volume_map.proofs.mapping.load_volume.Goals as goal
 
 pub returns-clause-answer : goal.returns-clause-answer
 returns-clause-answer g c =
