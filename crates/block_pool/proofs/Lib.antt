@@ -1,0 +1,4 @@
+pub mod Ordering
+pub mod Shown
+pub mod Small
+pub mod LookUps
