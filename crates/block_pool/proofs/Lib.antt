@@ -2,3 +2,4 @@ pub mod Ordering
 pub mod Shown
 pub mod Small
 pub mod LookUps
+pub mod Walks

@@ -1,5 +1,5 @@
 -- Values by block: a list of pairs in the order of the blocks.
-use Rattle.std.specs.Prelude.{◌≡◌, Bool, not, List, map, filter, Option, Some, None, if◌then◌else◌}
+use Rattle.std.specs.Prelude.{◌≡◌, Bool, false, not, List, map, filter, Option, Some, None, if◌then◌else◌}
 use Rattle.std.specs.Option.{option_map}
 use Rattle.std.specs.Map.{lookup}
 use Rattle.std.specs.declared.cmp.Ordering.{Ordering}
@@ -28,6 +28,11 @@ without_block b es = filter (λ e. not (same_block b e.0)) es
 -- the values of the blocks that pass
 abbrev pub kept_blocks : {X : Type 0} → (Block → Bool) → List (Block × X) → List (Block × X)
 kept_blocks passes es = filter (λ e. passes e.0) es
+
+-- there is a value, and it passes
+abbrev pub passes : {X : Type 0} → (X → Bool) → Option X → Bool
+passes test (Some x) = test x
+passes test None = false
 
 -- each value is changed
 abbrev pub turned_values : {X : Type 0} → (X → X) → List (Block × X) → List (Block × X)

@@ -8,6 +8,8 @@
 mod laws;
 mod number;
 mod pool;
+mod walk;
 
 pub use laws::looks_up;
 pub use pool::Pool;
+pub use walk::{Tests, Turns};

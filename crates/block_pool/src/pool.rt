@@ -1,9 +1,10 @@
 //! A map from blocks to values.
-ghost use Rattle.std.specs.Prelude.{◌≡◌, ◌∷◌, [], None, IsSome, IfSome, IfNone, OnOk, OnErr};
+ghost use Rattle.std.specs.Prelude.{◌≡◌, ◌∷◌, [], None, IsSome, IfSome, IfNone, OnOk, OnErr, not};
 ghost use Rattle.std.specs.Option.{option_copied};
-ghost use Rattle.block_pool.specs.Pools.{held, with_block, without_block};
+ghost use Rattle.block_pool.specs.Pools.{held, with_block, without_block, kept_blocks, turned_values, passes};
 
 use crate::number::{block_at, block_number};
+use crate::walk::{Tests, Turns, is_met};
 use disk_model::Block;
 use std::alloc::{AllocError, Global};
 use std::collections::BTreeMap;
@@ -98,5 +99,29 @@ impl<T> Pool<T> {
             Some((number, value)) => Some((block_at(number), value)),
             None => None,
         }
+    }
+
+    /// Changes each value. It takes no memory, and time linear in their number.
+    pub fn turn_all<F: Turns<T>>(&mut self, change: &F)
+    where
+        T: Drop,
+        ensures { self.new ≡ turned_values (F.turned change.now) self.old }
+    {
+        self.values.retain(|_, value| {
+            *value = change.turn(value);
+            true
+        });
+    }
+
+    /// Drops the values of the blocks of which another pool has a value that passes. It takes no
+    /// memory, and time near-linear in the number of values.
+    pub fn drop_where<S, P: Tests<S>>(&mut self, other: &Pool<S>, test: &P)
+    where
+        T: Drop,
+        ensures { self.new ≡ kept_blocks (λ b. not (passes (P.told test.now) (held other.now b))) self.old }
+    {
+        let others = &other.values;
+        self.values
+            .retain(|number, _| !is_met(others, test, *number));
     }
 }
