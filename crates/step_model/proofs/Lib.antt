@@ -1,0 +1,3 @@
+pub mod Placed
+pub mod UsedLengths
+pub mod NeverFull
