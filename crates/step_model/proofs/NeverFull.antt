@@ -27,6 +27,7 @@ use Rattle.tree_model.specs.declared.script.Op.{Op}
 use Rattle.step_model.specs.Placing.{Growth, runs_after}
 use Rattle.step_model.specs.Used.{most_used, is_replaced, attrs_with, used_after, new_attr, own_attr, first_or, value_attr, placed_attr, held_if, is_in_record, stays_in}
 use Rattle.step_model.specs.Streams.{Wanted, Comes, stream_in, attr_in, as_value, placed_among, attrs_placed, placed_by, in_clusters, comes, wanted_data, data_comes, data_of}
+use Rattle.step_model.specs.Plans.{new_file_attrs}
 use Rattle.step_model.specs.UsedLaws.{UsedBytes, HasShortValue, IsPlainFile, AreFew, NeverFull}
 use Rattle.step_model.proofs.UsedLengths.{few_pairs, short_value, few_placed, within_eights}
 
@@ -190,5 +191,13 @@ changed : (bits : List Bool) (r : Record) (stream : Attr) (op : Op) (node : Node
 unfolding data_comes comes
 changed bits r stream op node plain fits few = changed_by bits r stream op node plain fits (stays_in (stream_in r (data_of node.number)) (wanted_data op node).real (used_after (value_attr (wanted_data op node).real (own_attr data_type [] r) ∷ []) r)) refl few
 
+made : (name : List ℕ) → length name ≤ 255 → used_of (new_file_attrs name) ≤ most_used
+made name short =
+    let a = value_zeros 72 (new_attr standard_information []) in
+    let b = value_zeros (0x42 + 2 * length name) (new_attr file_name []) in
+    let c = value_zeros 0 (new_attr data_type []) in
+    let fits = within_eights (0x18 + (0x42 + 2 * length name)) 75 (omega (arith, short)) in
+    omega (arith, a, b, c, fits)
+
 pub never_full : NeverFull
-never_full = record { placed = placed; empty = empty; changed = changed }
+never_full = record { placed = placed; empty = empty; changed = changed; made = made }

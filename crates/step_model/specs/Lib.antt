@@ -2,8 +2,9 @@ pub mod Runs
 pub mod Placing
 pub mod Used
 pub mod Streams
-pub mod UsedLaws
 pub mod Spreads
 pub mod Plans
+pub mod UsedLaws
 pub mod Contents
 pub mod Steps
+pub mod StepLaws

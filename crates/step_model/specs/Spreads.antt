@@ -32,12 +32,15 @@ blocks_in (Down v t) = 1 + blocks_in t
 blocks_in (Entry key rest) = blocks_in rest
 blocks_in (DownEntry v t key rest) = 1 + blocks_in t + blocks_in rest
 
--- the entries of each block have room in it
-abbrev pub FitBlocks : Tree → Type 0
-FitBlocks Leaf = ⊤
-FitBlocks (Down v t) = (node_used (raws_of t) ≤ node_room) × FitBlocks t
-FitBlocks (Entry key rest) = FitBlocks rest
-FitBlocks (DownEntry v t key rest) = (node_used (raws_of t) ≤ node_room) × FitBlocks t × FitBlocks rest
+-- The block with this number has these entries: they stood there before, or they have room in it.
+abbrev pub FitsBlock : (ℕ → Option (List Raw)) → ℕ → List Raw → Type 0
+FitsBlock nodes v entries = (nodes v ≡ Some entries) ⊎ (node_used entries ≤ node_room)
+
+abbrev pub FitBlocks : (ℕ → Option (List Raw)) → Tree → Type 0
+FitBlocks nodes Leaf = ⊤
+FitBlocks nodes (Down v t) = FitsBlock nodes v (raws_of t) × FitBlocks nodes t
+FitBlocks nodes (Entry key rest) = FitBlocks nodes rest
+FitBlocks nodes (DownEntry v t key rest) = FitsBlock nodes v (raws_of t) × FitBlocks nodes t × FitBlocks nodes rest
 
 -- the blocks on the way to the place of a new entry, from the top
 abbrev pub way_of : List ℕ → Key → Tree → List Spot
@@ -45,11 +48,11 @@ way_of upper key t = way (path_to (goes upper (link_of key).name) t) t
 
 -- The index with the entry in its order, with a level more or without. A fresh block is taken only for the split of a block on the
 -- entry's way that has fewer than 600 free bytes, or for the level; so many of them lie behind the blocks that there were.
-pub record IsSpread (upper : List ℕ) (key : Key) (t : Tree) (level : Bool) (s : Tree) (more : ℕ) : Type 0 where
+pub record IsSpread (nodes : ℕ → Option (List Raw)) (upper : List ℕ) (key : Key) (t : Tree) (level : Bool) (s : Tree) (more : ℕ) : Type 0 where
   pub keys : walk s ≡ put (goes upper (link_of key).name) key (walk t)
   pub once : (v : ℕ) → held v s ≤ 1
-  pub fit : FitBlocks s
-  pub height : levels s ≡ levels t + one_if level
+  pub fit : FitBlocks nodes s
+  pub height : levels s ≤ levels t + one_if level
   pub fresh : blocks_in s ≤ blocks_in t + tight_count (way_of upper key t) + one_if level
   pub behind : more ≤ blocks_in s - blocks_in t
 
@@ -87,7 +90,7 @@ pub data Outcome : Type 0 where
 
 -- What may become of the index of a directory, by the used bytes that its record has, and would have with an index spread so: a level comes only
 -- where one may be added, and where the record would be too full without it, one comes if it may; of sixteen levels there are no more.
-abbrev pub MayBecome : List ℕ → Key → Record → ℕ → Tree → (Tree → ℕ → ℕ) → Outcome → Type 0
-MayBecome upper key r used t used_with (Flat s more) = IsSpread upper key t false s more × (most_used < used_with s more → MayAddLevel upper key r used t s (used_with s more) → ⊥)
-MayBecome upper key r used t used_with (Raised s more u further) = IsSpread upper key t false s more × MayAddLevel upper key r used t s (used_with s more) × (levels t < most_levels) × IsSpread upper key t true u further
-MayBecome upper key r used t used_with (TooDeep s more) = IsSpread upper key t false s more × MayAddLevel upper key r used t s (used_with s more) × (levels t ≡ most_levels) × (most_used < used_with s more)
+abbrev pub MayBecome : (ℕ → Option (List Raw)) → List ℕ → Key → Record → ℕ → Tree → (Tree → ℕ → ℕ) → Outcome → Type 0
+MayBecome nodes upper key r used t used_with (Flat s more) = IsSpread nodes upper key t false s more × (most_used < used_with s more → MayAddLevel upper key r used t s (used_with s more) → ⊥)
+MayBecome nodes upper key r used t used_with (Raised s more u further) = IsSpread nodes upper key t false s more × MayAddLevel upper key r used t s (used_with s more) × (levels t < most_levels) × IsSpread nodes upper key t true u further
+MayBecome nodes upper key r used t used_with (TooDeep s more) = IsSpread nodes upper key t false s more × MayAddLevel upper key r used t s (used_with s more) × (levels t ≡ most_levels) × (most_used < used_with s more)

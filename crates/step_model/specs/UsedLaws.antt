@@ -16,6 +16,7 @@ use Rattle.tree_model.specs.declared.script.Op.{Op}
 use Rattle.step_model.specs.Placing.{runs_after}
 use Rattle.step_model.specs.Used.{most_used, used_after, value_attr, placed_attr}
 use Rattle.step_model.specs.Streams.{data_comes}
+use Rattle.step_model.specs.Plans.{new_file_attrs}
 
 -- Used bytes are a sum, so that they don't hang on the order of attributes. Where none comes they are those that the record has. An
 -- attribute that comes has its header, name and value, or mapping pairs, each up to a multiple of 8.
@@ -51,9 +52,10 @@ pub record AreFew (runs : List Run) : Type 0 where
   pub few : length runs ≤ 20
   pub inside : AllByRecursion (λ r. (r.len ≤ 2 ^ 24) × IfSome r.lcn (λ lcn. lcn ≤ 2 ^ 24)) runs
 
--- Such a file isn't too full with data of few runs whose mapping pairs have the fewest bytes, nor with data of no bytes. And where it isn't,
--- its record isn't after a change of its data that leaves few runs.
+-- Such a file isn't too full with data of few runs whose mapping pairs have the fewest bytes, nor with data of no bytes, as a new file has. And
+-- where it isn't, its record isn't after a change of its data that leaves few runs.
 pub record NeverFull : Type 0 where
   pub placed : (r : Record) (stream : Attr) (sizes : Sizes) (runs : List Run) → IsPlainFile r stream → stream.form ≡ Mapped sizes (pairs_of runs) → AreFew runs → used_of r.attrs ≤ most_used
   pub empty : (r : Record) (stream : Attr) (indexed : ℕ) → IsPlainFile r stream → stream.form ≡ Resident [] indexed → used_of r.attrs ≤ most_used
   pub changed : (bits : List Bool) (r : Record) (stream : Attr) (op : Op) (node : Node) → IsPlainFile r stream → used_of r.attrs ≤ most_used → AreFew (runs_after (data_comes bits r op node).growth) → used_after (data_comes bits r op node).attrs r ≤ most_used
+  pub made : (name : List ℕ) → length name ≤ 255 → used_of (new_file_attrs name) ≤ most_used

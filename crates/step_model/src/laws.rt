@@ -1,4 +1,5 @@
 ghost use Rattle.step_model.specs.Placing.{PlacedOnce};
+ghost use Rattle.step_model.specs.StepLaws.{AnswersListed, StepsOfTrees, StepsStay, TurnsOfContents};
 ghost use Rattle.step_model.specs.UsedLaws.{NeverFull, UsedBytes};
 
 /// Law: streams that grow one after the other take the clusters that they want, each of which was
@@ -17,4 +18,26 @@ pub fn used_bytes()
 /// whose mapping pairs have the fewest bytes is never too full.
 pub fn never_full()
     ensures { NeverFull }
+{}
+
+/// Law: each answer of an operation on a tree or its content is in the table of answers.
+pub fn answers_listed()
+    ensures { AnswersListed }
+{}
+
+/// Law: a step leads from a state to a state, and only what is done changes the content.
+pub fn steps_stay()
+    ensures { StepsStay }
+{}
+
+/// Law: the trees of a step are a step of the tree, but where a row of the content refuses; there
+/// no row of the tree does.
+pub fn steps_of_trees()
+    ensures { StepsOfTrees }
+{}
+
+/// Law: a step is what a turn takes; a turn of contents is one of their trees; and turns behind
+/// turns are a run.
+pub fn turns_of_contents()
+    ensures { TurnsOfContents }
 {}

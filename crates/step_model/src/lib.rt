@@ -6,4 +6,7 @@
 
 mod laws;
 
-pub use laws::{never_full, placed_once, used_bytes};
+pub use laws::{
+    answers_listed, never_full, placed_once, steps_of_trees, steps_stay, turns_of_contents,
+    used_bytes,
+};
