@@ -47,11 +47,7 @@ fn from_7(volume: &NamedVolume) -> Option<Broken>
 
 // From rule 6 on: clusters that are owned and not marked.
 #[tactic(auto, unfolding(crate::specs::Steps::from_6, volume_state::specs::Rules::broken_6))]
-fn from_6(
-    alloc: Global,
-    volume: &NamedVolume,
-    runs: &[Run],
-) -> Result<Option<Broken>, Memory>
+fn from_6(alloc: Global, volume: &NamedVolume, runs: &[Run]) -> Result<Option<Broken>, Memory>
     requires runs { runs.now ≡ volume_runs volume.now.map.now.files.items }
     ensures { (c : the_content) → IsMapOf c volume.now.map.now → IfOk result (λ broken. broken ≡ from_6 c (volume_in volume.now.map.now)) }
 {

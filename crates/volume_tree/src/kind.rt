@@ -8,9 +8,7 @@ use crate::names::NamedVolume;
 use file_record::FileRec;
 use file_tree::{Kind, Link, Why};
 use record_model::{ATTRIBUTE_LIST, REPARSE_POINT};
-use record_rules::{
-    has_type, is_compressed, is_directory_record, is_encrypted, is_sparse,
-};
+use record_rules::{has_type, is_compressed, is_directory_record, is_encrypted, is_sparse};
 
 /// What a file's data says of it.
 #[derive(Clone, Copy)]

@@ -81,11 +81,7 @@ fn node_of(
 
 // The node of the file with this number, if it has one.
 #[tactic(auto, using(record_rules::proofs::Links::links_found), unfolding(volume_model::specs::Nodes::node_at, state_model::specs::Trees::is_nameless, state_model::specs::Files::links_at))]
-fn node_at(
-    alloc: Global,
-    volume: &NamedVolume,
-    number: u64,
-) -> Result<Option<Node>, Memory>
+fn node_at(alloc: Global, volume: &NamedVolume, number: u64) -> Result<Option<Node>, Memory>
     ensures { IfOk result (λ node. node ≡ node_at no_bytes (volume_in volume.now.map.now) number) }
 {
     let Some(file) = file_at(&volume.map.files, number) else {
@@ -112,10 +108,7 @@ fn push_some(nodes: &mut NodeList, node: Option<Node>) -> Result<(), AllocError>
 ///
 /// Linear in the attributes and runs of the files, and in their names times how deep these stand.
 #[tactic(auto, using(crate::proofs::Nodes::nodes_more), unfolding(volume_model::specs::Nodes::nodes_by))]
-pub fn bare_nodes(
-    alloc: Global,
-    volume: &NamedVolume,
-) -> Result<NodeList, Memory>
+pub fn bare_nodes(alloc: Global, volume: &NamedVolume) -> Result<NodeList, Memory>
     ensures value { IfOk result (λ nodes. nodes ≡ bare_nodes (volume_in volume.now.map.now)) }
 {
     let mut nodes = NodeList::new(alloc);
