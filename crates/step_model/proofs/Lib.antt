@@ -4,3 +4,4 @@ pub mod NeverFull
 pub mod Rows
 pub mod Listing
 pub mod Stepping
+pub mod Leaving

@@ -8,3 +8,5 @@ pub mod UsedLaws
 pub mod Contents
 pub mod Steps
 pub mod StepLaws
+pub mod ContentLaws
+pub mod Worked

@@ -1,6 +1,8 @@
+ghost use Rattle.step_model.specs.ContentLaws.{ContentsLeft};
 ghost use Rattle.step_model.specs.Placing.{PlacedOnce};
 ghost use Rattle.step_model.specs.StepLaws.{AnswersListed, StepsOfTrees, StepsStay, TurnsOfContents};
 ghost use Rattle.step_model.specs.UsedLaws.{NeverFull, UsedBytes};
+ghost use Rattle.step_model.specs.Worked.{WorkedAnswers, WorkedClusters, WorkedRecords};
 
 /// Law: streams that grow one after the other take the clusters that they want, each of which was
 /// clear before and lies in one of them once.
@@ -36,8 +38,29 @@ pub fn steps_of_trees()
     ensures { StepsOfTrees }
 {}
 
+/// Law: what an operation takes was no stream's before, and the bodies of a plan leave all others.
+pub fn contents_left()
+    ensures { ContentsLeft }
+{}
+
 /// Law: a step is what a turn takes; a turn of contents is one of their trees; and turns behind
 /// turns are a run.
 pub fn turns_of_contents()
     ensures { TurnsOfContents }
+{}
+
+/// Worked rows: which clusters two streams take one after the other, and what a cut leaves.
+pub fn worked_clusters()
+    ensures { WorkedClusters }
+{}
+
+/// Worked rows: 744 bytes stand in the record of a file whose name has one unit, and 745 leave it;
+/// beside an attribute of 704 bytes no data has room.
+pub fn worked_records()
+    ensures { WorkedRecords }
+{}
+
+/// Worked rows: answers that an operation has, and some that it never has.
+pub fn worked_answers()
+    ensures { WorkedAnswers }
 {}

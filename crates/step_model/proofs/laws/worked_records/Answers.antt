@@ -1,0 +1,24 @@
+use Rattle.std.proofs.Common.{refl}
+use Rattle.disk_model.specs.Bytes.{zeros}
+use Rattle.disk_model.specs.Numbers.{spell}
+use Rattle.record_model.specs.Attributes.{front_spelling, resident_spelling, mapped_spelling, sizes_spelling, unit_bytes, filled}
+use Rattle.record_model.specs.Pairs.{signed_width, least_width, signed_bytes, pair_of, pairs_from, pairs_of}
+use Rattle.space_model.specs.Choosing.{clear_front, longest_clear, lowest_fit, with_run, at_once, chosen_anywhere, behind, chosen, with_runs}
+use Rattle.state_model.specs.Streams.{is_attribute_of, attributes_of, stream_of, attribute_runs}
+use Rattle.tree_model.specs.Effects.{put_at, zeros_up_to}
+use Rattle.step_model.specs.Runs.{merged, grown, front}
+use Rattle.step_model.specs.Placing.{runs_after}
+use Rattle.step_model.specs.Used.{attrs_with, used_after, own_attr}
+use Rattle.step_model.specs.Streams.{in_clusters, comes, data_comes}
+use Rattle.step_model.proofs.laws.worked_records.Goals as goal
+
+pub returns : goal.returns
+unfolding zeros spell front_spelling resident_spelling mapped_spelling sizes_spelling unit_bytes filled signed_width least_width signed_bytes pair_of pairs_from pairs_of clear_front longest_clear lowest_fit with_run at_once chosen_anywhere behind chosen with_runs is_attribute_of attributes_of stream_of attribute_runs merged grown front runs_after attrs_with used_after own_attr in_clusters comes data_comes
+returns c = record {
+  room = refl;
+  no_room = refl;
+  filled = refl;
+  left = refl;
+  full = refl;
+  empty = refl;
+}
