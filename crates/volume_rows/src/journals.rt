@@ -1,6 +1,4 @@
 //! The change journal of a loaded volume, without its records.
-ghost use Rattle.std.specs.Prelude.{IfOk};
-
 use bit_set::BitSet;
 use block_view::MemoryView;
 use disk_model::Body;
@@ -62,8 +60,7 @@ fn file_of(alloc: Global, row: &Row) -> Result<FileRec, AllocError> {
 }
 
 // 25 records, of which the last one is the file.
-fn map_of(alloc: Global, row: &Row) -> Result<VolumeMap, AllocError>
-{
+fn map_of(alloc: Global, row: &Row) -> Result<VolumeMap, AllocError> {
     let mut files = Vec::new(alloc);
     put_file(&mut files, 24, file_of(alloc, row)?)?;
     let table = Extents {
