@@ -13,5 +13,5 @@ pub returns-clause-answer : goal.returns-clause-answer
 returns-clause-answer g c =
     goes_on _ g.R.MapReader.shown (volume_in c.in_ok-map.map) c.read.result (λ content. volume_on content c.args.geometry.now c.args.total) (g.R.MapReader.meant c.args.reader.now) c.in_ok-map.ensures.answer (rw c.in_ok-map.ensures.kept.same at c.read.ensures.answer)
 
-pub read-requires-clause-parts : goal.read-requires-clause-parts
-read-requires-clause-parts g c = rw c.in_ok-map.ensures.kept.same c.in_ok-map.ensures.parts
+pub read-requires : goal.read-requires
+read-requires g c = record { parts = rw c.in_ok-map.ensures.kept.same c.in_ok-map.ensures.parts }
