@@ -1,19 +1,20 @@
 -- A plan of a directory's index spreads it as an operation may.
-use Rattle.std.proofs.Common.{◌≡◌, inl, inr, ℕ, suc, ◌+◌, ◌-◌, ◌<◌, ◌≤◌, Bool, true, false, List, [], ◌∷◌, ◌++◌, length, Option, Some, refl, sym, ap, ◌∙◌, subst, arith, length-append}
+use Rattle.std.proofs.Common.{◌≡◌, inl, inr, ℕ, suc, ◌+◌, ◌-◌, ◌<◌, ◌≤◌, Bool, true, false, List, [], ◌∷◌, ◌++◌, length, Option, Some, refl, sym, ap, ◌∙◌, subst, arith, length-append, ◌⊎◌}
 use Rattle.std.specs.Prelude.{reverse, nat_eq}
 use Rattle.std.proofs.lemmas.Bool.{cases_eq}
 use Rattle.std.proofs.lemmas.List.{reverse-append}
 use Rattle.disk_model.specs.Content.{Content, HasSizes}
 use Rattle.disk_model.specs.declared.block.Change.{Change}
 use Rattle.record_model.specs.declared.entry.Entry.{Entry as Raw}
-use Rattle.record_model.specs.Nodes.{node_used, node_room}
+use Rattle.record_model.specs.Nodes.{node_used, node_room, last_entry}
 use Rattle.file_tree.specs.declared.link.Link.{Link}
 use Rattle.index_model.specs.declared.key.Key.{Key}
-use Rattle.index_model.specs.Trees.{Tree, Leaf, Down, Entry, DownEntry, walk, held, times, same, one_if, raws_of, Stands}
+use Rattle.index_model.specs.Trees.{Tree, Leaf, Down, Entry, DownEntry, walk, held, times, same, one_if, raws_of, Stands, levels}
 use Rattle.index_model.specs.Indexes.{Place, node_of_block, nodes_of}
 use Rattle.index_model.proofs.Marks.{same_not}
 use Rattle.index_plan.specs.declared.write.Write.{Write}
 use Rattle.index_plan.specs.Paths.{over, chosen, written_vcns}
+use Rattle.index_plan.specs.Growth.{fits_in}
 use Rattle.index_plan.specs.Room.{tight_count}
 use Rattle.index_plan.specs.Search.{put}
 use Rattle.index_plan.proofs.Standing.{same_self}
@@ -23,7 +24,7 @@ use Rattle.index_change.specs.Changing.{IsLaidOut, uses, PutsNode, PutNodes}
 use Rattle.index_change.specs.Orders.{goes, link_of}
 use Rattle.index_change.specs.Plans.{root_room, seventeen, needs_level, NewIndex}
 use Rattle.index_change.proofs.Laid.{AreUsed, nodes_after}
-use Rattle.step_model.specs.Spreads.{blocks_in, FitsBlock, FitBlocks, way_of, IsSpread}
+use Rattle.step_model.specs.Spreads.{blocks_in, FitsBlock, FitBlocks, way_of, RootMay, IsSpread}
 use Rattle.step_model.specs.SpreadLaws.{PlansSpread}
 
 -- ---- how many blocks
@@ -116,11 +117,18 @@ are_used : (n : ℕ → ℕ) (writes : List Write) → ((v : ℕ) → times v (w
 are_used n [] each = tt
 are_used n (w ∷ writes) each = ((let me = same_self w.vcn in let e = each w.vcn in omega arith), are_used n writes (λ v. let e = each v in omega arith))
 
+root_may : (level : Bool) (room : ℕ) (key : Key) (t s : Tree) → (level ≡ false → (fits_in room (raws_of s) ≡ true) ⊎ (raws_of s ≡ raws_of t)) → (level ≡ true → (levels t < 16) × ((f : ℕ) × (raws_of s ≡ last_entry (Some f) ∷ []))) → RootMay level room key t s
+root_may true room key t s flat raised = (raised refl).1
+root_may false room key t s flat raised = elim (flat refl) [
+  | inl fits ↦ inr (inl fits)
+  | inr stays ↦ inl stays
+]
+
 -- ---- the plan
 
 plans_spread_by : (c : Content) (p : Place) (upper value : List ℕ) (used : ℕ) (t : Tree) (fresh : List ℕ) (key : Key) (more : Bool) (meant : List Link) (plan : DirPlan) (behind : ℕ) → HasSizes c → IsLaidOut p (uses t fresh)
     → (n : NewIndex c p upper value used t fresh more (put (goes upper (link_of key).name) key (walk t)) meant plan) → length plan.taken.items ≤ tight_count (way_of upper key t) + one_if more → behind ≤ blocks_in n.tree - blocks_in t
-    → IsSpread (nodes_of (node_of_block c p)) upper key t more n.tree behind
+    → IsSpread (nodes_of (node_of_block c p)) upper (root_room used value) key t more n.tree behind
 plans_spread_by c p upper value used t fresh key more meant plan behind sized laid n few inside =
     let s : Tree = n.tree in
     let used_here : (v : ℕ) → 0 < held v s → 0 < uses t fresh v = (λ v here. omega (arith, here, n.numbers v, n.among v)) in
@@ -132,6 +140,7 @@ plans_spread_by c p upper value used t fresh key more meant plan behind sized la
       keys = n.has_keys;
       once = n.holds.is_index.once;
       fit = all_fit (nodes_of (node_of_block c p)) (nodes_of (node_of_block (content_after plan.changes.items c) p)) s n.holds.is_index.stands known;
+      root = root_may more (root_room used value) key t s n.has_room n.one_entry;
       height = n.height;
       fresh = omega (arith, blocks, few);
       behind = inside;

@@ -17,4 +17,4 @@ use Rattle.step_model.specs.Spreads.{blocks_in, IsSpread}
 abbrev pub PlansSpread : Type 0
 PlansSpread = (c : Content) (p : Place) (upper value : List ℕ) (used : ℕ) (t : Tree) (fresh : List ℕ) (key : Key) (meant : List Link) (plan : DirPlan) (behind : ℕ) → HasSizes c → IsLaidOut p (uses t fresh)
     → (n : NewIndex c p upper value used t fresh (needs_level upper (root_room used value) key (seventeen fresh) t) (put (goes upper (link_of key).name) key (walk t)) meant plan) → TakesLittle upper value used key fresh t plan → behind ≤ blocks_in n.tree - blocks_in t
-    → IsSpread (nodes_of (node_of_block c p)) upper key t (needs_level upper (root_room used value) key (seventeen fresh) t) n.tree behind
+    → IsSpread (nodes_of (node_of_block c p)) upper (root_room used value) key t (needs_level upper (root_room used value) key (seventeen fresh) t) n.tree behind
