@@ -5,3 +5,5 @@ pub mod Rows
 pub mod Listing
 pub mod Stepping
 pub mod Leaving
+pub mod Spreading
+pub mod Planning

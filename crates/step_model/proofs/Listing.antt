@@ -1,5 +1,5 @@
 -- Each answer of the tree's own definition is one that the table of answers has.
-use Rattle.std.proofs.Common.{◌≡◌, ◌≢◌, ◌⊎◌, inl, inr, ℕ, ◌+◌, Bool, true, false, cond, List, [], ◌∷◌, ◌++◌, length, Option, Some, None, Result, Ok, Err, refl, sym, ap, ◌∙◌, subst}
+use Rattle.std.proofs.Common.{◌≡◌, ℕ, ◌+◌, Bool, true, false, cond, List, [], ◌∷◌, length, Option, Some, None, Result, Ok, Err, refl, ap, subst}
 use Rattle.std.specs.Prelude.{IsOkAnd, IsSomeAnd, ⊤}
 use Rattle.host_base.specs.Answers.{◌>>=◌, needs}
 use Rattle.file_tree.specs.declared.node.Node.{Node}
@@ -19,7 +19,7 @@ use Rattle.tree_model.specs.Refusals.{first_of, from_there, parent_path, new_nam
 use Rattle.tree_model.specs.Effects.{numbers_to_take, least_ref}
 use Rattle.tree_model.specs.Steps.{HasStep, step_refusals, step_refusal, refused_by, Lists, stat_of, IsDone}
 use Rattle.step_model.specs.StepLaws.{is_content_row}
-use Rattle.step_model.specs.Steps.{Answer, Done, Refused, answer_of, stat_answer, list_answer, create_answer, write_answer, truncate_answer}
+use Rattle.step_model.specs.Steps.{Done, Refused, answer_of, stat_answer, list_answer, create_answer, write_answer, truncate_answer}
 
 -- ---- rows
 

@@ -1,7 +1,7 @@
 -- Which files are never too full.
-use Rattle.std.proofs.Common.{◌≡◌, ◌⊎◌, inl, inr, ℕ, ◌+◌, ◌-◌, ◌*◌, ◌<◌, ◌≤◌, Bool, true, false, cond, not, eqb, leb, nat_eq, List, [], ◌∷◌, ◌++◌, length, Option, Some, None, refl, sym, ap, ◌∙◌, subst, arith}
+use Rattle.std.proofs.Common.{◌≡◌, ◌⊎◌, inl, inr, ℕ, ◌+◌, ◌*◌, ◌≤◌, Bool, true, false, cond, not, nat_eq, List, [], ◌∷◌, length, Some, None, refl, sym, ap, ◌∙◌, arith}
 use Rattle.std.specs.Prelude.{◌==◌, ◌&&◌, ◌||◌, nat_le, if◌then◌else◌}
-use Rattle.std.specs.List.{list_any, filter, sum_by}
+use Rattle.std.specs.List.{filter, sum_by}
 use Rattle.std.specs.List.Sorted.{IsPermutation}
 use Rattle.std.specs.Cmp.Lexicographic.{pointwise}
 use Rattle.std.proofs.lemmas.Bool.Decides.{nat_tests}
@@ -17,7 +17,7 @@ use Rattle.record_model.specs.Constants.{standard_information, file_name, data_t
 use Rattle.record_model.specs.Pairs.{pairs_of}
 use Rattle.record_model.specs.Records.{Record, spelled_bytes, used_of}
 use Rattle.record_model.proofs.UnitBytes.{length-zeros}
-use Rattle.record_writer.specs.Edits.{whole_length, form_length}
+use Rattle.record_writer.specs.Edits.{whole_length}
 use Rattle.record_writer.proofs.Measures.{length-spelling, held_length}
 use Rattle.file_tree.specs.declared.node.Node.{Node}
 use Rattle.state_model.specs.Loads.{total_clusters}
@@ -25,10 +25,10 @@ use Rattle.state_model.specs.Streams.{is_attribute_of, attributes_of, sorted_int
 use Rattle.stream_laws.specs.Sharing.{runs_in}
 use Rattle.tree_model.specs.declared.script.Op.{Op}
 use Rattle.step_model.specs.Placing.{Growth, runs_after}
-use Rattle.step_model.specs.Used.{most_used, is_replaced, attrs_with, used_after, new_attr, own_attr, first_or, value_attr, placed_attr, held_if, is_in_record, stays_in}
-use Rattle.step_model.specs.Streams.{Wanted, Comes, stream_in, attr_in, as_value, placed_among, attrs_placed, placed_by, in_clusters, comes, wanted_data, data_comes, data_of}
+use Rattle.step_model.specs.Used.{most_used, is_replaced, attrs_with, used_after, new_attr, own_attr, first_or, value_attr, placed_attr, is_in_record, stays_in}
+use Rattle.step_model.specs.Streams.{Wanted, stream_in, as_value, placed_among, in_clusters, comes, wanted_data, data_comes, data_of}
 use Rattle.step_model.specs.Plans.{new_file_attrs}
-use Rattle.step_model.specs.UsedLaws.{UsedBytes, HasShortValue, IsPlainFile, AreFew, NeverFull}
+use Rattle.step_model.specs.UsedLaws.{UsedBytes, IsPlainFile, AreFew, NeverFull}
 use Rattle.step_model.proofs.UsedLengths.{few_pairs, short_value, few_placed, within_eights}
 
 -- ---- used bytes

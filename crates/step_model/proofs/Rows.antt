@@ -1,6 +1,5 @@
 -- The rows of the content stand behind those of the tree.
-use Rattle.std.proofs.Common.{◌≡◌, ◌⊎◌, inl, inr, ℕ, ◌+◌, Bool, true, false, cond, not, List, [], ◌∷◌, ◌++◌, length, Option, Some, None, Result, Ok, Err, refl, sym, ap, ◌∙◌}
-use Rattle.std.specs.Prelude.{nat_lt, ◌==◌}
+use Rattle.std.proofs.Common.{◌≡◌, ◌⊎◌, inl, inr, ℕ, Bool, true, false, cond, List, [], ◌∷◌, ◌++◌, Option, Some, None, Result, Ok, Err, refl, sym, ap, ◌∙◌}
 use Rattle.file_tree.specs.declared.node.Node.{Node}
 use Rattle.file_tree.specs.declared.tree.Tree.{Tree}
 use Rattle.tree_model.specs.declared.script.Op.{Op}
@@ -8,7 +7,7 @@ use Rattle.tree_model.specs.declared.script.Op.TheVariants as op
 use Rattle.tree_model.specs.declared.reply.Reply.{Reply}
 use Rattle.tree_model.specs.Walks.{reached, reached_directory}
 use Rattle.tree_model.specs.Needs.{changes_file}
-use Rattle.tree_model.specs.Refusals.{first_of, from_there, parent_path, new_name, where_so, is_bad_new_path, create_rows, change_rows}
+use Rattle.tree_model.specs.Refusals.{first_of, from_there, parent_path, new_name, create_rows, change_rows}
 use Rattle.tree_model.specs.Steps.{step_refusals, step_refusal}
 
 -- ---- lists of rows

@@ -1,5 +1,5 @@
 -- What a step of a content keeps, what it shares with a step of the tree, and its turns.
-use Rattle.std.proofs.Common.{◌≡◌, ◌≢◌, ◌⊎◌, inl, inr, ℕ, ◌+◌, ◌<◌, ◌≤◌, Bool, true, false, cond, List, [], ◌∷◌, ◌++◌, Option, Some, None, Result, Ok, Err, refl, sym, ap, ◌∙◌, subst}
+use Rattle.std.proofs.Common.{◌≡◌, ◌≢◌, inl, inr, ℕ, ◌+◌, Bool, true, false, cond, List, [], ◌∷◌, Option, Some, None, Result, Ok, Err, refl, sym, ap, ◌∙◌, subst}
 use Rattle.std.specs.Prelude.{MatchBool, nat_lt}
 use Rattle.disk_model.specs.Content.{Content}
 use Rattle.file_tree.specs.declared.node.Node.{Node}
@@ -19,12 +19,12 @@ use Rattle.tree_model.specs.Walks.{reached}
 use Rattle.tree_model.specs.Needs.{changes_file}
 use Rattle.tree_model.specs.Refusals.{first_of}
 use Rattle.tree_model.specs.Steps.{HasStep, step_refusal, IsDone, StepsBy, IsStep, is_given_up}
-use Rattle.run_model.specs.Runs.{RunStart, TakesStep, IsTurn, IsTreeTurn, Segment, own, serial_of_last, next_of, next_in_tree}
+use Rattle.run_model.specs.Runs.{RunStart, TakesStep, IsTreeTurn, own, next_in_tree}
 use Rattle.run_model.specs.declared.turn.Turn.{Turn}
 use Rattle.run_model.proofs.Segments.{segment_push, segment_join}
 use Rattle.step_model.specs.Used.{most_used}
 use Rattle.step_model.specs.Plans.{Plan, no_plan, AtNode, change_or_none, change_plan, IsChangePlan, IsPlan, with_journal, full_row, deep_row, content_rows}
-use Rattle.step_model.specs.Steps.{Answer, Done, Refused, Synced, GivenUp, Never, path_answer, stat_answer, list_answer, create_answer, change_answer, write_answer, truncate_answer, sync_answer, answer_of, IsRefused, IsDoneIn, StepBy, HasAnswer, Step, next_or, next_in_content, IsContentTurn}
+use Rattle.step_model.specs.Steps.{Answer, Done, Refused, Synced, GivenUp, Never, path_answer, stat_answer, list_answer, create_answer, write_answer, truncate_answer, answer_of, IsRefused, IsDoneIn, StepBy, HasAnswer, Step, next_or, next_in_content, IsContentTurn}
 use Rattle.step_model.specs.StepLaws.{is_content_row, AnswersListed, StepsStay, StepsOfTrees, TurnsOfContents}
 use Rattle.step_model.proofs.Listing.{refused, done, tree_row}
 use Rattle.step_model.proofs.Rows.{none_of_tree, row_of_content}

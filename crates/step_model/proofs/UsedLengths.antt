@@ -1,23 +1,19 @@
 -- How many bytes the attributes of a record that would be take.
-use Rattle.std.proofs.Common.{◌≡◌, ◌≢◌, ℕ, ℤ, pos, negsuc, suc, ◌+◌, ◌-◌, ◌*◌, ◌/◌, ◌%◌, ◌^◌, ◌<◌, ◌≤◌, ◌-ℤ◌, Bool, true, false, cond, not, List, [], ◌∷◌, ◌++◌, length, Option, Some, None, refl, sym, ap, ◌∙◌, subst, arith, length-append}
-use Rattle.std.specs.Prelude.{◌==◌, ◌&&◌, ◌||◌, IfSome, if◌then◌else◌, unwrap_or, nat_le}
-use Rattle.std.specs.List.{AllByRecursion, list_any, filter}
-use Rattle.std.specs.List.Sorted.{IsPermutation}
+use Rattle.std.proofs.Common.{◌≡◌, ℕ, ℤ, pos, negsuc, suc, ◌+◌, ◌*◌, ◌^◌, ◌≤◌, ◌-ℤ◌, true, List, [], ◌∷◌, length, Option, Some, None, refl, ap, ◌∙◌, arith, length-append}
+use Rattle.std.specs.Prelude.{IfSome, unwrap_or}
+use Rattle.std.specs.List.{AllByRecursion}
 use Rattle.std.proofs.lemmas.Bool.{lt-ltb, le-leb}
 use Rattle.std.proofs.lemmas.Int.{ints}
-use Rattle.disk_model.specs.Bytes.{up8, zeros}
-use Rattle.record_model.specs.declared.attribute.OwnForm.{OwnForm}
+use Rattle.disk_model.specs.Bytes.{up8}
 use Rattle.record_model.specs.declared.attribute.OwnForm.TheVariants.{Resident, Mapped}
 use Rattle.record_model.specs.declared.attribute.Attr.{Attr}
 use Rattle.record_model.specs.declared.attribute.Sizes.{Sizes}
 use Rattle.record_model.specs.declared.runs.Run.{Run}
-use Rattle.record_model.specs.Attributes.{is_compressed_or_sparse, spelling, held_bytes}
-use Rattle.record_model.specs.Pairs.{fits_bytes, signed_width, signed_bytes, delta_bytes, pair_of, pairs_from, pairs_of}
-use Rattle.record_model.specs.Records.{Record, spelled_bytes, used_of}
+use Rattle.record_model.specs.Attributes.{spelling, held_bytes}
+use Rattle.record_model.specs.Pairs.{fits_bytes, signed_bytes, delta_bytes, pair_of, pairs_from, pairs_of}
 use Rattle.record_model.proofs.PairsSigned.{length-signed_bytes, signed_width-least}
 use Rattle.record_writer.specs.Edits.{whole_length, form_length}
-use Rattle.record_writer.proofs.Measures.{length-spelling, held_length, held_short}
-use Rattle.step_model.specs.Used.{most_used, value_attr, placed_attr, held_if}
+use Rattle.record_writer.proofs.Measures.{length-spelling, held_short}
 use Rattle.step_model.specs.UsedLaws.{HasShortValue, AreFew}
 
 -- ---- numbers

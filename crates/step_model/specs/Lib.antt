@@ -3,7 +3,9 @@ pub mod Placing
 pub mod Used
 pub mod Streams
 pub mod Spreads
+pub mod SpreadLaws
 pub mod Plans
+pub mod PlanLaws
 pub mod UsedLaws
 pub mod Contents
 pub mod Steps

@@ -1,5 +1,5 @@
 -- The clusters of the streams that one operation lets grow, one stream after the other.
-use Rattle.std.specs.Prelude.{◌≡◌, ⊤, ℕ, ◌+◌, ◌-◌, ◌<◌, ◌≤◌, Bool, false, not, nat_lt, if◌then◌else◌, ◌==◌, List, [], ◌∷◌, count_by}
+use Rattle.std.specs.Prelude.{◌≡◌, ⊤, ℕ, ◌-◌, ◌<◌, ◌≤◌, Bool, false, not, nat_lt, if◌then◌else◌, ◌==◌, List, [], ◌∷◌, count_by}
 use Rattle.std.specs.List.{flat_map, sum_by, AllByRecursion}
 use Rattle.record_model.specs.declared.runs.Run.{Run}
 use Rattle.bit_set.specs.Bits.{bit}

@@ -13,6 +13,7 @@ use Rattle.index_model.specs.declared.key.Key.{Key}
 use Rattle.index_model.specs.Trees.{Tree, levels}
 use Rattle.index_model.specs.Indexes.{node_of_block, nodes_of}
 use Rattle.index_model.specs.Laws.{HoldsIndex}
+use Rattle.index_change.specs.Plans.{root_room}
 use Rattle.space_model.specs.Choosing.{with_runs}
 use Rattle.volume_model.specs.Volumes.{Volume, file_in, table_file, cluster_bits, upper_of}
 use Rattle.volume_model.specs.Indexes.{index_place, root_value}
@@ -166,7 +167,7 @@ pub record IsMadePlan (c : Content) (v : Volume) (path : List (List ℕ)) (direc
   pub key : Key
   pub is_key : (ref : FileRef) → least_ref (numbers_to_take (tree_of c v)) ≡ Some ref → IsKeyOf (new_link directory (new_name path) ref) key
   pub outcome : Outcome
-  pub may : MayBecome (nodes_of (node_of_block c (index_place v.per r))) (upper_of c v) key r (used_of r.attrs) t (spread_used c v directory.number r) outcome
+  pub may : MayBecome (nodes_of (node_of_block c (index_place v.per r))) (upper_of c v) (root_room (used_of r.attrs) value) key r (used_of r.attrs) t (spread_used c v directory.number r) outcome
   pub is : p ≡ made_plan c v (new_name path) directory.number r (levels t) outcome
 
 -- ---- the plan of an operation

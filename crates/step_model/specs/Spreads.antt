@@ -1,20 +1,21 @@
 -- How an index may be spread over its blocks with one entry more: all that an operation leaves free.
-use Rattle.std.specs.Prelude.{◌≡◌, ◌≢◌, ◌⊎◌, ⊤, ℕ, ◌+◌, ◌-◌, ◌<◌, ◌≤◌, Bool, true, false, List, [], ◌∷◌, All, Option, Some, None}
+use Rattle.std.specs.Prelude.{◌≡◌, ◌⊎◌, ⊤, ℕ, ◌+◌, ◌-◌, ◌<◌, ◌≤◌, Bool, true, false, List, All, Option, Some, [], ◌∷◌}
 use Rattle.record_model.specs.declared.entry.Entry.{Entry as Raw}
 use Rattle.record_model.specs.Values.{is_file_name}
 use Rattle.record_model.specs.Records.{Record}
 use Rattle.record_model.specs.Constants.{standard_information}
-use Rattle.record_model.specs.Nodes.{node_used, node_room}
+use Rattle.record_model.specs.Nodes.{node_used, node_room, entries_length, last_entry}
 use Rattle.file_tree.specs.declared.link.Link.{Link}
 use Rattle.index_model.specs.declared.key.Key.{Key}
 use Rattle.index_model.specs.Trees.{Tree, Leaf, Down, Entry, DownEntry, walk, held, levels, one_if, raws_of}
 use Rattle.index_model.specs.Indexes.{most_levels}
 use Rattle.index_plan.specs.Plans.{Spot}
+use Rattle.index_plan.specs.Growth.{fits_in}
 use Rattle.index_plan.specs.Lists.{way}
 use Rattle.index_plan.specs.Room.{is_tight, tight_count}
 use Rattle.index_plan.specs.Search.{path_to, put}
 use Rattle.index_change.specs.Orders.{goes, link_of}
-use Rattle.index_change.specs.Plans.{bytes_more}
+use Rattle.index_change.specs.Plans.{has_blocks, bytes_more}
 use Rattle.state_model.specs.Files.{has_type}
 use Rattle.step_model.specs.Used.{most_used}
 
@@ -46,12 +47,25 @@ FitBlocks nodes (DownEntry v t key rest) = FitsBlock nodes v (raws_of t) × FitB
 abbrev pub way_of : List ℕ → Key → Tree → List Spot
 way_of upper key t = way (path_to (goes upper (link_of key).name) t) t
 
--- The index with the entry in its order, with a level more or without. A fresh block is taken only for the split of a block on the
--- entry's way that has fewer than 600 free bytes, or for the level; so many of them lie behind the blocks that there were.
-pub record IsSpread (nodes : ℕ → Option (List Raw)) (upper : List ℕ) (key : Key) (t : Tree) (level : Bool) (s : Tree) (more : ℕ) : Type 0 where
+-- the root takes the new entry, or one that was cut upwards where a block was split
+pub record TakesEntry (key : Key) (t s : Tree) : Type 0 where
+  pub cause : (has_blocks t ≡ false) ⊎ (blocks_in t < blocks_in s)
+  pub longer : entries_length (raws_of s) ≤ entries_length (raws_of t) + bytes_more key t
+
+-- With a level more, the root has one entry alone, below which the others stand. Without one it stays, or its entries have room in the
+-- record, or it takes one entry more.
+abbrev pub RootMay : Bool → ℕ → Key → Tree → Tree → Type 0
+RootMay true room key t s = (f : ℕ) × (raws_of s ≡ last_entry (Some f) ∷ [])
+RootMay false room key t s = (raws_of s ≡ raws_of t) ⊎ (fits_in room (raws_of s) ≡ true) ⊎ TakesEntry key t s
+
+-- The index with the entry in its order, with a level more or without; the record has this room for its root's entries. A fresh block is
+-- taken only for the split of a block on the entry's way that has fewer than 600 free bytes, or for the level; so many of them lie behind
+-- the blocks that there were.
+pub record IsSpread (nodes : ℕ → Option (List Raw)) (upper : List ℕ) (room : ℕ) (key : Key) (t : Tree) (level : Bool) (s : Tree) (more : ℕ) : Type 0 where
   pub keys : walk s ≡ put (goes upper (link_of key).name) key (walk t)
   pub once : (v : ℕ) → held v s ≤ 1
   pub fit : FitBlocks nodes s
+  pub root : RootMay level room key t s
   pub height : levels s ≤ levels t + one_if level
   pub fresh : blocks_in s ≤ blocks_in t + tight_count (way_of upper key t) + one_if level
   pub behind : more ≤ blocks_in s - blocks_in t
@@ -90,7 +104,7 @@ pub data Outcome : Type 0 where
 
 -- What may become of the index of a directory, by the used bytes that its record has, and would have with an index spread so: a level comes only
 -- where one may be added, and where the record would be too full without it, one comes if it may; of sixteen levels there are no more.
-abbrev pub MayBecome : (ℕ → Option (List Raw)) → List ℕ → Key → Record → ℕ → Tree → (Tree → ℕ → ℕ) → Outcome → Type 0
-MayBecome nodes upper key r used t used_with (Flat s more) = IsSpread nodes upper key t false s more × (most_used < used_with s more → MayAddLevel upper key r used t s (used_with s more) → ⊥)
-MayBecome nodes upper key r used t used_with (Raised s more u further) = IsSpread nodes upper key t false s more × MayAddLevel upper key r used t s (used_with s more) × (levels t < most_levels) × IsSpread nodes upper key t true u further
-MayBecome nodes upper key r used t used_with (TooDeep s more) = IsSpread nodes upper key t false s more × MayAddLevel upper key r used t s (used_with s more) × (levels t ≡ most_levels) × (most_used < used_with s more)
+abbrev pub MayBecome : (ℕ → Option (List Raw)) → List ℕ → ℕ → Key → Record → ℕ → Tree → (Tree → ℕ → ℕ) → Outcome → Type 0
+MayBecome nodes upper room key r used t used_with (Flat s more) = IsSpread nodes upper room key t false s more × (most_used < used_with s more → MayAddLevel upper key r used t s (used_with s more) → ⊥)
+MayBecome nodes upper room key r used t used_with (Raised s more u further) = IsSpread nodes upper room key t false s more × MayAddLevel upper key r used t s (used_with s more) × (levels t < most_levels) × IsSpread nodes upper room key t true u further
+MayBecome nodes upper room key r used t used_with (TooDeep s more) = IsSpread nodes upper room key t false s more × MayAddLevel upper key r used t s (used_with s more) × (levels t ≡ most_levels) × (most_used < used_with s more)

@@ -24,7 +24,6 @@ use Rattle.tree_model.specs.Effects.{numbers_to_take, least_ref}
 use Rattle.tree_model.specs.Steps.{HasStep, step_refusal, IsDone}
 use Rattle.run_model.specs.Runs.{RunStart, IsTurn, next_of}
 use Rattle.run_model.specs.declared.turn.Turn.{Turn}
-use Rattle.step_model.specs.Placing.{Growth}
 use Rattle.step_model.specs.Plans.{Plan, IsPlan, content_rows}
 use Rattle.step_model.specs.Contents.{IsLeft}
 

@@ -1,5 +1,5 @@
 -- Worked rows: clusters that streams take one after the other, and records that a change makes too full.
-use Rattle.std.specs.Prelude.{◌≡◌, ℕ, Bool, true, false, List, [], ◌∷◌, Option, Some, None}
+use Rattle.std.specs.Prelude.{◌≡◌, ℕ, Bool, true, false, List, [], ◌∷◌, Some, None}
 use Rattle.disk_model.specs.Bytes.{zeros}
 use Rattle.record_model.specs.declared.attribute.Attr.{Attr}
 use Rattle.record_model.specs.declared.runs.Run.{Run}
@@ -10,7 +10,6 @@ use Rattle.file_tree.specs.declared.node.Node.{Node}
 use Rattle.stream_laws.specs.Sharing.{StreamKey}
 use Rattle.tree_model.specs.declared.script.Op.{Op}
 use Rattle.tree_model.specs.declared.script.Op.TheVariants as op
-use Rattle.tree_model.specs.declared.reply.Reply.{Reply}
 use Rattle.tree_model.specs.declared.reply.Reply.TheVariants as reply
 use Rattle.step_model.specs.Placing.{Growth, AllPlaced, runs_after}
 use Rattle.step_model.specs.Used.{used_after, new_attr, value_attr}

@@ -1,5 +1,7 @@
 ghost use Rattle.step_model.specs.ContentLaws.{ContentsLeft};
 ghost use Rattle.step_model.specs.Placing.{PlacedOnce};
+ghost use Rattle.step_model.specs.PlanLaws.{PlansPlaced};
+ghost use Rattle.step_model.specs.SpreadLaws.{PlansSpread};
 ghost use Rattle.step_model.specs.StepLaws.{AnswersListed, StepsOfTrees, StepsStay, TurnsOfContents};
 ghost use Rattle.step_model.specs.UsedLaws.{NeverFull, UsedBytes};
 ghost use Rattle.step_model.specs.Worked.{WorkedAnswers, WorkedClusters, WorkedRecords};
@@ -8,6 +10,12 @@ ghost use Rattle.step_model.specs.Worked.{WorkedAnswers, WorkedClusters, WorkedR
 /// clear before and lies in one of them once.
 pub fn placed_once()
     ensures { PlacedOnce }
+{}
+
+/// Law: each stream of an operation's plan has its clusters by the one choice, behind the streams
+/// before it.
+pub fn plans_placed()
+    ensures { PlansPlaced }
 {}
 
 /// Law: the used bytes of a record that would be are a sum over its attributes, each of which takes
@@ -41,6 +49,11 @@ pub fn steps_of_trees()
 /// Law: what an operation takes was no stream's before, and the bodies of a plan leave all others.
 pub fn contents_left()
     ensures { ContentsLeft }
+{}
+
+/// Law: a plan that puts an entry into a directory's index spreads it as an operation may.
+pub fn plans_spread()
+    ensures { PlansSpread }
 {}
 
 /// Law: a step is what a turn takes; a turn of contents is one of their trees; and turns behind

@@ -7,6 +7,7 @@
 mod laws;
 
 pub use laws::{
-    answers_listed, contents_left, never_full, placed_once, steps_of_trees, steps_stay,
-    turns_of_contents, used_bytes, worked_answers, worked_clusters, worked_records,
+    answers_listed, contents_left, never_full, placed_once, plans_placed, plans_spread,
+    steps_of_trees, steps_stay, turns_of_contents, used_bytes, worked_answers, worked_clusters,
+    worked_records,
 };
