@@ -1,5 +1,7 @@
 -- A block is written out, in a write that answers Ok or fails, where no checkpoint has begun.
-use Rattle.std.proofs.Common.{◌≡◌, subst, ℕ, zero, suc, ◌+◌, ◌-◌, ◌*◌, ◌^◌, ◌<◌, ◌≤◌, Bool, true, false, cond, List, [], ◌∷◌, length, drop, get_or, Option, Some, None, Ok, refl, sym, ap, ap₂, ◌∙◌, inl, inr, arith}
+use Rattle.sector_device.proofs.Images.{known_after_write}
+use Rattle.host_base.specs.declared.outside.Failed.{Failed}
+use Rattle.std.proofs.Common.{◌≡◌, subst, ℕ, zero, suc, ◌+◌, ◌-◌, ◌*◌, ◌^◌, ◌<◌, ◌≤◌, Bool, true, false, cond, List, [], ◌∷◌, length, drop, get_or, Option, Some, None, Ok, refl, sym, ap, ap₂, ◌∙◌, inl, inr, arith, Err}
 use Rattle.std.specs.Prelude.{if◌then◌else◌, ◌&&◌, ◌||◌, not, nat_le, is_some, IfSome, unwrap_or, Contains}
 use Rattle.std.proofs.lemmas.Bool.{cases_Bool}
 use Rattle.disk_model.specs.declared.block.Block.{Block}
@@ -19,10 +21,10 @@ use Rattle.log_model.specs.declared.entry.Entry.{Entry}
 use Rattle.log_model.specs.Logs.{first_undo}
 use Rattle.txn_laws.specs.Laws.{SendsBody}
 use Rattle.store_model.specs.Logs.{BodyBytes, undone, has_update}
-use Rattle.store_model.specs.Geometry.{PutsAll}
+use Rattle.store_model.specs.Geometry.{PutsAll, Puts}
 use Rattle.store_model.specs.Stores.{Window, Store, is_held}
-use Rattle.store_model.specs.Events.{reread, MayWriteOut, Spells, written_out, Step}
-use Rattle.store_model.specs.Events.Step.{write_out}
+use Rattle.store_model.specs.Events.{reread, MayWriteOut, Spells, written_out, Step, put_in_part}
+use Rattle.store_model.specs.Events.Step.{write_out, write_out_fails}
 use Rattle.store_model.specs.Rings.{entries_on}
 use Rattle.store_model.specs.Volumes.{is_known, first_bytes, sectors_from, window_of}
 use Rattle.store_model.proofs.Told.{true≢false, or_left, or_right, same_self, rival_apart, rivals_both, rivals_other}
@@ -38,12 +40,12 @@ use Rattle.ring_laws.specs.PageBytes.{page_sector, AreAlike}
 use Rattle.ring_laws.specs.StoreDisks.{disk_without}
 use Rattle.ring_laws.specs.StoreLogs.{LogNumbers}
 use Rattle.ring_laws.proofs.LogSectors.{kept_elsewhere}
-use Rattle.ring_laws.proofs.SeenDisks.{not_own, without_written}
+use Rattle.ring_laws.proofs.SeenDisks.{not_own, without_written, without_failed}
 use Rattle.ring_laws.proofs.StoreEvents.{log_kept}
 use Rattle.area_laws.proofs.Joined.{stays}
 use Rattle.txn_model.specs.declared.mark.Mark.{Mark}
 use Rattle.txn_model.specs.Values.{StoreFacts, own_of}
-use Rattle.txn_model.specs.Calls.{is_ready, is_noted, written_out_facts}
+use Rattle.txn_model.specs.Calls.{is_ready, is_noted, written_out_facts, sent_out_facts}
 use Rattle.txn_laws.specs.Standing.{HasBytes, IsMarked, IsKilled, StandsBehind, session_of, numbers_of}
 use Rattle.txn_laws.specs.Windows.{Simulates, MovesTo}
 use Rattle.txn_laws.proofs.Telling.{by_device, known_before_write, sized_of}
@@ -430,6 +432,163 @@ module _ (f : StoreFacts) (disk : Disk) (m : Store) (b : Block) (x : Body) (kept
         };
       }
 
+  -- ---- the write failed
+
+  abbrev gf : StoreFacts
+  gf = sent_out_facts b f
+
+  abbrev nf : Disk → Store
+  nf now = put_in_part h.geometry m b (disk_without (own_of f) now)
+
+  failed_own : (c : Block) → same_block c b ≡ true → gf.mark c ≡ record (f.mark c) { wet = true; due = (f.mark c).due || is_noted f.mark b }
+  failed_own c same = ap (λ (v : Bool). cond v (record (f.mark c) { wet = true; due = (f.mark c).due || is_noted f.mark b }) (cond (are_rivals b c) (record (f.mark c) { dead = false; owed = false }) (f.mark c))) same
+
+  failed_rival : (c : Block) → same_block c b ≡ false → are_rivals b c ≡ true → gf.mark c ≡ record (f.mark c) { dead = false; owed = false }
+  failed_rival c none rival =
+      ap₂ (λ (v : Bool) (u : Bool). cond v (record (f.mark c) { wet = true; due = (f.mark c).due || is_noted f.mark b }) (cond u (record (f.mark c) { dead = false; owed = false }) (f.mark c))) none rival
+
+  failed_other : (c : Block) → same_block c b ≡ false → are_rivals b c ≡ false → gf.mark c ≡ f.mark c
+  failed_other c none away =
+      ap₂ (λ (v : Bool) (u : Bool). cond v (record (f.mark c) { wet = true; due = (f.mark c).due || is_noted f.mark b }) (cond u (record (f.mark c) { dead = false; owed = false }) (f.mark c))) none away
+
+  failed_mark : {X : Type 0} (of : Mark → X) → ((y : Mark) (due : Bool) → of (record y { wet = true; due = due }) ≡ of y) → ((y : Mark) → of (record y { dead = false; owed = false }) ≡ of y)
+      → (c : Block) → of (gf.mark c) ≡ of (f.mark c)
+  failed_mark of own rival = by_block (λ c. of (gf.mark c) ≡ of (f.mark c))
+      (λ c same. ap of (failed_own c same) ∙ own (f.mark c) ((f.mark c).due || is_noted f.mark b))
+      (λ c none is. ap of (failed_rival c none is) ∙ rival (f.mark c))
+      (λ c none away. ap of (failed_other c none away))
+
+  failed_dirty : (c : Block) → (gf.mark c).dirty ≡ (f.mark c).dirty
+  failed_dirty = failed_mark (λ (y : Mark). y.dirty) (λ y due. refl) (λ y. refl)
+
+  dirty_still : (now : Disk) (c : Block) → (nf now).dirty c ≡ ((gf.mark c).dirty && h.geometry.has_spelling c ((nf now).window.body c))
+  dirty_still now c = by_value (are_rivals b c) refl
+    where
+      by_value : (v : Bool) → are_rivals b c ≡ v → (nf now).dirty c ≡ ((gf.mark c).dirty && h.geometry.has_spelling c ((nf now).window.body c))
+      by_value true is = not_dirty c is ∙ sym (ap (λ (v : Bool). v && h.geometry.has_spelling c ((nf now).window.body c)) (failed_dirty c ∙ h.marks.lone b c is parts.dirty))
+      by_value false away =
+          h.marks.dirty c ∙ ap₂ (λ (v : Bool) (bytes : BodyBytes). v && h.geometry.has_spelling c bytes) (sym (failed_dirty c)) (sym (same_body (disk_without (own_of f) now) c away))
+
+  dead_still : (now : Disk) (c : Block) → (nf now).dead c ≡ ((gf.mark c).dead && h.geometry.has_spelling c ((nf now).window.body c))
+  dead_still now = by_block (λ c. (nf now).dead c ≡ ((gf.mark c).dead && h.geometry.has_spelling c ((nf now).window.body c)))
+      (λ c same. ap (λ (v : Bool). not v && m.dead c) (away_own c same) ∙ h.marks.dead c
+      ∙ ap₂ (λ (y : Bool) (bytes : BodyBytes). y && h.geometry.has_spelling c bytes) (sym (ap (λ (y : Mark). y.dead) (failed_own c same))) (sym (same_body (disk_without (own_of f) now) c (away_own c same))))
+      (λ c none is. ap (λ (v : Bool). not v && m.dead c) is ∙ sym (ap (λ (y : Mark). y.dead && h.geometry.has_spelling c ((nf now).window.body c)) (failed_rival c none is)))
+      (λ c none away. ap (λ (v : Bool). not v && m.dead c) away ∙ h.marks.dead c
+      ∙ ap₂ (λ (y : Mark) (bytes : BodyBytes). y.dead && h.geometry.has_spelling c bytes) (sym (failed_other c none away)) (sym (same_body (disk_without (own_of f) now) c away)))
+
+  kept_still : (c : Block) → is_some (gf.body c) ≡ ((gf.mark c).dirty || (gf.mark c).dead)
+  kept_still = by_block (λ c. is_some (gf.body c) ≡ ((gf.mark c).dirty || (gf.mark c).dead))
+      (λ c same. ap (λ (v : Bool). is_some (cond v None (f.body c))) (away_own c same) ∙ h.marks.kept c ∙ sym (ap (λ (y : Mark). y.dirty || y.dead) (failed_own c same)))
+      (λ c none is. ap (λ (v : Bool). is_some (cond v None (f.body c))) is
+      ∙ sym (ap (λ (y : Mark). y.dirty || y.dead) (failed_rival c none is) ∙ ap (λ (v : Bool). v || false) (h.marks.lone b c is parts.dirty)))
+      (λ c none away. ap (λ (v : Bool). is_some (cond v None (f.body c))) away ∙ h.marks.kept c ∙ sym (ap (λ (y : Mark). y.dirty || y.dead) (failed_other c none away)))
+
+  apart_still : (c : Block) → (gf.mark c).dead ≡ true → (gf.mark c).dirty ≡ false
+  apart_still = by_block (λ c. (gf.mark c).dead ≡ true → (gf.mark c).dirty ≡ false)
+      (λ c same dead. failed_dirty c ∙ h.marks.apart c (sym (ap (λ (y : Mark). y.dead) (failed_own c same)) ∙ dead))
+      (λ c none is dead. absurd (true≢false (sym dead ∙ ap (λ (y : Mark). y.dead) (failed_rival c none is))))
+      (λ c none away dead. failed_dirty c ∙ h.marks.apart c (sym (ap (λ (y : Mark). y.dead) (failed_other c none away)) ∙ dead))
+
+  some_still : (c : Block) → is_some (gf.body c) ≡ true → is_some (f.body c) ≡ true
+  some_still c is = by_value (are_rivals b c) refl
+    where
+      by_value : (v : Bool) → are_rivals b c ≡ v → is_some (f.body c) ≡ true
+      by_value true e = absurd (true≢false (sym is ∙ ap (λ (v : Bool). is_some (cond v None (f.body c))) e))
+      by_value false e = sym (ap (λ (v : Bool). is_some (cond v None (f.body c))) e) ∙ is
+
+  failed_wet : (c : Block) → (f.mark c).wet ≡ true → (gf.mark c).wet ≡ true
+  failed_wet = by_block (λ c. (f.mark c).wet ≡ true → (gf.mark c).wet ≡ true)
+      (λ c same is. ap (λ (y : Mark). y.wet) (failed_own c same))
+      (λ c none rival is. ap (λ (y : Mark). y.wet) (failed_rival c none rival) ∙ is)
+      (λ c none away is. ap (λ (y : Mark). y.wet) (failed_other c none away) ∙ is)
+
+  failed_marked : (c : Block) → IsMarked (λ (y : Mark). y.wet) f c → IsMarked (λ (y : Mark). y.wet) gf c
+  failed_marked c (inl is) = inl (failed_wet c is)
+  failed_marked c (inr y) = inr (y.0, y.1, failed_wet y.0 y.2)
+
+  wet_still_marked : (now : Disk) (c : Block) → (nf now).wet c ≡ true → IsMarked (λ (y : Mark). y.wet) gf c
+  wet_still_marked now c is = by_value (are_rivals b c) refl
+    where
+      by_value : (v : Bool) → are_rivals b c ≡ v → IsMarked (λ (y : Mark). y.wet) gf c
+      by_value true rival = inr (b, rival, ap (λ (y : Mark). y.wet) (failed_own b (same_self b)))
+      by_value false away = failed_marked c (h.marks.wet c (sym (ap (λ (v : Bool). v || m.wet c) away) ∙ is))
+
+  body_still : (now : Disk) (c : Block) → IfSome (gf.body c) (HasBytes c ((nf now).window.body c) ((nf now).window.is_torn c))
+  body_still now c = by_value (are_rivals b c) refl
+    where
+      by_value : (v : Bool) → are_rivals b c ≡ v → IfSome (gf.body c) (HasBytes c ((nf now).window.body c) ((nf now).window.is_torn c))
+      by_value true e = subst (λ (v : Bool). IfSome (cond v None (f.body c)) (HasBytes c ((nf now).window.body c) ((nf now).window.is_torn c))) (sym e) tt
+      by_value false e =
+          subst (λ (v : Bool). IfSome (cond v None (f.body c)) (HasBytes c ((nf now).window.body c) ((nf now).window.is_torn c))) (sym e) (body_kept (disk_without (own_of f) now) c e)
+
+  failed_puts : (check : ℕ) (now : Disk) → IsBetween disk (put b.first (new check) disk) now → Puts h.geometry b (sectors_from b.first (new check)) m.disk (disk_without (own_of f) now)
+  failed_puts check now part = subst (λ (d : Disk). Puts h.geometry b (sectors_from b.first (new check)) d (disk_without (own_of f) now)) (sym h.same)
+      (without_failed (own_of f) h.geometry h.volume b (new check) known (sized_new check) disk now part)
+
+  abbrev failed_step : (check : ℕ) (now : Disk) → IsBetween disk (put b.first (new check) disk) now → Step h.geometry m (nf now)
+  failed_step check now part = write_out_fails b (sectors_from b.first (new check)) (disk_without (own_of f) now) may (failed_puts check now part)
+
+  pub goes_badly : (check : ℕ) → f.noted ≡ None → (now : Disk) → IsBetween disk (put b.first (sectors_of (spelled b.kind check x.bytes)) disk) now → IsSized now
+      → (n : Store) × StandsBehind (sent_out_facts b f) now n × MovesTo (are_rivals b) (window_of m.window) (window_of n.window)
+  goes_badly check unnoted now part sized = (nf now, stands, moves)
+    where
+      moves : MovesTo (are_rivals b) (window_of m.window) (window_of (nf now).window)
+      moves = record {
+        is_open = refl;
+        waiting = omega arith;
+        present = λ c none. ap₂ (λ (bytes : BodyBytes) (t : Bool). record { bytes = first_bytes (512 * sectors c.kind) bytes; torn = t }) (same_body (disk_without (own_of f) now) c none) (same_torn (disk_without (own_of f) now) c none);
+        others = λ k le c none. subst (λ (j : ℕ). (window_of (nf now).window).before j c ≡ (window_of m.window).before k c) (let e : 0 + k ≡ k = omega arith in e)
+            (windows_move_law.members h.geometry m (nf now) (failed_step check now part) c none k (omega (arith, le))).1;
+      }
+
+      not_begun : m.begun ≡ true → ⊥
+      not_begun begun = true≢false (sym begun ∙ h.by_pages.begun ∙ ap (λ (o : Option ℕ). is_some o) unnoted)
+
+      stands : StandsBehind gf now (nf now)
+      stands = record {
+        geometry = h.geometry;
+        volume = h.volume;
+        lap = h.lap;
+        ring = h.ring;
+        pages = h.pages;
+        restarts = h.restarts;
+        fields = h.fields;
+        noted = h.noted;
+        stands = stays s f.log h.ring h.restarts h.pages h.fields disk now h.stands (alike check now part);
+        holds = log_kept s l m disk h.holds (nf now) now
+            (record { log_is = refl; synced_is = refl; done_is = refl; sent_is = refl; place_is = refl; begun_is = refl; renamed_is = refl; replaced_is = refl }) (alike check now part);
+        below = h.below;
+        same = refl;
+        sized = sized;
+        sound = sound-step h.geometry m (nf now) (failed_step check now part) h.sound;
+        window = record { is_open = h.window.is_open; tx = h.window.tx; waiting = h.window.waiting; body = body_still now; changed = h.window.changed; before = λ c. before_kept (disk_without (own_of f) now) c (f.before c) refl };
+        marks = record {
+          dirty = dirty_still now;
+          dead = dead_still now;
+          kept = kept_still;
+          apart = apart_still;
+          lone = λ c d rival is. failed_dirty d ∙ h.marks.lone c d rival (sym (failed_dirty c) ∙ is);
+          known = λ c is. h.marks.known c (some_still c is);
+          changed = λ c is. failed_dirty c ∙ h.marks.changed c is;
+          wet = wet_still_marked now;
+          owed = λ begun c is. absurd (not_begun begun);
+          due = λ begun c is. absurd (not_begun begun);
+        };
+        by_pages = record {
+          some = h.by_pages.some;
+          imaged = λ c is. let y = h.by_pages.imaged c (sym (failed_mark (λ (y : Mark). y.imaged) (λ y due. refl) (λ y. refl) c) ∙ is) in
+              (record { has = y.0.has; last = y.0.last }, λ e. record { has = (y.1 e).has; last = (y.1 e).last });
+          until = λ c k lt has. subst (λ (u : ℕ). h.ring.oldest + suc k ≤ u) (sym (failed_mark (λ (y : Mark). y.until) (λ y due. refl) (λ y. refl) c)) (h.by_pages.until c k lt has);
+          commit = λ c k lt has. subst (λ (u : ℕ). f.commits ≤ k + u) (sym (failed_mark (λ (y : Mark). y.commit) (λ y due. refl) (λ y. refl) c)) (h.by_pages.commit c k lt has);
+          killed = λ c dead. subst (λ (k : ℕ). IsKilled h.pages h.ring.oldest k c) (sym (failed_mark (λ (y : Mark). y.killed) (λ y due. refl) (λ y. refl) c))
+              (h.by_pages.killed c (and_right (not (are_rivals b c)) (m.dead c) dead));
+          counted = h.by_pages.counted;
+          ends = h.by_pages.ends;
+          begun = h.by_pages.begun;
+        };
+      }
+
 -- ---- the call
 
 pub is_written_out : {D : Type 0} (gives : D → Option (List (List ℕ))) (changes : D → Changes) (moment : D → ℕ) (count begun check : ℕ) (f : StoreFacts) (b : Block) (x : Body) (old new : D)
@@ -443,3 +602,14 @@ is_written_out gives changes moment count begun check f b x old new kept ready s
     let known : (changes new).disk ≡ Some now = sent.writes.ok ∙ ap (option_map (put b.first (sectors_of (spelled b.kind check x.bytes)))) is in
     let it = goes_out f disk m b x kept ready spells h check small unnoted now refl (sized_of (changes new) now known sized) in
     (now, known, it.0, it.1, it.2))
+
+pub is_not_written_out : {D : Type 0} (gives : D → Option (List (List ℕ))) (changes : D → Changes) (moment : D → ℕ) (count begun check : ℕ) (f : StoreFacts) (b : Block) (x : Body) (old new : D)
+    → f.body b ≡ Some x → is_ready f b ≡ true → has_spelling b.kind x.bytes ≡ true → f.noted ≡ None → IfSome (changes new).disk IsSized → moment old ≤ begun
+    → (fault : Failed) → SendsBody gives changes moment begun b x.bytes check (Err fault) old new → Simulates count (moment old) (changes old) (changes new) f (sent_out_facts b f) (MovesTo (are_rivals b))
+is_not_written_out gives changes moment count begun check f b x old new kept ready spells unnoted sized later fault sent =
+    by_device count (moment old) begun (changes old) (changes new) f (sent_out_facts b f) (MovesTo (are_rivals b)) refl refl
+    (known_before_write _ _ _ _ (changes old) (changes new) sent.writes) later sent.writes.past
+    (λ disk m is h.
+        let now = known_after_write _ _ _ _ (changes old) (changes new) disk sent.writes is in
+        let it = goes_badly f disk m b x kept ready spells h check unnoted now.0 now.2 (sized_of (changes new) now.0 now.1 sized) in
+        (now.0, now.1, it.0, it.1, it.2))

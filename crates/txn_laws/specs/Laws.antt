@@ -15,7 +15,7 @@ use Rattle.store_model.specs.Volumes.{is_known, ContentWindow}
 use Rattle.area_laws.specs.Laws.{SendsNext}
 use Rattle.txn_model.specs.Values.{StoreFacts, own_of}
 use Rattle.txn_model.specs.Pieces.{next_entry}
-use Rattle.txn_model.specs.Calls.{begun_facts, committed_facts, given_up_facts, change_acts, changed_facts, sealed_facts, written_facts, sent_facts, is_buried, synced_facts, is_ready, written_out_facts}
+use Rattle.txn_model.specs.Calls.{begun_facts, committed_facts, given_up_facts, change_acts, changed_facts, sealed_facts, written_facts, sent_facts, is_buried, synced_facts, is_ready, written_out_facts, sent_out_facts}
 use Rattle.txn_laws.specs.Appending.{MayAppend, MayAppendAll}
 use Rattle.txn_laws.specs.Windows.{HasMachine, HasWindow, RecoversWithin, Simulates, AfterBegin, AfterChange, AfterCommit, AfterGiveUp, AfterWrite, MovesTo}
 
@@ -80,3 +80,7 @@ pub record DeviceSteps {D : Type 0} (gives : D → Option (List (List ℕ))) (ch
   pub write_out : (count begun check : ℕ) (f : StoreFacts) (b : Block) (x : Body) (old new : D) → f.body b ≡ Some x → is_ready f b ≡ true → has_spelling b.kind x.bytes ≡ true → check < 2 ^ 16 → f.noted ≡ None
       → IfSome (changes new).disk IsSized → moment old ≤ begun → SendsBody gives changes moment begun b x.bytes check (Ok tt) old new
       → Simulates count (moment old) (changes old) (changes new) f (written_out_facts b f) (MovesTo (are_rivals b))
+  -- its write failed: it may have reached any of its sectors, and stays dirty
+  pub write_out_fails : (count begun check : ℕ) (f : StoreFacts) (b : Block) (x : Body) (old new : D) → f.body b ≡ Some x → is_ready f b ≡ true → has_spelling b.kind x.bytes ≡ true → f.noted ≡ None
+      → IfSome (changes new).disk IsSized → moment old ≤ begun → (fault : Failed) → SendsBody gives changes moment begun b x.bytes check (Err fault) old new
+      → Simulates count (moment old) (changes old) (changes new) f (sent_out_facts b f) (MovesTo (are_rivals b))
