@@ -9,3 +9,4 @@ pub mod WriteOuts
 pub mod Cutting
 pub mod Chains
 pub mod Changes
+pub mod Agains

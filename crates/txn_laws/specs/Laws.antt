@@ -1,5 +1,5 @@
 -- The laws of a store's calls.
-use Rattle.std.specs.Prelude.{◌≡◌, ℕ, ◌+◌, ◌*◌, ◌^◌, ◌<◌, ◌≤◌, true, false, List, length, Option, Some, None, Result, Ok, Err, IfSome, unwrap_or}
+use Rattle.std.specs.Prelude.{◌≡◌, ℕ, ◌+◌, ◌*◌, ◌^◌, ◌<◌, ◌≤◌, true, false, List, length, Option, Some, None, Result, Ok, Err, IfSome, is_some, unwrap_or}
 use Rattle.host_base.specs.declared.outside.Failed.{Failed}
 use Rattle.disk_model.specs.declared.block.Block.{Block}
 use Rattle.disk_model.specs.declared.block.Body.{Body}
@@ -7,15 +7,16 @@ use Rattle.disk_model.specs.Bytes.{written}
 use Rattle.disk_model.specs.Sectors.{sector_of, sectors, are_rivals}
 use Rattle.disk_model.specs.Content.{content_of}
 use Rattle.fixup_record.specs.Spellings.{has_spelling, spelled}
-use Rattle.sector_device.specs.Disks.{IsSized, SeesDisk}
+use Rattle.sector_device.specs.Disks.{IsSized, SeesDisk, is_within}
+use Rattle.sector_device.specs.Sectors.{sectors_of}
 use Rattle.sector_device.specs.Moments.{Changes, Syncs, MayLeaveNow}
 use Rattle.log_model.specs.declared.entry.Act.TheVariants.{Commit}
 use Rattle.log_area.specs.Calls.{IsAsked, Sends}
-use Rattle.store_model.specs.Volumes.{is_known, ContentWindow}
+use Rattle.store_model.specs.Volumes.{is_known, sectors_from, ContentWindow}
 use Rattle.area_laws.specs.Laws.{SendsNext}
 use Rattle.txn_model.specs.Values.{StoreFacts, own_of}
 use Rattle.txn_model.specs.Pieces.{next_entry}
-use Rattle.txn_model.specs.Calls.{begun_facts, committed_facts, given_up_facts, change_acts, changed_facts, sealed_facts, written_facts, sent_facts, is_buried, synced_facts, is_ready, written_out_facts, sent_out_facts}
+use Rattle.txn_model.specs.Calls.{begun_facts, committed_facts, given_up_facts, change_acts, changed_facts, sealed_facts, written_facts, sent_facts, is_buried, synced_facts, is_ready, written_out_facts, sent_out_facts, again_facts}
 use Rattle.txn_laws.specs.Appending.{MayAppend, MayAppendAll}
 use Rattle.txn_laws.specs.Windows.{HasMachine, HasWindow, RecoversWithin, Simulates, AfterBegin, AfterChange, AfterCommit, AfterGiveUp, AfterWrite, MovesTo}
 
@@ -63,6 +64,19 @@ SyncsNow changes moment result old new = Syncs (moment old) result (changes old)
 abbrev pub SendsBody : {D : Type 0} → (D → Option (List (List ℕ))) → (D → Changes) → (D → ℕ) → ℕ → Block → List ℕ → ℕ → Result (Unit {0}) Failed → D → D → Type 0
 SendsBody gives changes moment begun b bytes check result old new = Sends gives changes moment begun b.first (spelled b.kind check bytes) result old new
 
+-- the bytes of the block's sectors are sent to them
+abbrev pub SendsAgain : {D : Type 0} → (D → Option (List (List ℕ))) → (D → Changes) → (D → ℕ) → ℕ → Block → List ℕ → Result (Unit {0}) Failed → D → D → Type 0
+SendsAgain gives changes moment begun b bytes result old new = Sends gives changes moment begun b.first bytes result old new
+
+-- A body without a spelling that a give-up brought back, over sectors that have these bytes.
+pub record StandsThere (gives : Option (List (List ℕ))) (f : StoreFacts) (b : Block) (x : Body) (bytes : List ℕ) : Type 0 where
+  pub kept : f.body b ≡ Some x
+  pub dirty : (f.mark b).dirty ≡ true
+  pub free : is_some (f.before b) ≡ false
+  pub bare : has_spelling b.kind x.bytes ≡ false
+  pub size : length bytes ≡ 512 * sectors b.kind
+  pub same : (n : ℕ) → is_within b.first (sectors b.kind) n ≡ true → IfSome gives (λ d. sectors_from b.first (sectors_of bytes) n ≡ sector_of d n)
+
 -- Calls of a device, of which these are the words of its contract.
 pub record DeviceSteps {D : Type 0} (gives : D → Option (List (List ℕ))) (changes : D → Changes) (moment : D → ℕ) : Type 0 where
   -- what reads alone leaves the window
@@ -84,3 +98,8 @@ pub record DeviceSteps {D : Type 0} (gives : D → Option (List (List ℕ))) (ch
   pub write_out_fails : (count begun check : ℕ) (f : StoreFacts) (b : Block) (x : Body) (old new : D) → f.body b ≡ Some x → is_ready f b ≡ true → has_spelling b.kind x.bytes ≡ true → f.noted ≡ None
       → IfSome (changes new).disk IsSized → moment old ≤ begun → (fault : Failed) → SendsBody gives changes moment begun b x.bytes check (Err fault) old new
       → Simulates count (moment old) (changes old) (changes new) f (sent_out_facts b f) (MovesTo (are_rivals b))
+  -- a body without a spelling: its sectors were written as they stand, in a write that answered Ok, or failed
+  pub again : (count begun : ℕ) (f : StoreFacts) (b : Block) (x : Body) (bytes : List ℕ) (old new : D) → StandsThere (gives old) f b x bytes → SeesDisk (gives old) (changes old).disk → IfSome (changes new).disk IsSized
+      → moment old ≤ begun → SendsAgain gives changes moment begun b bytes (Ok tt) old new → Simulates count (moment old) (changes old) (changes new) f (again_facts b f) AfterWrite
+  pub again_fails : (count begun : ℕ) (f : StoreFacts) (b : Block) (x : Body) (bytes : List ℕ) (old new : D) → StandsThere (gives old) f b x bytes → SeesDisk (gives old) (changes old).disk → IfSome (changes new).disk IsSized
+      → moment old ≤ begun → (fault : Failed) → SendsAgain gives changes moment begun b bytes (Err fault) old new → Simulates count (moment old) (changes old) (changes new) f f AfterWrite

@@ -3,6 +3,7 @@ use Rattle.txn_laws.proofs.Telling.{by_read, sync_fails}
 use Rattle.txn_laws.proofs.PageWrites.{page_goes_out, page_goes_badly}
 use Rattle.txn_laws.proofs.Syncs.{is_synced}
 use Rattle.txn_laws.proofs.WriteOuts.{is_written_out, is_not_written_out}
+use Rattle.txn_laws.proofs.Agains.{is_written_again, is_not_written_again}
 use Rattle.txn_laws.proofs.laws.device_steps.Goals as goal
 
 pub returns : goal.returns
@@ -14,4 +15,6 @@ returns g c = record {
   sync_fails = λ count f old new fault syncs. sync_fails count _ fault _ _ f syncs;
   write_out = λ count begun check f b x old new kept ready spells small unnoted sized later sent. is_written_out _ _ _ count begun check f b x old new kept ready spells small unnoted sized later sent;
   write_out_fails = λ count begun check f b x old new kept ready spells unnoted sized later fault sent. is_not_written_out _ _ _ count begun check f b x old new kept ready spells unnoted sized later fault sent;
+  again = λ count begun f b x bytes old new there sees sized later sent. is_written_again _ _ _ count begun f b x bytes old new there.kept there.dirty there.free there.bare there.size sees there.same sized later sent;
+  again_fails = λ count begun f b x bytes old new there sees sized later fault sent. is_not_written_again _ _ _ count begun f b x bytes old new there.kept there.dirty there.free there.bare there.size sees there.same sized later fault sent;
 }
