@@ -53,7 +53,7 @@ use Rattle.txn_laws.proofs.Cutting.{IsPiece, cut_within, Has, cut_has, cut_some,
 use Rattle.txn_laws.proofs.Chains.{by_all, by_some, by_page, by_killed, Chained, chain}
 
 -- a disk of whole sectors is read as such
-seen_whole : (disk : Disk) → IsSized disk → AreWhole (seen disk)
+pub seen_whole : (disk : Disk) → IsSized disk → AreWhole (seen disk)
 seen_whole disk sized n = by_hold (holds_seen disk n)
   where
     by_hold : MayHold disk n (seen disk n) → length (seen disk n) ≡ 512

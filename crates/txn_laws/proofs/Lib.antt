@@ -10,3 +10,4 @@ pub mod Cutting
 pub mod Chains
 pub mod Changes
 pub mod Agains
+pub mod Starts

@@ -1,5 +1,5 @@
 -- The laws of a store's calls.
-use Rattle.std.specs.Prelude.{◌≡◌, ℕ, ◌+◌, ◌*◌, ◌^◌, ◌<◌, ◌≤◌, true, false, List, length, Option, Some, None, Result, Ok, Err, IfSome, is_some, unwrap_or}
+use Rattle.std.specs.Prelude.{◌≡◌, ℕ, ◌+◌, ◌*◌, ◌^◌, ◌<◌, ◌≤◌, true, false, List, [], length, Option, Some, None, Result, Ok, Err, IfSome, is_some, unwrap_or}
 use Rattle.host_base.specs.declared.outside.Failed.{Failed}
 use Rattle.disk_model.specs.declared.block.Block.{Block}
 use Rattle.disk_model.specs.declared.block.Body.{Body}
@@ -7,18 +7,25 @@ use Rattle.disk_model.specs.Bytes.{written}
 use Rattle.disk_model.specs.Sectors.{sector_of, sectors, are_rivals}
 use Rattle.disk_model.specs.Content.{content_of}
 use Rattle.fixup_record.specs.Spellings.{has_spelling, spelled}
-use Rattle.sector_device.specs.Disks.{IsSized, SeesDisk, is_within}
+use Rattle.sector_device.specs.Disks.{Disk, IsSettled, IsSized, SeesDisk, is_within, seen}
 use Rattle.sector_device.specs.Sectors.{sectors_of}
 use Rattle.sector_device.specs.Moments.{Changes, Syncs, MayLeaveNow}
 use Rattle.log_model.specs.declared.entry.Act.TheVariants.{Commit}
 use Rattle.log_area.specs.Calls.{IsAsked, Sends}
 use Rattle.store_model.specs.Volumes.{is_known, sectors_from, ContentWindow}
+use Rattle.log_page.specs.declared.places.LogPlace.{LogPlace}
+use Rattle.log_page.specs.declared.restart.Restart.{Restart}
+use Rattle.log_area.specs.Areas.{LogAreaOf}
+use Rattle.store_model.specs.Rings.{Ring, Restarts}
+use Rattle.ring_laws.specs.Numbers.{lsn_of_page}
+use Rattle.ring_laws.specs.RestartPages.{RestartFields}
+use Rattle.area_laws.specs.Standing.{Stands}
 use Rattle.area_laws.specs.Laws.{SendsNext}
 use Rattle.txn_model.specs.Values.{StoreFacts, own_of}
 use Rattle.txn_model.specs.Pieces.{next_entry}
-use Rattle.txn_model.specs.Calls.{begun_facts, committed_facts, given_up_facts, change_acts, changed_facts, sealed_facts, written_facts, sent_facts, is_buried, synced_facts, is_ready, written_out_facts, sent_out_facts, again_facts}
+use Rattle.txn_model.specs.Calls.{first_facts, begun_facts, committed_facts, given_up_facts, change_acts, changed_facts, sealed_facts, written_facts, sent_facts, is_buried, synced_facts, is_ready, written_out_facts, sent_out_facts, again_facts}
 use Rattle.txn_laws.specs.Appending.{MayAppend, MayAppendAll}
-use Rattle.txn_laws.specs.Windows.{HasMachine, HasWindow, RecoversWithin, Simulates, AfterBegin, AfterChange, AfterCommit, AfterGiveUp, AfterWrite, MovesTo}
+use Rattle.txn_laws.specs.Windows.{HasMachine, HasWindow, HasStart, RecoversWithin, Simulates, AfterBegin, AfterChange, AfterCommit, AfterGiveUp, AfterWrite, MovesTo}
 
 -- What a window says.
 pub record WindowsTell : Type 0 where
@@ -29,6 +36,12 @@ pub record WindowsTell : Type 0 where
   pub is_open : (changes : Changes) (f : StoreFacts) (w : ContentWindow) → HasWindow changes f w → w.is_open ≡ f.is_open
   -- and a machine stands behind the store
   pub machine : (changes : Changes) (f : StoreFacts) (w : ContentWindow) → HasWindow changes f w → HasMachine changes f
+
+-- A store begins on a settled device whose log stands without entries, where the last durable restart page names the ring's oldest page and no other one was begun.
+pub record StoresStart : Type 0 where
+  pub start : (changes : Changes) (place : LogPlace) (log : LogAreaOf) (found : List Block) (lap : ℕ) (r : Ring) (q : Restarts) (fields : RestartFields) (disk : Disk) (own : Restart) → changes.disk ≡ Some disk
+      → Stands (record { place = place; lap = lap }) log r q [] fields disk → q.begun ≡ false → fields q.sure ≡ Some own → own.oldest ≡ lsn_of_page (record { place = place; lap = lap }) r.oldest
+      → IsSettled disk → IsSized disk → HasStart changes (first_facts place log found) (content_of (seen disk))
 
 -- The open transaction may change the block in this way, where this is its present body: the bytes fit, the body after them has a spelling, no rival of the block was
 -- changed by the transaction, and the log has room.

@@ -3,7 +3,7 @@ use Rattle.std.specs.Prelude.{◌≡◌, ◌⊎◌, ℕ, suc, ◌≤◌, Bool, t
 use Rattle.disk_model.specs.declared.block.Block.{Block}
 use Rattle.disk_model.specs.Bytes.{written}
 use Rattle.disk_model.specs.Sectors.{sector_of, same_block}
-use Rattle.disk_model.specs.Content.{content_of}
+use Rattle.disk_model.specs.Content.{Content, content_of}
 use Rattle.fixup_record.specs.Spellings.{has_spelling}
 use Rattle.sector_device.specs.Disks.{Disk}
 use Rattle.sector_device.specs.Moments.{Changes, LeftSince}
@@ -27,6 +27,14 @@ HasMachine changes f = (disk : Disk) → changes.disk ≡ Some disk → (m : Sto
 -- the disk is known, and this is the window of a machine that stands behind the store
 abbrev pub HasWindow : Changes → StoreFacts → ContentWindow → Type 0
 HasWindow changes f w = (disk : Disk) × (changes.disk ≡ Some disk) × (m : Store) × StandsBehind f disk m × (window_of m.window ≡ w)
+
+-- The store has a window whose present content is this one, with no transaction open and no commit that isn't durable.
+pub record HasStart (changes : Changes) (f : StoreFacts) (content : Content) : Type 0 where
+  pub window : ContentWindow
+  pub has : HasWindow changes f window
+  pub closed : window.is_open ≡ false
+  pub none : window.waiting ≡ 0
+  pub present : (b : Block) → window.present b ≡ content b
 
 -- Recovery of the image chooses a restart page, reads a list of entries from its oldest place on, and no entry of another shape; it refuses the list for no block
 -- that is covered in part, and for no body that has no spelling; and it leaves the known blocks that the list doesn't shadow as they are so many commits back.

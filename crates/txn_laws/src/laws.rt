@@ -1,4 +1,4 @@
-ghost use Rattle.txn_laws.specs.Laws.{DeviceSteps, MemoryCalls, WindowsTell};
+ghost use Rattle.txn_laws.specs.Laws.{DeviceSteps, MemoryCalls, StoresStart, WindowsTell};
 
 use sector_device::Device;
 
@@ -6,6 +6,12 @@ use sector_device::Device;
 /// which as many commits wait as aren't known durable.
 pub fn windows_tell()
     ensures { WindowsTell }
+{}
+
+/// Law: a store on a settled device whose log has no entries has a window, whose present content is
+/// what reads give.
+pub fn stores_start()
+    ensures { StoresStart }
 {}
 
 /// Law: each call in memory leaves a store whose window follows the one before.
