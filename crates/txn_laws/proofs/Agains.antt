@@ -1,11 +1,11 @@
 -- A block that a give-up brought back, and whose body has no spelling, is written as its sectors stand.
-use Rattle.std.proofs.Common.{◌≡◌, ◌≢◌, ◌⊎◌, subst, ℕ, suc, ◌+◌, ◌-◌, ◌*◌, ◌<◌, ◌≤◌, Bool, true, false, cond, List, [], length, Option, Some, None, Ok, Err, refl, sym, ap, ap₂, ◌∙◌, inl, inr, arith}
-use Rattle.std.specs.Prelude.{◌&&◌, ◌||◌, is_some, IfSome, Result}
+use Rattle.std.proofs.Common.{◌≡◌, subst, ℕ, suc, ◌+◌, ◌*◌, ◌<◌, ◌≤◌, Bool, true, false, cond, List, length, Option, Some, None, Ok, Err, refl, sym, ap, ap₂, ◌∙◌, inl, inr, arith}
+use Rattle.std.specs.Prelude.{◌&&◌, ◌||◌, is_some, IfSome}
 use Rattle.std.proofs.lemmas.Bool.{cases_Bool}
 use Rattle.host_base.specs.declared.outside.Failed.{Failed}
 use Rattle.disk_model.specs.declared.block.Block.{Block}
 use Rattle.disk_model.specs.declared.block.Body.{Body}
-use Rattle.disk_model.specs.Sectors.{sector_of, sectors, same_block, are_rivals}
+use Rattle.disk_model.specs.Sectors.{sector_of, sectors, same_block}
 use Rattle.disk_model.proofs.Frames.{same_block-is}
 use Rattle.fixup_record.specs.Spellings.{has_spelling}
 use Rattle.sector_device.specs.Disks.{Disk, IsSized, IsBetween, SeesDisk, put, seen, is_within}
@@ -13,10 +13,10 @@ use Rattle.sector_device.specs.Moments.{Changes}
 use Rattle.sector_device.specs.Sectors.{sectors_of}
 use Rattle.sector_device.specs.WholeSectors.{length-sectors_of}
 use Rattle.sector_device.proofs.Images.{known_after_write}
-use Rattle.store_model.specs.Stores.{Window, Store}
-use Rattle.store_model.specs.Events.{StandsAs, Step}
+use Rattle.store_model.specs.Stores.{Store}
+use Rattle.store_model.specs.Events.{StandsAs}
 use Rattle.store_model.specs.Events.Step.{write_again}
-use Rattle.store_model.specs.Volumes.{is_known, first_bytes, sectors_from, window_of}
+use Rattle.store_model.specs.Volumes.{is_known, sectors_from}
 use Rattle.store_model.proofs.Told.{true≢false, same_self}
 use Rattle.store_model.proofs.Known.{is_in}
 use Rattle.store_model.proofs.Devices.{again_is}
@@ -32,7 +32,7 @@ use Rattle.area_laws.proofs.Joined.{stays}
 use Rattle.txn_model.specs.declared.mark.Mark.{Mark}
 use Rattle.txn_model.specs.Values.{StoreFacts, own_of}
 use Rattle.txn_model.specs.Calls.{again_facts}
-use Rattle.txn_laws.specs.Standing.{HasBytes, IsMarked, IsImaged, IsKilled, StandsBehind, session_of, numbers_of}
+use Rattle.txn_laws.specs.Standing.{HasBytes, IsMarked, IsKilled, StandsBehind, session_of, numbers_of}
 use Rattle.txn_laws.specs.Windows.{Simulates, AfterWrite}
 use Rattle.txn_laws.specs.Laws.{SendsAgain}
 use Rattle.txn_laws.proofs.Telling.{by_device, known_before_write, sized_of}
@@ -225,14 +225,14 @@ module _ {D : Type 0} (gives : D → Option (List (List ℕ))) (changes : D → 
   is_written_again sent =
       by_device count (moment old) begun (changes old) (changes new) f (again_facts b f) AfterWrite refl refl (known_before_write _ _ _ _ (changes old) (changes new) sent.writes) later sent.writes.past
       (λ disk m is h.
-          let now = known_after_write _ _ _ _ (changes old) (changes new) disk sent.writes is in
-          let stood = as_seen (gives old) (changes old).disk disk (sectors_of bytes) b.first (sectors b.kind) is sees same in
-          (now.0, now.1, n f disk m b x kept dirty free bare h bytes size stood now.0, goes_again f disk m b x kept dirty free bare h bytes size stood now.0 now.2 (sized_of (changes new) now.0 now.1 sized), record { same = refl }))
+      let now = known_after_write _ _ _ _ (changes old) (changes new) disk sent.writes is in
+      let stood = as_seen (gives old) (changes old).disk disk (sectors_of bytes) b.first (sectors b.kind) is sees same in
+      (now.0, now.1, n f disk m b x kept dirty free bare h bytes size stood now.0, goes_again f disk m b x kept dirty free bare h bytes size stood now.0 now.2 (sized_of (changes new) now.0 now.1 sized), record { same = refl }))
 
   pub is_not_written_again : (fault : Failed) → SendsAgain gives changes moment begun b bytes (Err fault) old new → Simulates count (moment old) (changes old) (changes new) f f AfterWrite
   is_not_written_again fault sent =
       by_device count (moment old) begun (changes old) (changes new) f f AfterWrite refl refl (known_before_write _ _ _ _ (changes old) (changes new) sent.writes) later sent.writes.past
       (λ disk m is h.
-          let now = known_after_write _ _ _ _ (changes old) (changes new) disk sent.writes is in
-          let stood = as_seen (gives old) (changes old).disk disk (sectors_of bytes) b.first (sectors b.kind) is sees same in
-          (now.0, now.1, n f disk m b x kept dirty free bare h bytes size stood now.0, on_disk f disk m b x kept dirty free bare h bytes size stood now.0 now.2 (sized_of (changes new) now.0 now.1 sized), record { same = refl }))
+      let now = known_after_write _ _ _ _ (changes old) (changes new) disk sent.writes is in
+      let stood = as_seen (gives old) (changes old).disk disk (sectors_of bytes) b.first (sectors b.kind) is sees same in
+      (now.0, now.1, n f disk m b x kept dirty free bare h bytes size stood now.0, on_disk f disk m b x kept dirty free bare h bytes size stood now.0 now.2 (sized_of (changes new) now.0 now.1 sized), record { same = refl }))

@@ -11,3 +11,4 @@ pub mod Chains
 pub mod Changes
 pub mod Agains
 pub mod Starts
+pub mod Following

@@ -1,9 +1,8 @@
 -- A store at its start, on a log without entries.
-use Rattle.std.proofs.Common.{◌≡◌, ◌⊎◌, ℕ, suc, ◌+◌, ◌-◌, ◌*◌, ◌<◌, ◌≤◌, Bool, true, false, List, [], length, Option, Some, None, refl, sym, ap, ◌∙◌, inl, inr, arith}
+use Rattle.std.proofs.Common.{◌≡◌, ℕ, ◌-◌, ◌*◌, false, List, [], length, Some, refl, sym, ap, ◌∙◌, arith}
 use Rattle.std.specs.Prelude.{slice_index}
 use Rattle.std.proofs.lemmas.List.{ext_get_or, length-replicate}
 use Rattle.disk_model.specs.declared.block.Block.{Block}
-use Rattle.disk_model.specs.declared.block.Body.{Body}
 use Rattle.disk_model.specs.Sectors.{sectors}
 use Rattle.disk_model.specs.Content.{Content, content_of}
 use Rattle.sector_device.specs.Disks.{Disk, IsSettled, IsSized, seen}
@@ -18,7 +17,7 @@ use Rattle.store_model.proofs.Told.{true≢false}
 use Rattle.store_model.proofs.Devices.{settled_bears}
 use Rattle.store_model.proofs.Volumes.{volume_geometry, is_volume, length-first_bytes, first_at, content_size}
 use Rattle.store_model.proofs.Refinement.{sound_events_law}
-use Rattle.ring_laws.specs.Numbers.{LogSession, lsn_of_page}
+use Rattle.ring_laws.specs.Numbers.{lsn_of_page}
 use Rattle.ring_laws.specs.RestartPages.{RestartFields}
 use Rattle.ring_laws.specs.StoreDisks.{disk_without}
 use Rattle.ring_laws.proofs.SeenDisks.{without_bears}
@@ -26,8 +25,8 @@ use Rattle.ring_laws.proofs.StoreEvents.{log_starts}
 use Rattle.area_laws.specs.Standing.{Stands}
 use Rattle.txn_model.specs.Values.{StoreFacts, own_of}
 use Rattle.txn_model.specs.Calls.{first_facts}
-use Rattle.txn_laws.specs.Standing.{StandsBehind, session_of}
-use Rattle.txn_laws.specs.Windows.{HasWindow, HasStart}
+use Rattle.txn_laws.specs.Standing.{StandsBehind}
+use Rattle.txn_laws.specs.Windows.{HasStart}
 use Rattle.txn_laws.proofs.Changes.{seen_whole}
 
 module _ (place : LogPlace) (log : LogAreaOf) (found : List Block) (lap : ℕ) (r : Ring) (q : Restarts) (fields : RestartFields) (disk : Disk) (own : Restart)

@@ -610,6 +610,6 @@ is_not_written_out gives changes moment count begun check f b x old new kept rea
     by_device count (moment old) begun (changes old) (changes new) f (sent_out_facts b f) (MovesTo (are_rivals b)) refl refl
     (known_before_write _ _ _ _ (changes old) (changes new) sent.writes) later sent.writes.past
     (λ disk m is h.
-        let now = known_after_write _ _ _ _ (changes old) (changes new) disk sent.writes is in
-        let it = goes_badly f disk m b x kept ready spells h check unnoted now.0 now.2 (sized_of (changes new) now.0 now.1 sized) in
-        (now.0, now.1, it.0, it.1, it.2))
+    let now = known_after_write _ _ _ _ (changes old) (changes new) disk sent.writes is in
+    let it = goes_badly f disk m b x kept ready spells h check unnoted now.0 now.2 (sized_of (changes new) now.0 now.1 sized) in
+    (now.0, now.1, it.0, it.1, it.2))

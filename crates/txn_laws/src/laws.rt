@@ -1,3 +1,4 @@
+ghost use Rattle.txn_laws.specs.Following.{WindowsFollow};
 ghost use Rattle.txn_laws.specs.Laws.{DeviceSteps, MemoryCalls, StoresStart, WindowsTell};
 
 use sector_device::Device;
@@ -24,4 +25,11 @@ pub fn memory_calls()
 /// before or after it.
 pub fn device_steps<D: Device>(_device: &D)
     ensures { DeviceSteps D.gives D.changes_of D.moment_of }
+{}
+
+/// Law: behind each call the contents that are left are those of before, or newer, on the blocks
+/// that were spared. So an image that was left since a moment recovers to a content no older than
+/// what was known durable then.
+pub fn windows_follow()
+    ensures { WindowsFollow }
 {}

@@ -7,4 +7,4 @@
 
 mod laws;
 
-pub use laws::{device_steps, memory_calls, stores_start, windows_tell};
+pub use laws::{device_steps, memory_calls, stores_start, windows_follow, windows_tell};
