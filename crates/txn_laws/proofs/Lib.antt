@@ -12,3 +12,4 @@ pub mod Changes
 pub mod Agains
 pub mod Starts
 pub mod Following
+pub mod Showing

@@ -15,9 +15,12 @@ use Rattle.log_area.specs.Calls.{IsAsked, Sends}
 use Rattle.store_model.specs.Volumes.{is_known, sectors_from, ContentWindow}
 use Rattle.log_page.specs.declared.places.LogPlace.{LogPlace}
 use Rattle.log_page.specs.declared.restart.Restart.{Restart}
-use Rattle.log_area.specs.Areas.{LogAreaOf}
+use Rattle.log_area.specs.Areas.{LogAreaOf, lap_at}
 use Rattle.store_model.specs.Rings.{Ring, Restarts}
-use Rattle.ring_laws.specs.Numbers.{lsn_of_page}
+use Rattle.ring_laws.specs.Numbers.{lsn_of_page, IsInRing}
+use Rattle.ring_laws.specs.PageBytes.{raw_page}
+use Rattle.log_page.specs.Places.{lap_of}
+use Rattle.log_page.specs.LiveLogs.{said_lsn}
 use Rattle.ring_laws.specs.RestartPages.{RestartFields}
 use Rattle.area_laws.specs.Standing.{Stands}
 use Rattle.area_laws.specs.Laws.{SendsNext}
@@ -25,12 +28,18 @@ use Rattle.txn_model.specs.Values.{StoreFacts, own_of}
 use Rattle.txn_model.specs.Pieces.{next_entry}
 use Rattle.txn_model.specs.Calls.{first_facts, begun_facts, committed_facts, given_up_facts, change_acts, changed_facts, sealed_facts, written_facts, sent_facts, is_buried, synced_facts, is_ready, written_out_facts, sent_out_facts, again_facts}
 use Rattle.txn_laws.specs.Appending.{MayAppend, MayAppendAll}
-use Rattle.txn_laws.specs.Windows.{HasMachine, HasWindow, HasStart, RecoversWithin, Simulates, AfterBegin, AfterChange, AfterCommit, AfterGiveUp, AfterWrite, MovesTo}
+use Rattle.txn_laws.specs.Windows.{HasMachine, HasWindow, HasStart, IsShown, RecoversWithin, Simulates, AfterBegin, AfterChange, AfterCommit, AfterGiveUp, AfterWrite, MovesTo}
 
 -- What a window says.
 pub record WindowsTell : Type 0 where
   -- at a return: whatever a crash may leave recovers to a content of the window
   pub at_return : (count : ℕ) (changes : Changes) (f : StoreFacts) (w : ContentWindow) (image : List (List ℕ)) → HasWindow changes f w → MayLeaveNow count changes image → RecoversWithin f.place (own_of f) w (sector_of image)
+  -- and says no lap above that of the page that is filled
+  pub laps : (count : ℕ) (changes : Changes) (f : StoreFacts) (w : ContentWindow) (image : List (List ℕ)) → HasWindow changes f w → MayLeaveNow count changes image
+      → (k lsn : ℕ) → IsInRing f.place k → said_lsn (raw_page f.place (sector_of image) k) ≡ Some lsn → lap_of f.place.pages lsn ≤ lap_at f.log f.log.sealed
+  -- the present body of a known block is the one that is kept, or what a read gives
+  pub present : (changes : Changes) (f : StoreFacts) (w : ContentWindow) (gives : Option (List (List ℕ))) → HasWindow changes f w → SeesDisk gives changes.disk → (b : Block) → is_known (own_of f) b ≡ true
+      → IfSome gives (λ disk. IsShown w b (unwrap_or (f.body b) (content_of (sector_of disk) b)))
   -- as many commits wait as aren't known durable
   pub waiting : (changes : Changes) (f : StoreFacts) (w : ContentWindow) → HasWindow changes f w → f.durable + w.waiting ≡ f.commits
   pub is_open : (changes : Changes) (f : StoreFacts) (w : ContentWindow) → HasWindow changes f w → w.is_open ≡ f.is_open

@@ -1,6 +1,7 @@
 -- The window of a store, and what a call does to it.
 use Rattle.std.specs.Prelude.{◌≡◌, ◌⊎◌, ℕ, suc, ◌≤◌, Bool, true, false, List, Some, None}
 use Rattle.disk_model.specs.declared.block.Block.{Block}
+use Rattle.disk_model.specs.declared.block.Body.{Body}
 use Rattle.disk_model.specs.Bytes.{written}
 use Rattle.disk_model.specs.Sectors.{sector_of, same_block}
 use Rattle.disk_model.specs.Content.{Content, content_of}
@@ -27,6 +28,11 @@ HasMachine changes f = (disk : Disk) → changes.disk ≡ Some disk → (m : Sto
 -- the disk is known, and this is the window of a machine that stands behind the store
 abbrev pub HasWindow : Changes → StoreFacts → ContentWindow → Type 0
 HasWindow changes f w = (disk : Disk) × (changes.disk ≡ Some disk) × (m : Store) × StandsBehind f disk m × (window_of m.window ≡ w)
+
+-- This is the block's present body, torn at most where the content is.
+pub record IsShown (w : ContentWindow) (b : Block) (body : Body) : Type 0 where
+  pub bytes : body.bytes ≡ (w.present b).bytes
+  pub torn : body.torn ≡ true → (w.present b).torn ≡ true
 
 -- The store has a window whose present content is this one, with no transaction open and no commit that isn't durable.
 pub record HasStart (changes : Changes) (f : StoreFacts) (content : Content) : Type 0 where

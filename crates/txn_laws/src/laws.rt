@@ -4,7 +4,8 @@ ghost use Rattle.txn_laws.specs.Laws.{DeviceSteps, MemoryCalls, StoresStart, Win
 use sector_device::Device;
 
 /// Law: at a return, whatever a crash may leave recovers to a content of the store's window, in
-/// which as many commits wait as aren't known durable.
+/// which as many commits wait as aren't known durable; and each present body is the one that is
+/// kept, or what a read gives.
 pub fn windows_tell()
     ensures { WindowsTell }
 {}
