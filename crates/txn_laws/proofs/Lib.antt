@@ -13,3 +13,4 @@ pub mod Agains
 pub mod Starts
 pub mod Following
 pub mod Showing
+pub mod Openings

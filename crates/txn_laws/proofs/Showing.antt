@@ -1,9 +1,8 @@
 -- What a window shows: the present bodies, and the laps that an image says.
-use Rattle.std.proofs.Common.{◌≡◌, subst, ℕ, suc, ◌+◌, ◌-◌, ◌/◌, ◌≤◌, Bool, true, List, Option, Some, None, refl, sym, ap, ap₂, ◌∙◌, arith}
+use Rattle.std.proofs.Common.{◌≡◌, subst, ℕ, ◌+◌, ◌-◌, ◌/◌, ◌≤◌, true, List, Option, Some, None, refl, sym, ap₂, arith}
 use Rattle.std.specs.Prelude.{IfSome, unwrap_or}
 use mathlib.Core.Path.{fun_ext}
 use Rattle.disk_model.specs.declared.block.Block.{Block}
-use Rattle.disk_model.specs.declared.block.Body.{Body}
 use Rattle.disk_model.specs.Sectors.{sector_of}
 use Rattle.disk_model.specs.Content.{content_of}
 use Rattle.sector_device.specs.Disks.{Disk, MayLeave, SeesDisk, seen}
@@ -16,7 +15,6 @@ use Rattle.store_model.specs.Stores.{Store}
 use Rattle.store_model.specs.Volumes.{is_known, ContentWindow, window_of}
 use Rattle.ring_laws.specs.Numbers.{IsInRing, lap_of_page}
 use Rattle.ring_laws.specs.PageBytes.{raw_page}
-use Rattle.ring_laws.specs.RingPages.{HoldsRing}
 use Rattle.ring_laws.proofs.RingFacts.{laps_climb}
 use Rattle.ring_laws.proofs.RingReads.{laps_said}
 use Rattle.txn_model.specs.Values.{StoreFacts, own_of}

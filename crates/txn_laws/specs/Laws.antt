@@ -1,5 +1,5 @@
 -- The laws of a store's calls.
-use Rattle.std.specs.Prelude.{◌≡◌, ℕ, ◌+◌, ◌*◌, ◌^◌, ◌<◌, ◌≤◌, true, false, List, [], length, Option, Some, None, Result, Ok, Err, IfSome, is_some, unwrap_or}
+use Rattle.std.specs.Prelude.{Bool, ◌≡◌, ℕ, ◌+◌, ◌*◌, ◌^◌, ◌<◌, ◌≤◌, true, false, List, [], length, Option, Some, None, Result, Ok, Err, IfSome, is_some, unwrap_or}
 use Rattle.host_base.specs.declared.outside.Failed.{Failed}
 use Rattle.disk_model.specs.declared.block.Block.{Block}
 use Rattle.disk_model.specs.declared.block.Body.{Body}
@@ -15,7 +15,7 @@ use Rattle.log_area.specs.Calls.{IsAsked, Sends}
 use Rattle.store_model.specs.Volumes.{is_known, sectors_from, ContentWindow}
 use Rattle.log_page.specs.declared.places.LogPlace.{LogPlace}
 use Rattle.log_page.specs.declared.restart.Restart.{Restart}
-use Rattle.log_area.specs.Areas.{LogAreaOf, lap_at}
+use Rattle.log_area.specs.Areas.{LogAreaOf, lap_at, number_lsn, new_area, named_area, synced_area}
 use Rattle.store_model.specs.Rings.{Ring, Restarts}
 use Rattle.ring_laws.specs.Numbers.{lsn_of_page, IsInRing}
 use Rattle.ring_laws.specs.PageBytes.{raw_page}
@@ -23,7 +23,7 @@ use Rattle.log_page.specs.Places.{lap_of}
 use Rattle.log_page.specs.LiveLogs.{said_lsn}
 use Rattle.ring_laws.specs.RestartPages.{RestartFields}
 use Rattle.area_laws.specs.Standing.{Stands}
-use Rattle.area_laws.specs.Laws.{SendsNext}
+use Rattle.area_laws.specs.Laws.{SendsNext, SendsRestart, MayName}
 use Rattle.txn_model.specs.Values.{StoreFacts, own_of}
 use Rattle.txn_model.specs.Pieces.{next_entry}
 use Rattle.txn_model.specs.Calls.{first_facts, begun_facts, committed_facts, given_up_facts, change_acts, changed_facts, sealed_facts, written_facts, sent_facts, is_buried, synced_facts, is_ready, written_out_facts, sent_out_facts, again_facts}
@@ -78,6 +78,20 @@ pub record MemoryCalls : Type 0 where
   pub read_before : (count early late : ℕ) (old mid now : Changes) (f g : StoreFacts) (c : Block) (at : ℕ) (new : List ℕ) → early ≤ late → Simulates count early old mid f f AfterWrite
       → Simulates count late mid now f g (AfterChange c at new) → Simulates count early old now f g (AfterChange c at new)
 
+-- the first LSN of a session, whose log is new
+abbrev pub first_lsn : LogPlace → ℕ → ℕ → ℕ → ℕ
+first_lsn place lap restart opens = number_lsn (new_area place lap restart opens) 0 0x40
+
+-- its ring once its first restart page was written, which names this place, and synced
+abbrev pub opened_area : LogPlace → ℕ → ℕ → ℕ → LogAreaOf
+opened_area place lap restart opens = synced_area (named_area (first_lsn place lap restart opens) (new_area place lap restart opens))
+
+-- The disk of the device is known, and the store that begins on it has a window, whose present content is what is seen of the disk.
+pub record StartsOn {D : Type 0} (changes : D → Changes) (place : LogPlace) (log : LogAreaOf) (found : List Block) (device : D) : Type 0 where
+  pub disk : Disk
+  pub known : (changes device).disk ≡ Some disk
+  pub start : HasStart (changes device) (first_facts place log found) (content_of (seen disk))
+
 -- a sync of a device
 abbrev pub SyncsNow : {D : Type 0} → (D → Changes) → (D → ℕ) → Result (Unit {0}) Failed → D → D → Type 0
 SyncsNow changes moment result old new = Syncs (moment old) result (changes old) (changes new)
@@ -101,6 +115,11 @@ pub record StandsThere (gives : Option (List (List ℕ))) (f : StoreFacts) (b : 
 
 -- Calls of a device, of which these are the words of its contract.
 pub record DeviceSteps {D : Type 0} (gives : D → Option (List (List ℕ))) (changes : D → Changes) (moment : D → ℕ) : Type 0 where
+  -- a session is opened on a log of which its ring stands: a restart page that names its first page was written, and synced
+  pub open_log : (place : LogPlace) (found : List Block) (lap restart opens : ℕ) (r : Ring) (q : Restarts) (fields : RestartFields) (disk : Disk) (clean : Bool) (word : ℕ) (old mid new : D) → (changes old).disk ≡ Some disk
+      → SeesDisk (gives old) (changes old).disk → IfSome (changes new).disk IsSized → Stands (record { place = place; lap = lap }) (new_area place lap restart opens) r q [] fields disk
+      → MayName (new_area place lap restart opens) q fields (first_lsn place lap restart opens) clean → SendsRestart gives changes moment (new_area place lap restart opens) (first_lsn place lap restart opens) clean word (Ok tt) old mid
+      → SyncsNow changes moment (Ok tt) mid new → StartsOn changes place (opened_area place lap restart opens) found new
   -- what reads alone leaves the window
   pub read : (count : ℕ) (f : StoreFacts) (old new : D) → IsAsked gives changes moment old new → Simulates count (moment old) (changes old) (changes new) f f AfterWrite
   -- a page of the log was written; it was sent in a write that failed
