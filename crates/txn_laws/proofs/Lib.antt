@@ -5,6 +5,7 @@ pub mod Growing
 pub mod Appended
 pub mod Commits
 pub mod Syncs
+pub mod Rivals
 pub mod WriteOuts
 pub mod Cutting
 pub mod Chains

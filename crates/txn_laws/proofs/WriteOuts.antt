@@ -1,4 +1,6 @@
--- A block is written out, in a write that answers Ok or fails, where no checkpoint has begun.
+-- A block is written out, in a write that answers Ok or fails.
+use Rattle.txn_laws.proofs.Rivals.{among_rivals}
+use Rattle.std.specs.List.{list_any}
 use Rattle.sector_device.proofs.Images.{known_after_write}
 use Rattle.host_base.specs.declared.outside.Failed.{Failed}
 use Rattle.std.proofs.Common.{◌≡◌, subst, ℕ, zero, suc, ◌+◌, ◌-◌, ◌*◌, ◌^◌, ◌<◌, ◌≤◌, Bool, true, false, cond, List, [], ◌∷◌, length, drop, get_or, Option, Some, None, Ok, refl, sym, ap, ap₂, ◌∙◌, inl, inr, arith, Err}
@@ -18,7 +20,7 @@ use Rattle.std.specs.Option.{option_map}
 use Rattle.sector_device.specs.Sectors.{sectors_of}
 use Rattle.sector_device.specs.WholeSectors.{length-sectors_of}
 use Rattle.log_model.specs.declared.entry.Entry.{Entry}
-use Rattle.log_model.specs.Logs.{first_undo}
+use Rattle.log_model.specs.Logs.{first_undo, is_in_grid}
 use Rattle.txn_laws.specs.Laws.{SendsBody}
 use Rattle.store_model.specs.Logs.{BodyBytes, undone, has_update}
 use Rattle.store_model.specs.Geometry.{PutsAll, Puts}
@@ -26,8 +28,8 @@ use Rattle.store_model.specs.Stores.{Window, Store, is_held}
 use Rattle.store_model.specs.Events.{reread, MayWriteOut, Spells, written_out, Step, put_in_part}
 use Rattle.store_model.specs.Events.Step.{write_out, write_out_fails}
 use Rattle.store_model.specs.Rings.{entries_on}
-use Rattle.store_model.specs.Volumes.{is_known, first_bytes, sectors_from, window_of}
-use Rattle.store_model.proofs.Told.{true≢false, or_left, or_right, same_self, rival_apart, rivals_both, rivals_other}
+use Rattle.store_model.specs.Volumes.{is_known, first_bytes, sectors_from, window_of, is_free}
+use Rattle.store_model.proofs.Told.{true≢false, or_left, or_right, same_self, rival_apart, rivals_both, rivals_other, or-true, or-false}
 use Rattle.store_model.proofs.Known.{is_in}
 use Rattle.store_model.proofs.Lost.{has_none}
 use Rattle.store_model.proofs.Volumes.{length-first_bytes}
@@ -45,7 +47,7 @@ use Rattle.ring_laws.proofs.StoreEvents.{log_kept}
 use Rattle.area_laws.proofs.Joined.{stays}
 use Rattle.txn_model.specs.declared.mark.Mark.{Mark}
 use Rattle.txn_model.specs.Values.{StoreFacts, own_of}
-use Rattle.txn_model.specs.Calls.{is_ready, is_noted, written_out_facts, sent_out_facts}
+use Rattle.txn_model.specs.Calls.{is_ready, is_noted, written_out_facts, sent_out_facts, rivals_of}
 use Rattle.txn_laws.specs.Standing.{HasBytes, IsMarked, IsKilled, StandsBehind, session_of, numbers_of}
 use Rattle.txn_laws.specs.Windows.{Simulates, MovesTo}
 use Rattle.txn_laws.proofs.Telling.{by_device, known_before_write, sized_of}
@@ -221,6 +223,34 @@ module _ (f : StoreFacts) (disk : Disk) (m : Store) (b : Block) (x : Body) (kept
       (subst (λ (t : Bool). HasBytes c (undone m.window.draft m.window.body c) t y) (sym (same_before now c none))
       (subst (λ (o : Option Body). IfSome o (HasBytes c (undone m.window.draft m.window.body c) (m.window.was_torn 0 c))) is (h.window.before c)))
 
+  -- ---- what a checkpoint waits for
+
+  in_grid : (c : Block) → is_some (f.body c) ≡ true → is_in_grid c ≡ true
+  in_grid c some = and_left (is_in_grid c) (is_free (own_of f) c) (h.marks.known c some)
+
+  held_body : (c : Block) → (m.dirty c || m.dead c) ≡ true → is_some (f.body c) ≡ true
+  held_body c is = h.marks.kept c ∙ either (m.dirty c) (m.dead c) refl refl is
+    where
+      either : (u v : Bool) → m.dirty c ≡ u → m.dead c ≡ v → (u || v) ≡ true → ((f.mark c).dirty || (f.mark c).dead) ≡ true
+      either true v one two or = ap (λ (x : Bool). x || (f.mark c).dead) (and_left (f.mark c).dirty (h.geometry.has_spelling c (m.window.body c)) (sym (h.marks.dirty c) ∙ one))
+      either false true one two or = or-true (f.mark c).dirty (f.mark c).dead (and_left (f.mark c).dead (h.geometry.has_spelling c (m.window.body c)) (sym (h.marks.dead c) ∙ two))
+      either false false one two or = absurd (true≢false (sym or))
+
+  noted_own : m.begun ≡ true → m.owed b ≡ true → is_noted f.mark b ≡ true
+  noted_own begun owed = ap (λ (v : Bool). v || list_any (λ c. (f.mark c).owed) (rivals_of b)) (h.marks.owed begun b owed)
+
+  noted_rival : m.begun ≡ true → (c : Block) → are_rivals b c ≡ true → m.owed c ≡ true → is_noted f.mark b ≡ true
+  noted_rival begun c rival owed =
+      or-true (f.mark b).owed (list_any (λ c. (f.mark c).owed) (rivals_of b))
+      (among_rivals b c (λ c. (f.mark c).owed) rival (in_grid b (ap (λ (o : Option Body). is_some o) kept)) (in_grid c (held_body c (h.sound.owing begun c owed))) (h.marks.owed begun c owed))
+
+  noted_one : m.begun ≡ true → (c : Block) → are_rivals b c ≡ true → (m.owed b || m.owed c) ≡ true → is_noted f.mark b ≡ true
+  noted_one begun c rival is = by_own (m.owed b) refl is
+    where
+      by_own : (v : Bool) → m.owed b ≡ v → (m.owed b || m.owed c) ≡ true → is_noted f.mark b ≡ true
+      by_own true e or = noted_own begun e
+      by_own false e or = noted_rival begun c rival (sym (ap (λ (v : Bool). v || m.owed c) e) ∙ or)
+
   -- ---- the write answered Ok
 
   abbrev g : StoreFacts
@@ -348,6 +378,47 @@ module _ (f : StoreFacts) (disk : Disk) (m : Store) (b : Block) (x : Body) (kept
       by_value false none true rival = inr (b, rival, own_wet)
       by_value false none false away = marked_still c (h.marks.wet c (sym (ap₂ (λ (u : Bool) (v : Bool). (u || v) || m.wet c) none away) ∙ is))
 
+  due_still : (c : Block) → (f.mark c).due ≡ true → (g.mark c).due ≡ true
+  due_still = by_block (λ c. (f.mark c).due ≡ true → (g.mark c).due ≡ true)
+      (λ c same is. ap (λ (y : Mark). y.due) (at_own c same) ∙ ap (λ (v : Bool). v || is_noted f.mark b) is)
+      (λ c none rival is. ap (λ (y : Mark). y.due) (at_rival c none rival) ∙ is)
+      (λ c none away is. ap (λ (y : Mark). y.due) (at_other c none away) ∙ is)
+
+  due_marked : (c : Block) → IsMarked (λ (y : Mark). y.due) f c → IsMarked (λ (y : Mark). y.due) g c
+  due_marked c (inl is) = inl (due_still c is)
+  due_marked c (inr y) = inr (y.0, y.1, due_still y.0 y.2)
+
+  own_due : (c : Block) → same_block c b ≡ true → is_noted f.mark b ≡ true → (g.mark c).due ≡ true
+  own_due c same noted = ap (λ (y : Mark). y.due) (at_own c same) ∙ or-true (f.mark c).due (is_noted f.mark b) noted
+
+  owed_now : (now : Disk) → m.begun ≡ true → (c : Block) → (n now).owed c ≡ true → (g.mark c).owed ≡ true
+  owed_now now begun c is =
+      let away = not_is (same_block c b || are_rivals b c) (and_left (not (same_block c b || are_rivals b c)) (m.owed c) is) in
+      ap (λ (y : Mark). y.owed) (at_other c (or_left (same_block c b) (are_rivals b c) away) (or_right (same_block c b) (are_rivals b c) away))
+      ∙ h.marks.owed begun c (and_right (not (same_block c b || are_rivals b c)) (m.owed c) is)
+
+  due_now : (now : Disk) → m.begun ≡ true → (c : Block) → (n now).due c ≡ true → IsMarked (λ (y : Mark). y.due) g c
+  due_now now begun c is = by_due (m.due c) refl
+    where
+      by_due : (v : Bool) → m.due c ≡ v → IsMarked (λ (y : Mark). y.due) g c
+      by_due true e = due_marked c (h.marks.due begun c e)
+      by_due false e = by_value (same_block c b) refl
+        where
+          written : ((same_block c b || are_rivals b c) && (m.owed b || m.owed c)) ≡ true
+          written = sym (or-false ((same_block c b || are_rivals b c) && (m.owed b || m.owed c))) ∙ ap (λ (v : Bool). ((same_block c b || are_rivals b c) && (m.owed b || m.owed c)) || v) (sym e) ∙ is
+
+          by_value : (u : Bool) → same_block c b ≡ u → IsMarked (λ (y : Mark). y.due) g c
+          by_value true same =
+              let owed : (m.owed b || m.owed b) ≡ true = ap (λ (d : Block). m.owed b || m.owed d) (sym (is_b c same)) ∙ and_right (same_block c b || are_rivals b c) (m.owed b || m.owed c) written in
+              inl (own_due c same (noted_own begun (either (m.owed b) owed)))
+            where
+              either : (v : Bool) → (v || v) ≡ true → v ≡ true
+              either true or = refl
+              either false or = or
+          by_value false none =
+              let rival : are_rivals b c ≡ true = sym (ap (λ (v : Bool). v || are_rivals b c) none) ∙ and_left (same_block c b || are_rivals b c) (m.owed b || m.owed c) written in
+              inr (b, rival, own_due b (same_self b) (noted_one begun c rival (and_right (same_block c b || are_rivals b c) (m.owed b || m.owed c) written)))
+
   body_now : (now : Disk) (c : Block) → IfSome (g.body c) (HasBytes c ((n now).window.body c) ((n now).window.is_torn c))
   body_now now c = by_value (same_block c b || are_rivals b c) refl
     where
@@ -373,9 +444,9 @@ module _ (f : StoreFacts) (disk : Disk) (m : Store) (b : Block) (x : Body) (kept
   abbrev step : (check : ℕ) → check < 2 ^ 16 → (now : Disk) → now ≡ put b.first (new check) disk → Step h.geometry m (n now)
   step check small now is = write_out b (sectors_from b.first (new check)) (disk_without (own_of f) now) may (spells_new check small) (puts check now is)
 
-  pub goes_out : (check : ℕ) → check < 2 ^ 16 → f.noted ≡ None → (now : Disk) → now ≡ put b.first (sectors_of (spelled b.kind check x.bytes)) disk → IsSized now
+  pub goes_out : (check : ℕ) → check < 2 ^ 16 → (now : Disk) → now ≡ put b.first (sectors_of (spelled b.kind check x.bytes)) disk → IsSized now
       → (n : Store) × StandsBehind (written_out_facts b f) now n × MovesTo (are_rivals b) (window_of m.window) (window_of n.window)
-  goes_out check small unnoted now is sized = (n now, stands, moves)
+  goes_out check small now is sized = (n now, stands, moves)
     where
       moves : MovesTo (are_rivals b) (window_of m.window) (window_of (n now).window)
       moves = record {
@@ -385,9 +456,6 @@ module _ (f : StoreFacts) (disk : Disk) (m : Store) (b : Block) (x : Body) (kept
         others = λ k le c none. subst (λ (j : ℕ). (window_of (n now).window).before j c ≡ (window_of m.window).before k c) (let e : 0 + k ≡ k = omega arith in e)
             (windows_move_law.members h.geometry m (n now) (step check small now is) c none k (omega (arith, le))).1;
       }
-
-      not_begun : m.begun ≡ true → ⊥
-      not_begun begun = true≢false (sym begun ∙ h.by_pages.begun ∙ ap (λ (o : Option ℕ). is_some o) unnoted)
 
       stands : StandsBehind g now (n now)
       stands = record {
@@ -416,8 +484,8 @@ module _ (f : StoreFacts) (disk : Disk) (m : Store) (b : Block) (x : Body) (kept
           known = λ c is. h.marks.known c (some_kept c is);
           changed = changed_now;
           wet = wet_now now;
-          owed = λ begun c is. absurd (not_begun begun);
-          due = λ begun c is. absurd (not_begun begun);
+          owed = owed_now now;
+          due = due_now now;
         };
         by_pages = record {
           some = h.by_pages.some;
@@ -514,6 +582,39 @@ module _ (f : StoreFacts) (disk : Disk) (m : Store) (b : Block) (x : Body) (kept
       by_value true rival = inr (b, rival, ap (λ (y : Mark). y.wet) (failed_own b (same_self b)))
       by_value false away = failed_marked c (h.marks.wet c (sym (ap (λ (v : Bool). v || m.wet c) away) ∙ is))
 
+  failed_due : (c : Block) → (f.mark c).due ≡ true → (gf.mark c).due ≡ true
+  failed_due = by_block (λ c. (f.mark c).due ≡ true → (gf.mark c).due ≡ true)
+      (λ c same is. ap (λ (y : Mark). y.due) (failed_own c same) ∙ ap (λ (v : Bool). v || is_noted f.mark b) is)
+      (λ c none rival is. ap (λ (y : Mark). y.due) (failed_rival c none rival) ∙ is)
+      (λ c none away is. ap (λ (y : Mark). y.due) (failed_other c none away) ∙ is)
+
+  failed_due_marked : (c : Block) → IsMarked (λ (y : Mark). y.due) f c → IsMarked (λ (y : Mark). y.due) gf c
+  failed_due_marked c (inl is) = inl (failed_due c is)
+  failed_due_marked c (inr y) = inr (y.0, y.1, failed_due y.0 y.2)
+
+  owed_still : (now : Disk) → m.begun ≡ true → (c : Block) → (nf now).owed c ≡ true → (gf.mark c).owed ≡ true
+  owed_still now begun c is = by_value (same_block c b) refl
+    where
+      away : are_rivals b c ≡ false
+      away = not_is (are_rivals b c) (and_left (not (are_rivals b c)) (m.owed c) is)
+
+      owed : m.owed c ≡ true
+      owed = and_right (not (are_rivals b c)) (m.owed c) is
+
+      by_value : (v : Bool) → same_block c b ≡ v → (gf.mark c).owed ≡ true
+      by_value true same = ap (λ (y : Mark). y.owed) (failed_own c same) ∙ h.marks.owed begun c owed
+      by_value false none = ap (λ (y : Mark). y.owed) (failed_other c none away) ∙ h.marks.owed begun c owed
+
+  due_still_marked : (now : Disk) → m.begun ≡ true → (c : Block) → (nf now).due c ≡ true → IsMarked (λ (y : Mark). y.due) gf c
+  due_still_marked now begun c is = by_due (m.due c) refl
+    where
+      by_due : (v : Bool) → m.due c ≡ v → IsMarked (λ (y : Mark). y.due) gf c
+      by_due true e = failed_due_marked c (h.marks.due begun c e)
+      by_due false e =
+          let written : (are_rivals b c && (m.owed b || m.owed c)) ≡ true = sym (or-false (are_rivals b c && (m.owed b || m.owed c))) ∙ ap (λ (v : Bool). (are_rivals b c && (m.owed b || m.owed c)) || v) (sym e) ∙ is in
+          let rival = and_left (are_rivals b c) (m.owed b || m.owed c) written in
+          inr (b, rival, ap (λ (y : Mark). y.due) (failed_own b (same_self b)) ∙ or-true (f.mark b).due (is_noted f.mark b) (noted_one begun c rival (and_right (are_rivals b c) (m.owed b || m.owed c) written)))
+
   body_still : (now : Disk) (c : Block) → IfSome (gf.body c) (HasBytes c ((nf now).window.body c) ((nf now).window.is_torn c))
   body_still now c = by_value (are_rivals b c) refl
     where
@@ -529,9 +630,9 @@ module _ (f : StoreFacts) (disk : Disk) (m : Store) (b : Block) (x : Body) (kept
   abbrev failed_step : (check : ℕ) (now : Disk) → IsBetween disk (put b.first (new check) disk) now → Step h.geometry m (nf now)
   failed_step check now part = write_out_fails b (sectors_from b.first (new check)) (disk_without (own_of f) now) may (failed_puts check now part)
 
-  pub goes_badly : (check : ℕ) → f.noted ≡ None → (now : Disk) → IsBetween disk (put b.first (sectors_of (spelled b.kind check x.bytes)) disk) now → IsSized now
+  pub goes_badly : (check : ℕ) → (now : Disk) → IsBetween disk (put b.first (sectors_of (spelled b.kind check x.bytes)) disk) now → IsSized now
       → (n : Store) × StandsBehind (sent_out_facts b f) now n × MovesTo (are_rivals b) (window_of m.window) (window_of n.window)
-  goes_badly check unnoted now part sized = (nf now, stands, moves)
+  goes_badly check now part sized = (nf now, stands, moves)
     where
       moves : MovesTo (are_rivals b) (window_of m.window) (window_of (nf now).window)
       moves = record {
@@ -541,9 +642,6 @@ module _ (f : StoreFacts) (disk : Disk) (m : Store) (b : Block) (x : Body) (kept
         others = λ k le c none. subst (λ (j : ℕ). (window_of (nf now).window).before j c ≡ (window_of m.window).before k c) (let e : 0 + k ≡ k = omega arith in e)
             (windows_move_law.members h.geometry m (nf now) (failed_step check now part) c none k (omega (arith, le))).1;
       }
-
-      not_begun : m.begun ≡ true → ⊥
-      not_begun begun = true≢false (sym begun ∙ h.by_pages.begun ∙ ap (λ (o : Option ℕ). is_some o) unnoted)
 
       stands : StandsBehind gf now (nf now)
       stands = record {
@@ -572,8 +670,8 @@ module _ (f : StoreFacts) (disk : Disk) (m : Store) (b : Block) (x : Body) (kept
           known = λ c is. h.marks.known c (some_still c is);
           changed = λ c is. failed_dirty c ∙ h.marks.changed c is;
           wet = wet_still_marked now;
-          owed = λ begun c is. absurd (not_begun begun);
-          due = λ begun c is. absurd (not_begun begun);
+          owed = owed_still now;
+          due = due_still_marked now;
         };
         by_pages = record {
           some = h.by_pages.some;
@@ -592,24 +690,24 @@ module _ (f : StoreFacts) (disk : Disk) (m : Store) (b : Block) (x : Body) (kept
 -- ---- the call
 
 pub is_written_out : {D : Type 0} (gives : D → Option (List (List ℕ))) (changes : D → Changes) (moment : D → ℕ) (count begun check : ℕ) (f : StoreFacts) (b : Block) (x : Body) (old new : D)
-    → f.body b ≡ Some x → is_ready f b ≡ true → has_spelling b.kind x.bytes ≡ true → check < 2 ^ 16 → f.noted ≡ None → IfSome (changes new).disk IsSized → moment old ≤ begun
+    → f.body b ≡ Some x → is_ready f b ≡ true → has_spelling b.kind x.bytes ≡ true → check < 2 ^ 16 → IfSome (changes new).disk IsSized → moment old ≤ begun
     → SendsBody gives changes moment begun b x.bytes check (Ok tt) old new → Simulates count (moment old) (changes old) (changes new) f (written_out_facts b f) (MovesTo (are_rivals b))
-is_written_out gives changes moment count begun check f b x old new kept ready spells small unnoted sized later sent =
+is_written_out gives changes moment count begun check f b x old new kept ready spells small sized later sent =
     by_device count (moment old) begun (changes old) (changes new) f (written_out_facts b f) (MovesTo (are_rivals b)) refl refl
     (known_before_write _ _ _ _ (changes old) (changes new) sent.writes) later sent.writes.past
     (λ disk m is h.
     let now = put b.first (sectors_of (spelled b.kind check x.bytes)) disk in
     let known : (changes new).disk ≡ Some now = sent.writes.ok ∙ ap (option_map (put b.first (sectors_of (spelled b.kind check x.bytes)))) is in
-    let it = goes_out f disk m b x kept ready spells h check small unnoted now refl (sized_of (changes new) now known sized) in
+    let it = goes_out f disk m b x kept ready spells h check small now refl (sized_of (changes new) now known sized) in
     (now, known, it.0, it.1, it.2))
 
 pub is_not_written_out : {D : Type 0} (gives : D → Option (List (List ℕ))) (changes : D → Changes) (moment : D → ℕ) (count begun check : ℕ) (f : StoreFacts) (b : Block) (x : Body) (old new : D)
-    → f.body b ≡ Some x → is_ready f b ≡ true → has_spelling b.kind x.bytes ≡ true → f.noted ≡ None → IfSome (changes new).disk IsSized → moment old ≤ begun
+    → f.body b ≡ Some x → is_ready f b ≡ true → has_spelling b.kind x.bytes ≡ true → IfSome (changes new).disk IsSized → moment old ≤ begun
     → (fault : Failed) → SendsBody gives changes moment begun b x.bytes check (Err fault) old new → Simulates count (moment old) (changes old) (changes new) f (sent_out_facts b f) (MovesTo (are_rivals b))
-is_not_written_out gives changes moment count begun check f b x old new kept ready spells unnoted sized later fault sent =
+is_not_written_out gives changes moment count begun check f b x old new kept ready spells sized later fault sent =
     by_device count (moment old) begun (changes old) (changes new) f (sent_out_facts b f) (MovesTo (are_rivals b)) refl refl
     (known_before_write _ _ _ _ (changes old) (changes new) sent.writes) later sent.writes.past
     (λ disk m is h.
     let now = known_after_write _ _ _ _ (changes old) (changes new) disk sent.writes is in
-    let it = goes_badly f disk m b x kept ready spells h check unnoted now.0 now.2 (sized_of (changes new) now.0 now.1 sized) in
+    let it = goes_badly f disk m b x kept ready spells h check now.0 now.2 (sized_of (changes new) now.0 now.1 sized) in
     (now.0, now.1, it.0, it.1, it.2))

@@ -131,12 +131,12 @@ pub record DeviceSteps {D : Type 0} (gives : D → Option (List (List ℕ))) (ch
   pub sync : (count : ℕ) (f : StoreFacts) (old new : D) → IfSome (changes new).disk IsSized → f.log.named ≡ None → SyncsNow changes moment (Ok tt) old new
       → Simulates count (moment old) (changes old) (changes new) f (synced_facts f) (MovesTo (λ b. is_buried f.log.done (f.mark b)))
   pub sync_fails : (count : ℕ) (f : StoreFacts) (old new : D) (fault : Failed) → SyncsNow changes moment (Err fault) old new → Simulates count (moment old) (changes old) (changes new) f f AfterWrite
-  -- a block was written out, where no checkpoint had begun
-  pub write_out : (count begun check : ℕ) (f : StoreFacts) (b : Block) (x : Body) (old new : D) → f.body b ≡ Some x → is_ready f b ≡ true → has_spelling b.kind x.bytes ≡ true → check < 2 ^ 16 → f.noted ≡ None
+  -- a block was written out
+  pub write_out : (count begun check : ℕ) (f : StoreFacts) (b : Block) (x : Body) (old new : D) → f.body b ≡ Some x → is_ready f b ≡ true → has_spelling b.kind x.bytes ≡ true → check < 2 ^ 16
       → IfSome (changes new).disk IsSized → moment old ≤ begun → SendsBody gives changes moment begun b x.bytes check (Ok tt) old new
       → Simulates count (moment old) (changes old) (changes new) f (written_out_facts b f) (MovesTo (are_rivals b))
   -- its write failed: it may have reached any of its sectors, and stays dirty
-  pub write_out_fails : (count begun check : ℕ) (f : StoreFacts) (b : Block) (x : Body) (old new : D) → f.body b ≡ Some x → is_ready f b ≡ true → has_spelling b.kind x.bytes ≡ true → f.noted ≡ None
+  pub write_out_fails : (count begun check : ℕ) (f : StoreFacts) (b : Block) (x : Body) (old new : D) → f.body b ≡ Some x → is_ready f b ≡ true → has_spelling b.kind x.bytes ≡ true
       → IfSome (changes new).disk IsSized → moment old ≤ begun → (fault : Failed) → SendsBody gives changes moment begun b x.bytes check (Err fault) old new
       → Simulates count (moment old) (changes old) (changes new) f (sent_out_facts b f) (MovesTo (are_rivals b))
   -- a body without a spelling: its sectors were written as they stand, in a write that answered Ok, or failed

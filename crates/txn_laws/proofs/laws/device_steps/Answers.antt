@@ -15,8 +15,8 @@ returns g c = record {
   page_fails = λ count f word old new sees sized lt fault sent. page_goes_badly _ _ _ count f word old new sees sized lt fault sent;
   sync = λ count f old new sized unnamed syncs. is_synced g.D.Device.changes_of g.D.Device.moment_of count f old new sized unnamed syncs;
   sync_fails = λ count f old new fault syncs. sync_fails count _ fault _ _ f syncs;
-  write_out = λ count begun check f b x old new kept ready spells small unnoted sized later sent. is_written_out _ _ _ count begun check f b x old new kept ready spells small unnoted sized later sent;
-  write_out_fails = λ count begun check f b x old new kept ready spells unnoted sized later fault sent. is_not_written_out _ _ _ count begun check f b x old new kept ready spells unnoted sized later fault sent;
+  write_out = λ count begun check f b x old new kept ready spells small sized later sent. is_written_out _ _ _ count begun check f b x old new kept ready spells small sized later sent;
+  write_out_fails = λ count begun check f b x old new kept ready spells sized later fault sent. is_not_written_out _ _ _ count begun check f b x old new kept ready spells sized later fault sent;
   again = λ count begun f b x bytes old new there sees sized later sent. is_written_again _ _ _ count begun f b x bytes old new there.kept there.dirty there.free there.bare there.size sees there.same sized later sent;
   again_fails = λ count begun f b x bytes old new there sees sized later fault sent. is_not_written_again _ _ _ count begun f b x bytes old new there.kept there.dirty there.free there.bare there.size sees there.same sized later fault sent;
 }
