@@ -1,0 +1,17 @@
+pub mod Telling
+pub mod Memory
+pub mod PageWrites
+pub mod Growing
+pub mod Appended
+pub mod Commits
+pub mod Syncs
+pub mod Rivals
+pub mod WriteOuts
+pub mod Cutting
+pub mod Chains
+pub mod Changes
+pub mod Agains
+pub mod Starts
+pub mod Following
+pub mod Showing
+pub mod Openings

@@ -1,0 +1,52 @@
+-- What a window shows: the present bodies, and the laps that an image says.
+use Rattle.std.proofs.Common.{◌≡◌, subst, ℕ, ◌+◌, ◌-◌, ◌/◌, ◌≤◌, true, List, Option, Some, None, refl, sym, ap₂, arith}
+use Rattle.std.specs.Prelude.{IfSome, unwrap_or}
+use mathlib.Core.Path.{fun_ext}
+use Rattle.disk_model.specs.declared.block.Block.{Block}
+use Rattle.disk_model.specs.Sectors.{sector_of}
+use Rattle.disk_model.specs.Content.{content_of}
+use Rattle.sector_device.specs.Disks.{Disk, MayLeave, SeesDisk, seen}
+use Rattle.sector_device.specs.Moments.{Changes, MayLeaveNow}
+use Rattle.log_page.specs.Places.{lap_of}
+use Rattle.log_page.specs.LiveLogs.{said_lsn}
+use Rattle.log_area.specs.Areas.{lap_at}
+use Rattle.store_model.specs.Geometry.{SectorBytes}
+use Rattle.store_model.specs.Stores.{Store}
+use Rattle.store_model.specs.Volumes.{is_known, ContentWindow, window_of}
+use Rattle.ring_laws.specs.Numbers.{IsInRing, lap_of_page}
+use Rattle.ring_laws.specs.PageBytes.{raw_page}
+use Rattle.ring_laws.proofs.RingFacts.{laps_climb}
+use Rattle.ring_laws.proofs.RingReads.{laps_said}
+use Rattle.txn_model.specs.Values.{StoreFacts, own_of}
+use Rattle.txn_laws.specs.Standing.{StandsBehind, session_of}
+use Rattle.txn_laws.specs.Windows.{HasWindow, IsShown}
+use Rattle.txn_laws.proofs.Changes.{is_present}
+
+shown_of : (f : StoreFacts) (disk : Disk) (m : Store) → StandsBehind f disk m → (b : Block) → is_known (own_of f) b ≡ true → IsShown (window_of m.window) b (unwrap_or (f.body b) (content_of (seen disk) b))
+shown_of f disk m h b known = let x = is_present f disk m h b (unwrap_or (f.body b) (content_of (seen disk) b)) known refl in record { bytes = x.bytes; torn = x.torn }
+
+pub present_shown : (changes : Changes) (f : StoreFacts) (w : ContentWindow) (gives : Option (List (List ℕ))) → HasWindow changes f w → SeesDisk gives changes.disk → (b : Block) → is_known (own_of f) b ≡ true
+    → IfSome gives (λ disk. IsShown w b (unwrap_or (f.body b) (content_of (sector_of disk) b)))
+present_shown changes f w None has sees b known = tt
+present_shown changes f w (Some d) has sees b known =
+    let same : sector_of d ≡ seen has.0 = fun_ext (subst (λ (o : Option Disk). SeesDisk (Some d) o) has.1 sees) in
+    subst (λ (at : SectorBytes). IsShown w b (unwrap_or (f.body b) (content_of at b))) (sym same)
+    (subst (λ (v : ContentWindow). IsShown v b (unwrap_or (f.body b) (content_of (seen has.0) b))) has.4 (shown_of f has.0 has.2 has.3 b known))
+
+-- no image says a lap above that of the page that is filled
+pub laps_shown : (count : ℕ) (changes : Changes) (f : StoreFacts) (w : ContentWindow) (image : List (List ℕ)) → HasWindow changes f w → MayLeaveNow count changes image
+    → (k lsn : ℕ) → IsInRing f.place k → said_lsn (raw_page f.place (sector_of image) k) ≡ Some lsn → lap_of f.place.pages lsn ≤ lap_at f.log f.log.sealed
+laps_shown count changes f w image has left k lsn inside said =
+    let may : MayLeave count has.0 image = subst (λ (o : Option Disk). IfSome o (λ d. MayLeave count d image)) has.1 left in
+    let h = has.3 in
+    let s = session_of f h.lap in
+    let ring = h.stands.ring.ring in
+    let low = laps_said s h.ring f.log.check h.pages has.0 ring (sector_of image) may.each k lsn inside said in
+    let sent : h.ring.sent ≤ f.log.sealed = sent_below f.log.check refl h in
+    let climb = laps_climb s ring.lies h.ring.sent f.log.sealed sent in
+    let same : lap_of_page s f.log.sealed ≡ lap_at f.log f.log.sealed = ap₂ (λ (p : ℕ) (l : ℕ). l + f.log.sealed / (p - 4)) (sym h.stands.ring.session.pages) (sym h.stands.ring.session.lap) in
+    omega (arith, low, climb, same)
+  where
+    sent_below : (c : Option ℕ) → f.log.check ≡ c → (h : StandsBehind f has.0 has.2) → h.ring.sent ≤ f.log.sealed
+    sent_below (Some word) is h = omega (arith, h.stands.ring.ring.next, h.stands.ring.begun word is, h.stands.ring.done)
+    sent_below None is h = omega (arith, h.stands.ring.ring.unbegun is, h.stands.ring.done, h.stands.ring.area.sealed_pages)

@@ -1,0 +1,146 @@
+-- The laws of a store's calls.
+use Rattle.std.specs.Prelude.{Bool, ◌≡◌, ℕ, ◌+◌, ◌*◌, ◌^◌, ◌<◌, ◌≤◌, true, false, List, [], length, Option, Some, None, Result, Ok, Err, IfSome, is_some, unwrap_or}
+use Rattle.host_base.specs.declared.outside.Failed.{Failed}
+use Rattle.disk_model.specs.declared.block.Block.{Block}
+use Rattle.disk_model.specs.declared.block.Body.{Body}
+use Rattle.disk_model.specs.Bytes.{written}
+use Rattle.disk_model.specs.Sectors.{sector_of, sectors, are_rivals}
+use Rattle.disk_model.specs.Content.{content_of}
+use Rattle.fixup_record.specs.Spellings.{has_spelling, spelled}
+use Rattle.sector_device.specs.Disks.{Disk, IsSettled, IsSized, SeesDisk, is_within, seen}
+use Rattle.sector_device.specs.Sectors.{sectors_of}
+use Rattle.sector_device.specs.Moments.{Changes, Syncs, MayLeaveNow}
+use Rattle.log_model.specs.declared.entry.Act.TheVariants.{Commit}
+use Rattle.log_area.specs.Calls.{IsAsked, Sends}
+use Rattle.store_model.specs.Volumes.{is_known, sectors_from, ContentWindow}
+use Rattle.log_page.specs.declared.places.LogPlace.{LogPlace}
+use Rattle.log_page.specs.declared.restart.Restart.{Restart}
+use Rattle.log_area.specs.Areas.{LogAreaOf, lap_at, number_lsn, new_area, named_area, synced_area}
+use Rattle.store_model.specs.Rings.{Ring, Restarts}
+use Rattle.ring_laws.specs.Numbers.{lsn_of_page, IsInRing}
+use Rattle.ring_laws.specs.PageBytes.{raw_page}
+use Rattle.log_page.specs.Places.{lap_of}
+use Rattle.log_page.specs.LiveLogs.{said_lsn}
+use Rattle.ring_laws.specs.RestartPages.{RestartFields}
+use Rattle.area_laws.specs.Standing.{Stands}
+use Rattle.area_laws.specs.Laws.{SendsNext, SendsRestart, MayName}
+use Rattle.txn_model.specs.Values.{StoreFacts, own_of}
+use Rattle.txn_model.specs.Pieces.{next_entry}
+use Rattle.txn_model.specs.Calls.{first_facts, begun_facts, committed_facts, given_up_facts, change_acts, changed_facts, sealed_facts, written_facts, sent_facts, is_buried, synced_facts, is_ready, written_out_facts, sent_out_facts, again_facts}
+use Rattle.txn_laws.specs.Appending.{MayAppend, MayAppendAll}
+use Rattle.txn_laws.specs.Windows.{HasMachine, HasWindow, HasStart, IsShown, RecoversWithin, Simulates, AfterBegin, AfterChange, AfterCommit, AfterGiveUp, AfterWrite, MovesTo}
+
+-- What a window says.
+pub record WindowsTell : Type 0 where
+  -- at a return: whatever a crash may leave recovers to a content of the window
+  pub at_return : (count : ℕ) (changes : Changes) (f : StoreFacts) (w : ContentWindow) (image : List (List ℕ)) → HasWindow changes f w → MayLeaveNow count changes image → RecoversWithin f.place (own_of f) w (sector_of image)
+  -- and says no lap above that of the page that is filled
+  pub laps : (count : ℕ) (changes : Changes) (f : StoreFacts) (w : ContentWindow) (image : List (List ℕ)) → HasWindow changes f w → MayLeaveNow count changes image
+      → (k lsn : ℕ) → IsInRing f.place k → said_lsn (raw_page f.place (sector_of image) k) ≡ Some lsn → lap_of f.place.pages lsn ≤ lap_at f.log f.log.sealed
+  -- the present body of a known block is the one that is kept, or what a read gives
+  pub present : (changes : Changes) (f : StoreFacts) (w : ContentWindow) (gives : Option (List (List ℕ))) → HasWindow changes f w → SeesDisk gives changes.disk → (b : Block) → is_known (own_of f) b ≡ true
+      → IfSome gives (λ disk. IsShown w b (unwrap_or (f.body b) (content_of (sector_of disk) b)))
+  -- as many commits wait as aren't known durable
+  pub waiting : (changes : Changes) (f : StoreFacts) (w : ContentWindow) → HasWindow changes f w → f.durable + w.waiting ≡ f.commits
+  pub is_open : (changes : Changes) (f : StoreFacts) (w : ContentWindow) → HasWindow changes f w → w.is_open ≡ f.is_open
+  -- and a machine stands behind the store
+  pub machine : (changes : Changes) (f : StoreFacts) (w : ContentWindow) → HasWindow changes f w → HasMachine changes f
+
+-- A store begins on a settled device whose log stands without entries, where the last durable restart page names the ring's oldest page and no other one was begun.
+pub record StoresStart : Type 0 where
+  pub start : (changes : Changes) (place : LogPlace) (log : LogAreaOf) (found : List Block) (lap : ℕ) (r : Ring) (q : Restarts) (fields : RestartFields) (disk : Disk) (own : Restart) → changes.disk ≡ Some disk
+      → Stands (record { place = place; lap = lap }) log r q [] fields disk → q.begun ≡ false → fields q.sure ≡ Some own → own.oldest ≡ lsn_of_page (record { place = place; lap = lap }) r.oldest
+      → IsSettled disk → IsSized disk → HasStart changes (first_facts place log found) (content_of (seen disk))
+
+-- The open transaction may change the block in this way, where this is its present body: the bytes fit, the body after them has a spelling, no rival of the block was
+-- changed by the transaction, and the log has room.
+pub record MayChangeBlock (f : StoreFacts) (c : Block) (at : ℕ) (new : List ℕ) (present : Body) : Type 0 where
+  pub opened : f.is_open ≡ true
+  pub known : is_known (own_of f) c ≡ true
+  pub some : 0 < length new
+  pub fits : at + length new ≤ 512 * sectors c.kind
+  pub spelled : has_spelling c.kind (written at new present.bytes) ≡ true
+  pub alone : (x : Block) → are_rivals c x ≡ true → f.before x ≡ None
+  pub room : MayAppendAll f.log f.tx f.last (change_acts f c at new present)
+
+-- Calls in memory.
+pub record MemoryCalls : Type 0 where
+  pub begin : (count moment : ℕ) (changes : Changes) (f : StoreFacts) → f.is_open ≡ false → Simulates count moment changes changes f (begun_facts f) AfterBegin
+  -- the present body is the one that is kept, or what a read gives
+  pub change : (count moment : ℕ) (changes : Changes) (f : StoreFacts) (c : Block) (at : ℕ) (new : List ℕ) (present : Body) (gives : Option (List (List ℕ))) → MayChangeBlock f c at new present
+      → SeesDisk gives changes.disk → IfSome gives (λ disk. unwrap_or (f.body c) (content_of (sector_of disk) c) ≡ present)
+      → Simulates count moment changes changes f (changed_facts c at new present f) (AfterChange c at new)
+  pub commit : (count moment : ℕ) (changes : Changes) (f : StoreFacts) → f.is_open ≡ true → MayAppend f.log (next_entry f.log f.tx f.last Commit)
+      → Simulates count moment changes changes f (committed_facts f) AfterCommit
+  pub give_up : (count moment : ℕ) (changes : Changes) (f : StoreFacts) → f.is_open ≡ true → Simulates count moment changes changes f (given_up_facts f) AfterGiveUp
+  pub seal : (count moment : ℕ) (changes : Changes) (f : StoreFacts) → Simulates count moment changes changes f (sealed_facts f) AfterWrite
+  -- a device was read, in however many calls, and then a call was made in memory or of the device
+  pub read_before : (count early late : ℕ) (old mid now : Changes) (f g : StoreFacts) (c : Block) (at : ℕ) (new : List ℕ) → early ≤ late → Simulates count early old mid f f AfterWrite
+      → Simulates count late mid now f g (AfterChange c at new) → Simulates count early old now f g (AfterChange c at new)
+
+-- the first LSN of a session, whose log is new
+abbrev pub first_lsn : LogPlace → ℕ → ℕ → ℕ → ℕ
+first_lsn place lap restart opens = number_lsn (new_area place lap restart opens) 0 0x40
+
+-- its ring once its first restart page was written, which names this place, and synced
+abbrev pub opened_area : LogPlace → ℕ → ℕ → ℕ → LogAreaOf
+opened_area place lap restart opens = synced_area (named_area (first_lsn place lap restart opens) (new_area place lap restart opens))
+
+-- The disk of the device is known, and the store that begins on it has a window, whose present content is what is seen of the disk.
+pub record StartsOn {D : Type 0} (changes : D → Changes) (place : LogPlace) (log : LogAreaOf) (found : List Block) (device : D) : Type 0 where
+  pub disk : Disk
+  pub known : (changes device).disk ≡ Some disk
+  pub start : HasStart (changes device) (first_facts place log found) (content_of (seen disk))
+
+-- a sync of a device
+abbrev pub SyncsNow : {D : Type 0} → (D → Changes) → (D → ℕ) → Result (Unit {0}) Failed → D → D → Type 0
+SyncsNow changes moment result old new = Syncs (moment old) result (changes old) (changes new)
+
+-- a body is sent to its block, in a call that begins at this moment
+abbrev pub SendsBody : {D : Type 0} → (D → Option (List (List ℕ))) → (D → Changes) → (D → ℕ) → ℕ → Block → List ℕ → ℕ → Result (Unit {0}) Failed → D → D → Type 0
+SendsBody gives changes moment begun b bytes check result old new = Sends gives changes moment begun b.first (spelled b.kind check bytes) result old new
+
+-- the bytes of the block's sectors are sent to them
+abbrev pub SendsAgain : {D : Type 0} → (D → Option (List (List ℕ))) → (D → Changes) → (D → ℕ) → ℕ → Block → List ℕ → Result (Unit {0}) Failed → D → D → Type 0
+SendsAgain gives changes moment begun b bytes result old new = Sends gives changes moment begun b.first bytes result old new
+
+-- A body without a spelling that a give-up brought back, over sectors that have these bytes.
+pub record StandsThere (gives : Option (List (List ℕ))) (f : StoreFacts) (b : Block) (x : Body) (bytes : List ℕ) : Type 0 where
+  pub kept : f.body b ≡ Some x
+  pub dirty : (f.mark b).dirty ≡ true
+  pub free : is_some (f.before b) ≡ false
+  pub bare : has_spelling b.kind x.bytes ≡ false
+  pub size : length bytes ≡ 512 * sectors b.kind
+  pub same : (n : ℕ) → is_within b.first (sectors b.kind) n ≡ true → IfSome gives (λ d. sectors_from b.first (sectors_of bytes) n ≡ sector_of d n)
+
+-- Calls of a device, of which these are the words of its contract.
+pub record DeviceSteps {D : Type 0} (gives : D → Option (List (List ℕ))) (changes : D → Changes) (moment : D → ℕ) : Type 0 where
+  -- a session is opened on a log of which its ring stands: a restart page that names its first page was written, and synced
+  pub open_log : (place : LogPlace) (found : List Block) (lap restart opens : ℕ) (r : Ring) (q : Restarts) (fields : RestartFields) (disk : Disk) (clean : Bool) (word : ℕ) (old mid new : D) → (changes old).disk ≡ Some disk
+      → SeesDisk (gives old) (changes old).disk → IfSome (changes new).disk IsSized → Stands (record { place = place; lap = lap }) (new_area place lap restart opens) r q [] fields disk
+      → MayName (new_area place lap restart opens) q fields (first_lsn place lap restart opens) clean → SendsRestart gives changes moment (new_area place lap restart opens) (first_lsn place lap restart opens) clean word (Ok tt) old mid
+      → SyncsNow changes moment (Ok tt) mid new → StartsOn changes place (opened_area place lap restart opens) found new
+  -- what reads alone leaves the window
+  pub read : (count : ℕ) (f : StoreFacts) (old new : D) → IsAsked gives changes moment old new → Simulates count (moment old) (changes old) (changes new) f f AfterWrite
+  -- a page of the log was written; it was sent in a write that failed
+  pub page : (count : ℕ) (f : StoreFacts) (word : ℕ) (old new : D) → SeesDisk (gives old) (changes old).disk → IfSome (changes new).disk IsSized → f.log.done < f.log.sealed
+      → SendsNext gives changes moment f.log word (Ok tt) old new → Simulates count (moment old) (changes old) (changes new) f (written_facts f) AfterWrite
+  pub page_fails : (count : ℕ) (f : StoreFacts) (word : ℕ) (old new : D) → SeesDisk (gives old) (changes old).disk → IfSome (changes new).disk IsSized → f.log.done < f.log.sealed
+      → (fault : Failed) → SendsNext gives changes moment f.log word (Err fault) old new → Simulates count (moment old) (changes old) (changes new) f (sent_facts word f) AfterWrite
+  -- a sync where no restart page was written: dead bodies leave whose killers it made durable; and a sync that failed
+  pub sync : (count : ℕ) (f : StoreFacts) (old new : D) → IfSome (changes new).disk IsSized → f.log.named ≡ None → SyncsNow changes moment (Ok tt) old new
+      → Simulates count (moment old) (changes old) (changes new) f (synced_facts f) (MovesTo (λ b. is_buried f.log.done (f.mark b)))
+  pub sync_fails : (count : ℕ) (f : StoreFacts) (old new : D) (fault : Failed) → SyncsNow changes moment (Err fault) old new → Simulates count (moment old) (changes old) (changes new) f f AfterWrite
+  -- a block was written out
+  pub write_out : (count begun check : ℕ) (f : StoreFacts) (b : Block) (x : Body) (old new : D) → f.body b ≡ Some x → is_ready f b ≡ true → has_spelling b.kind x.bytes ≡ true → check < 2 ^ 16
+      → IfSome (changes new).disk IsSized → moment old ≤ begun → SendsBody gives changes moment begun b x.bytes check (Ok tt) old new
+      → Simulates count (moment old) (changes old) (changes new) f (written_out_facts b f) (MovesTo (are_rivals b))
+  -- its write failed: it may have reached any of its sectors, and stays dirty
+  pub write_out_fails : (count begun check : ℕ) (f : StoreFacts) (b : Block) (x : Body) (old new : D) → f.body b ≡ Some x → is_ready f b ≡ true → has_spelling b.kind x.bytes ≡ true
+      → IfSome (changes new).disk IsSized → moment old ≤ begun → (fault : Failed) → SendsBody gives changes moment begun b x.bytes check (Err fault) old new
+      → Simulates count (moment old) (changes old) (changes new) f (sent_out_facts b f) (MovesTo (are_rivals b))
+  -- a body without a spelling: its sectors were written as they stand, in a write that answered Ok, or failed
+  pub again : (count begun : ℕ) (f : StoreFacts) (b : Block) (x : Body) (bytes : List ℕ) (old new : D) → StandsThere (gives old) f b x bytes → SeesDisk (gives old) (changes old).disk → IfSome (changes new).disk IsSized
+      → moment old ≤ begun → SendsAgain gives changes moment begun b bytes (Ok tt) old new → Simulates count (moment old) (changes old) (changes new) f (again_facts b f) AfterWrite
+  pub again_fails : (count begun : ℕ) (f : StoreFacts) (b : Block) (x : Body) (bytes : List ℕ) (old new : D) → StandsThere (gives old) f b x bytes → SeesDisk (gives old) (changes old).disk → IfSome (changes new).disk IsSized
+      → moment old ≤ begun → (fault : Failed) → SendsAgain gives changes moment begun b bytes (Err fault) old new → Simulates count (moment old) (changes old) (changes new) f f AfterWrite

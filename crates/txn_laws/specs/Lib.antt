@@ -1,0 +1,5 @@
+pub mod Appending
+pub mod Standing
+pub mod Windows
+pub mod Following
+pub mod Laws

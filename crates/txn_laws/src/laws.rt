@@ -1,0 +1,36 @@
+ghost use Rattle.txn_laws.specs.Following.{WindowsFollow};
+ghost use Rattle.txn_laws.specs.Laws.{DeviceSteps, MemoryCalls, StoresStart, WindowsTell};
+
+use sector_device::Device;
+
+/// Law: at a return, whatever a crash may leave recovers to a content of the store's window, in
+/// which as many commits wait as aren't known durable; and each present body is the one that is
+/// kept, or what a read gives.
+pub fn windows_tell()
+    ensures { WindowsTell }
+{}
+
+/// Law: a store on a settled device whose log has no entries has a window, whose present content is
+/// what reads give.
+pub fn stores_start()
+    ensures { StoresStart }
+{}
+
+/// Law: each call in memory leaves a store whose window follows the one before.
+pub fn memory_calls()
+    ensures { MemoryCalls }
+{}
+
+/// Law: so does each step that calls the device, whether its write answers `Ok` or fails; and an
+/// image that a crash inside it leaves counted before, or recovers to a content of the window
+/// before or after it.
+pub fn device_steps<D: Device>(_device: &D)
+    ensures { DeviceSteps D.gives D.changes_of D.moment_of }
+{}
+
+/// Law: behind each call the contents that are left are those of before, or newer, on the blocks
+/// that were spared. So an image that was left since a moment recovers to a content no older than
+/// what was known durable then.
+pub fn windows_follow()
+    ensures { WindowsFollow }
+{}
