@@ -3,3 +3,8 @@ pub mod Touching
 pub mod Puts
 pub mod Ranges
 pub mod Finished
+pub mod Blocks
+pub mod Written
+pub mod Parts
+pub mod Spelled
+pub mod Same

@@ -3,3 +3,6 @@ pub mod Drafts
 pub mod Sizes
 pub mod Faults
 pub mod Finishing
+pub mod Records
+pub mod Writing
+pub mod Same

@@ -1,5 +1,5 @@
 //! A draft of a plan as a view.
-ghost use Rattle.std.specs.Prelude.{◌≡◌, ◌*◌, [], true, All, IfErr, IfOk, IfSome, IsOk, OnOk, OnErr, length};
+ghost use Rattle.std.specs.Prelude.{◌≡◌, ◌*◌, [], true, All, IfErr, IfOk, IfSome, IsOk, OnOk, OnErr, is_some, length};
 ghost use Rattle.std.specs.Option.{option_map, ForSome};
 ghost use Rattle.host_base.specs.Causes.{HasCause};
 ghost use Rattle.disk_model.specs.Sectors.{sectors};
@@ -47,6 +47,13 @@ impl<'a, V: View> Draft<'a, V> {
             touched: Vec::new(alloc),
             room,
         }
+    }
+
+    /// Whether a block is touched, by one search.
+    pub fn is_touched(&self, block: Block) -> bool
+        ensures { result ≡ is_some (touched_at self.now.touched.items block) }
+    {
+        find(&self.touched, block).is_some()
     }
 
     /// The changes that the draft comes to, in order of blocks: of each touched block the bytes
