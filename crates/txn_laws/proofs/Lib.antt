@@ -14,4 +14,5 @@ pub mod Agains
 pub mod Starts
 pub mod Following
 pub mod Showing
+pub mod Noting
 pub mod Openings

@@ -22,7 +22,7 @@ use Rattle.store_model.proofs.Lost.{none_covered, said_unmine, unnamed_by}
 use Rattle.store_model.proofs.Sound.{sound-step}
 use Rattle.store_model.proofs.Moving.{windows_move_law}
 use Rattle.ring_laws.proofs.StoreEvents.{log_kept}
-use Rattle.ring_laws.specs.StoreLogs.{LogNumbers, HoldsLog}
+use Rattle.ring_laws.specs.StoreLogs.{HoldsLog}
 use Rattle.area_laws.proofs.Joined.{seals}
 use Rattle.txn_model.specs.declared.mark.Mark.{Mark}
 use Rattle.txn_model.specs.Values.{StoreFacts, own_of}
@@ -87,43 +87,40 @@ sealed_rises a = elim (cases_Bool (is_filling a)) [
   | inr empty ↦ subst (λ (b : Bool). a.sealed ≤ (cond b (record a { free = 64; sealed = a.sealed + 1 }) a).sealed) (sym empty) (omega arith)
 ]
 
-pub seals_page : (f : StoreFacts) (disk : Disk) (m : Store) → StandsBehind f disk m → (n : Store) × StandsBehind (sealed_facts f) disk n × AfterWrite (window_of m.window) (window_of n.window)
-seals_page f disk m h = (m, stands, record { same = refl })
-  where
-    l : LogNumbers
-    l = numbers_of f h.ring h.pages h.restarts h.fields h.noted
+pub sealed_behind : (f : StoreFacts) (disk : Disk) (m : Store) → StandsBehind f disk m → StandsBehind (sealed_facts f) disk m
+sealed_behind f disk m h = record {
+  geometry = h.geometry;
+  volume = h.volume;
+  lap = h.lap;
+  ring = h.ring;
+  pages = h.pages;
+  restarts = h.restarts;
+  fields = h.fields;
+  noted = h.noted;
+  stands = seals (session_of f h.lap) f.log h.ring h.restarts h.pages h.fields disk h.stands;
+  holds =
+      subst (λ (c : Option ℕ). HoldsLog (session_of f h.lap) (record { ring = h.ring; check = c; pages = h.pages; restarts = h.restarts; word = sent_word (sealed_area f.log).sent; fields = h.fields; noted = h.noted }) m disk) (sym (sealed_check f.log))
+      (subst (λ (c : Option SentRestart). HoldsLog (session_of f h.lap) (record { ring = h.ring; check = f.log.check; pages = h.pages; restarts = h.restarts; word = sent_word c; fields = h.fields; noted = h.noted }) m disk) (sym (sealed_sent f.log)) h.holds);
+  below = λ begun. omega (arith, h.below begun, sealed_rises f.log);
+  same = h.same;
+  sized = h.sized;
+  sound = h.sound;
+  window = record { is_open = h.window.is_open; tx = h.window.tx; waiting = h.window.waiting; body = h.window.body; changed = h.window.changed; before = h.window.before };
+  marks = record { dirty = h.marks.dirty; dead = h.marks.dead; kept = h.marks.kept; apart = h.marks.apart; lone = h.marks.lone; known = h.marks.known; changed = h.marks.changed; wet = h.marks.wet; owed = h.marks.owed; due = h.marks.due };
+  by_pages = record {
+    some = h.by_pages.some;
+    imaged = h.by_pages.imaged;
+    until = h.by_pages.until;
+    commit = h.by_pages.commit;
+    killed = h.by_pages.killed;
+    counted = h.by_pages.counted;
+    ends = h.by_pages.ends;
+    begun = h.by_pages.begun;
+  };
+}
 
-    stands : StandsBehind (sealed_facts f) disk m
-    stands = record {
-      geometry = h.geometry;
-      volume = h.volume;
-      lap = h.lap;
-      ring = h.ring;
-      pages = h.pages;
-      restarts = h.restarts;
-      fields = h.fields;
-      noted = h.noted;
-      stands = seals (session_of f h.lap) f.log h.ring h.restarts h.pages h.fields disk h.stands;
-      holds =
-          subst (λ (c : Option ℕ). HoldsLog (session_of f h.lap) (record { ring = h.ring; check = c; pages = h.pages; restarts = h.restarts; word = sent_word (sealed_area f.log).sent; fields = h.fields; noted = h.noted }) m disk) (sym (sealed_check f.log))
-          (subst (λ (c : Option SentRestart). HoldsLog (session_of f h.lap) (record { ring = h.ring; check = f.log.check; pages = h.pages; restarts = h.restarts; word = sent_word c; fields = h.fields; noted = h.noted }) m disk) (sym (sealed_sent f.log)) h.holds);
-      below = λ begun. omega (arith, h.below begun, sealed_rises f.log);
-      same = h.same;
-      sized = h.sized;
-      sound = h.sound;
-      window = record { is_open = h.window.is_open; tx = h.window.tx; waiting = h.window.waiting; body = h.window.body; changed = h.window.changed; before = h.window.before };
-      marks = record { dirty = h.marks.dirty; dead = h.marks.dead; kept = h.marks.kept; apart = h.marks.apart; lone = h.marks.lone; known = h.marks.known; changed = h.marks.changed; wet = h.marks.wet; owed = h.marks.owed; due = h.marks.due };
-      by_pages = record {
-        some = h.by_pages.some;
-        imaged = h.by_pages.imaged;
-        until = h.by_pages.until;
-        commit = h.by_pages.commit;
-        killed = h.by_pages.killed;
-        counted = h.by_pages.counted;
-        ends = h.by_pages.ends;
-        begun = h.by_pages.begun;
-      };
-    }
+pub seals_page : (f : StoreFacts) (disk : Disk) (m : Store) → StandsBehind f disk m → (n : Store) × StandsBehind (sealed_facts f) disk n × AfterWrite (window_of m.window) (window_of n.window)
+seals_page f disk m h = (m, sealed_behind f disk m h, record { same = refl })
 
 -- ---- a give-up
 

@@ -26,7 +26,7 @@ use Rattle.area_laws.specs.Standing.{Stands}
 use Rattle.area_laws.specs.Laws.{SendsNext, SendsRestart, MayName}
 use Rattle.txn_model.specs.Values.{StoreFacts, own_of}
 use Rattle.txn_model.specs.Pieces.{next_entry}
-use Rattle.txn_model.specs.Calls.{first_facts, begun_facts, committed_facts, given_up_facts, change_acts, changed_facts, sealed_facts, written_facts, sent_facts, is_buried, synced_facts, is_ready, written_out_facts, sent_out_facts, again_facts}
+use Rattle.txn_model.specs.Calls.{first_facts, begun_facts, committed_facts, given_up_facts, change_acts, changed_facts, sealed_facts, noted_facts, written_facts, sent_facts, is_buried, synced_facts, is_ready, written_out_facts, sent_out_facts, again_facts}
 use Rattle.txn_laws.specs.Appending.{MayAppend, MayAppendAll}
 use Rattle.txn_laws.specs.Windows.{HasMachine, HasWindow, HasStart, IsShown, RecoversWithin, Simulates, AfterBegin, AfterChange, AfterCommit, AfterGiveUp, AfterWrite, MovesTo}
 
@@ -74,6 +74,8 @@ pub record MemoryCalls : Type 0 where
       → Simulates count moment changes changes f (committed_facts f) AfterCommit
   pub give_up : (count moment : ℕ) (changes : Changes) (f : StoreFacts) → f.is_open ≡ true → Simulates count moment changes changes f (given_up_facts f) AfterGiveUp
   pub seal : (count moment : ℕ) (changes : Changes) (f : StoreFacts) → Simulates count moment changes changes f (sealed_facts f) AfterWrite
+  -- a checkpoint begins
+  pub note : (count moment : ℕ) (changes : Changes) (f : StoreFacts) → f.is_open ≡ false → f.noted ≡ None → Simulates count moment changes changes f (noted_facts f) AfterWrite
   -- a device was read, in however many calls, and then a call was made in memory or of the device
   pub read_before : (count early late : ℕ) (old mid now : Changes) (f g : StoreFacts) (c : Block) (at : ℕ) (new : List ℕ) → early ≤ late → Simulates count early old mid f f AfterWrite
       → Simulates count late mid now f g (AfterChange c at new) → Simulates count early old now f g (AfterChange c at new)

@@ -1,5 +1,5 @@
 -- What each call makes of what a store keeps.
-use Rattle.std.specs.Prelude.{ℕ, suc, ◌+◌, ◌-◌, ◌*◌, ◌/◌, ◌==◌, ◌&&◌, ◌||◌, not, nat_le, Bool, true, false, if◌then◌else◌, List, [], ◌∷◌, ◌++◌, length, map, replicate, slice_index, Option, Some, None, is_some, unwrap_or}
+use Rattle.std.specs.Prelude.{ℕ, suc, ◌+◌, ◌-◌, ◌*◌, ◌/◌, ◌==◌, ◌&&◌, ◌||◌, not, nat_le, Bool, true, false, if◌then◌else◌, List, [], ◌∷◌, ◌++◌, map, replicate, slice_index, Option, Some, None, is_some, unwrap_or}
 use Rattle.std.specs.List.{list_any, range_with_len}
 use Rattle.std.specs.Option.{option_or}
 use Rattle.disk_model.specs.declared.block.Block.{Block}
@@ -107,6 +107,14 @@ given_up_facts f = record f {
 
 abbrev pub sealed_facts : StoreFacts → StoreFacts
 sealed_facts f = record f { log = sealed_area f.log }
+
+-- A checkpoint begins: the page that is filled is sealed, and the next one is noted. It owes each block that is dirty or dead, and what was written since the last
+-- sync is due; no block stands whole in the log from there on.
+abbrev pub noted_mark : Mark → Mark
+noted_mark m = record m { owed = m.dirty || m.dead; due = m.wet; imaged = false }
+
+abbrev pub noted_facts : StoreFacts → StoreFacts
+noted_facts f = record f { log = sealed_area f.log; mark = λ b. noted_mark (f.mark b); noted = Some (sealed_area f.log).sealed }
 
 -- a page was written, and one was sent in a write that failed
 abbrev pub written_facts : StoreFacts → StoreFacts

@@ -5,7 +5,7 @@ use Rattle.disk_model.specs.Bytes.{part, written}
 use Rattle.disk_model.specs.Sectors.{sectors}
 use Rattle.log_model.specs.declared.entry.Entry.{Entry}
 use Rattle.log_model.specs.declared.entry.Act.{Act}
-use Rattle.log_model.specs.declared.entry.Act.TheVariants.{Update, Commit}
+use Rattle.log_model.specs.declared.entry.Act.TheVariants.{Update}
 use Rattle.log_model.specs.Entries.{most_bytes, act_size}
 use Rattle.log_area.specs.Areas.{LogAreaOf, next_lsn, place_at, appended}
 use Rattle.block_pool.specs.Numbers.{kind_number}
