@@ -1,0 +1,3 @@
+pub mod Stood
+pub mod Pieces
+pub mod Told
