@@ -12,6 +12,6 @@ returns-then-holds-clause-word g c =
     let within : c.args.block.first % 128 + sectors c.args.block.kind ≤ 128 = c.holds.ensures.within c.if-holds.true in
     told_by known c.word_in.result c.args.block c.copy_part.new.out (raw / 512)
     (part_of_piece known known (g.D.Device.sector_count c.args.self.now.device) c.args.block.first raw c.args.self.now.room.items c.deref.result.now c.copy_part.new.out
-      (g.met.D.Device.whole c.args.self.now.device) refl (c.args.self.now.filled (c.args.block.first / 128) (c.holds.ensures.piece c.if-holds.true)) c.deref.ensures.value c.copy_part.ensures (omega (arith, c.requires)) (omega (arith, count, within)))
+    (g.met.D.Device.whole c.args.self.now.device) refl (c.args.self.now.filled (c.args.block.first / 128) (c.holds.ensures.piece c.if-holds.true)) c.deref.ensures.value c.copy_part.ensures (omega (arith, c.requires)) (omega (arith, count, within)))
     count
     c.word_in.ensures.word
