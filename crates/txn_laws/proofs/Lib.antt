@@ -1,0 +1,11 @@
+pub mod Telling
+pub mod Memory
+pub mod PageWrites
+pub mod Growing
+pub mod Appended
+pub mod Commits
+pub mod Syncs
+pub mod WriteOuts
+pub mod Cutting
+pub mod Chains
+pub mod Changes

@@ -1,0 +1,173 @@
+-- What a window says, and simulations from steps of the machine behind a store.
+use Rattle.std.proofs.Common.{◌≡◌, ◌⊎◌, subst, ℕ, ◌+◌, ◌≤◌, List, Option, Some, None, refl, sym, ◌∙◌, inl, inr, arith}
+use Rattle.std.specs.Prelude.{Result, Ok, Err, IfSome}
+use Rattle.std.specs.Option.{option_map}
+use Rattle.disk_model.specs.declared.block.Block.{Block}
+use Rattle.disk_model.specs.Sectors.{sector_of}
+use Rattle.sector_device.specs.Disks.{Disk, MayLeave, IsSized, IsTornDisk, put, settled}
+use Rattle.sector_device.specs.Moments.{Changes, Remembers, Writes, Syncs, MayLeaveNow, LeftSince}
+use Rattle.sector_device.proofs.Images.{image_is_disk, one_call_more}
+use Rattle.log_page.specs.declared.places.LogPlace.{LogPlace}
+use Rattle.store_model.specs.Geometry.{SectorBytes, CanLeave}
+use Rattle.store_model.specs.Stores.{Store}
+use Rattle.store_model.specs.Volumes.{ContentWindow, window_of, AreWhole}
+use Rattle.ring_laws.proofs.StoreRecovers.{image_recovers}
+use Rattle.txn_model.specs.Values.{StoreFacts, own_of, is_own}
+use Rattle.txn_laws.specs.Standing.{StandsBehind, session_of, numbers_of}
+use Rattle.txn_laws.specs.Windows.{HasMachine, HasWindow, RecoversWithin, During, Simulates, AfterWrite}
+
+some_inj : {A : Type 0} (a b : A) → Some a ≡ Some b → a ≡ b
+some_inj a b e = cc
+
+behind_recovers : (f : StoreFacts) (disk : Disk) (m : Store) → StandsBehind f disk m → (image : SectorBytes) → CanLeave disk image → AreWhole image → RecoversWithin f.place (own_of f) (window_of m.window) image
+behind_recovers f disk m h image left whole =
+    let x = image_recovers (own_of f) h.geometry h.volume (session_of f h.lap) (numbers_of f h.ring h.pages h.restarts h.fields h.noted) m disk h.sound h.holds h.same image left whole in
+    record {
+      restart = x.restart;
+      chosen = x.chosen;
+      list = x.list;
+      reads = x.reads;
+      back = x.back;
+      within = x.within;
+      recovers = x.recovers;
+      no_partial = x.no_partial;
+      known = x.known;
+      spelled = x.spelled;
+    }
+
+pub at_return : (count : ℕ) (changes : Changes) (f : StoreFacts) (w : ContentWindow) (image : List (List ℕ)) → HasWindow changes f w → MayLeaveNow count changes image → RecoversWithin f.place (own_of f) w (sector_of image)
+at_return count changes f w image has left =
+    let may : MayLeave count has.0 image = subst (λ (o : Option Disk). IfSome o (λ d. MayLeave count d image)) has.1 left in
+    subst (λ (v : ContentWindow). RecoversWithin f.place (own_of f) v (sector_of image)) has.4
+    (behind_recovers f has.0 has.2 has.3 (sector_of image) may.each (image_is_disk count has.0 image has.3.sized may).whole)
+
+pub waits : (changes : Changes) (f : StoreFacts) (w : ContentWindow) → HasWindow changes f w → f.durable + w.waiting ≡ f.commits
+waits changes f w has = subst (λ (v : ContentWindow). f.durable + v.waiting ≡ f.commits) has.4 has.3.window.waiting
+
+pub is_open_of : (changes : Changes) (f : StoreFacts) (w : ContentWindow) → HasWindow changes f w → w.is_open ≡ f.is_open
+is_open_of changes f w has = subst (λ (v : ContentWindow). v.is_open ≡ f.is_open) has.4 has.3.window.is_open
+
+pub machine_of : (changes : Changes) (f : StoreFacts) (w : ContentWindow) → HasWindow changes f w → HasMachine changes f
+machine_of changes f w has disk is = (has.2, subst (λ (d : Disk). StandsBehind f d has.2) (some_inj has.0 disk (sym has.1 ∙ is)) has.3)
+
+pub keeps : (count moment : ℕ) (old now : Changes) (f g : StoreFacts) (After : ContentWindow → ContentWindow → Type 0) → Simulates count moment old now f g After → HasMachine old f → HasMachine now g
+keeps count moment old now f g After step has e is =
+    let d = step.known e is in
+    let m = has d.0 d.1 in
+    let next = step.steps (window_of m.0.window) (d.0, d.1, m.0, m.1, refl) in
+    machine_of now g next.0 next.1 e is
+
+-- ---- simulations
+
+-- a call in memory
+pub in_memory : (count moment : ℕ) (changes : Changes) (f g : StoreFacts) (After : ContentWindow → ContentWindow → Type 0) → g.place ≡ f.place → g.found ≡ f.found
+    → ((disk : Disk) (m : Store) → changes.disk ≡ Some disk → StandsBehind f disk m → (n : Store) × StandsBehind g disk n × After (window_of m.window) (window_of n.window)) → Simulates count moment changes changes f g After
+in_memory count moment changes f g After place found step = record {
+  known = λ e is. (e, is);
+  place = place;
+  found = found;
+  steps = λ w has. let next = step has.0 has.2 has.1 has.3 in (
+    window_of next.0.window,
+    (has.0, has.1, next.0, next.1, refl),
+    subst (λ (u : ContentWindow). After u (window_of next.0.window)) has.4 next.2,
+    λ t image le left. inl left,
+  );
+}
+
+here : (f g : StoreFacts) (w : ContentWindow) (image : SectorBytes) → g.place ≡ f.place → g.found ≡ f.found → RecoversWithin g.place (own_of g) w image → RecoversWithin f.place (own_of f) w image
+here f g w image place found x =
+    subst (λ (bs : List Block). RecoversWithin f.place (is_own f.place bs) w image) found (subst (λ (p : LogPlace). RecoversWithin p (is_own p g.found) w image) place x)
+
+-- a call that makes one call of the device, which begins at this moment or later
+pub by_device : (count moment begun : ℕ) (old now : Changes) (f g : StoreFacts) (After : ContentWindow → ContentWindow → Type 0) → g.place ≡ f.place → g.found ≡ f.found
+    → ((e : Disk) → now.disk ≡ Some e → (d : Disk) × (old.disk ≡ Some d)) → moment ≤ begun → Remembers begun old now
+    → ((disk : Disk) (m : Store) → old.disk ≡ Some disk → StandsBehind f disk m → (e : Disk) × (now.disk ≡ Some e) × (n : Store) × StandsBehind g e n × After (window_of m.window) (window_of n.window))
+    → Simulates count moment old now f g After
+by_device count moment begun old now f g After place found known later remembers step = record {
+  known = known;
+  place = place;
+  found = found;
+  steps = λ w has. let next = step has.0 has.2 has.1 has.3 in
+      let has' : HasWindow now g (window_of next.2.window) = (next.0, next.1, next.2, next.3, refl) in (
+        window_of next.2.window,
+        has',
+        subst (λ (u : ContentWindow). After u (window_of next.2.window)) has.4 next.4,
+        λ t image le left. during t image (omega (arith, le, later)) (window_of next.2.window) has' left w,
+      );
+}
+  where
+    during : (t : ℕ) (image : List (List ℕ)) → t ≤ begun → (v : ContentWindow) → HasWindow now g v → LeftSince count now t image → (w : ContentWindow)
+        → LeftSince count old t image ⊎ (RecoversWithin f.place (own_of f) w (sector_of image) ⊎ RecoversWithin f.place (own_of f) v (sector_of image))
+    during t image le v has left w =
+        elim (one_call_more count begun t old now image remembers le left) [
+          | inl before ↦ inl before
+          | inr may ↦ inr (inr (here f g v (sector_of image) place found (at_return count now g v image has may)))
+        ]
+
+-- a call that reads, and changes nothing
+pub by_read : (count moment : ℕ) (old now : Changes) (f : StoreFacts) (After : ContentWindow → ContentWindow → Type 0) → ((w : ContentWindow) → After w w) → now ≡ old → Simulates count moment old now f f After
+by_read count moment old now f After same is =
+    subst (λ (c : Changes). Simulates count moment old c f f After) (sym is)
+    (record { known = λ e h. (e, h); place = refl; found = refl; steps = λ w has. (w, has, same w, λ t image le left. inl left) })
+
+-- ---- disks that are known
+
+known_torn : (first : ℕ) (new : List (List ℕ)) (old now : Option Disk) (e : Disk) → now ≡ Some e → IsTornDisk first new old now → (d : Disk) × (old ≡ Some d)
+known_torn first new None None e is torn = absurd cc
+known_torn first new None (Some x) e is torn = absurd torn
+known_torn first new (Some d) now e is torn = (d, refl)
+
+known_map : (change : Disk → Disk) (old : Option Disk) (e : Disk) → option_map change old ≡ Some e → (d : Disk) × (old ≡ Some d)
+known_map change None e is = absurd cc
+known_map change (Some d) e is = (d, refl)
+
+pub known_before_write : {T E : Type 0} (moment first : ℕ) (new : List (List ℕ)) (result : Result T E) (old now : Changes) → Writes moment first new result old now → (e : Disk) → now.disk ≡ Some e → (d : Disk) × (old.disk ≡ Some d)
+known_before_write moment first new (Ok x) old now writes e is = known_map (put first new) old.disk e (sym writes.ok ∙ is)
+known_before_write moment first new (Err x) old now writes e is = known_torn first new old.disk now.disk e is writes.err
+
+pub known_before_sync : {T E : Type 0} (moment : ℕ) (result : Result T E) (old now : Changes) → Syncs moment result old now → (e : Disk) → now.disk ≡ Some e → (d : Disk) × (old.disk ≡ Some d)
+known_before_sync moment (Ok x) old now syncs e is = known_map settled old.disk e (sym syncs.ok ∙ is)
+known_before_sync moment (Err x) old now syncs e is = (e, sym syncs.err ∙ is)
+
+-- a sized disk, as a device's is
+pub sized_of : (changes : Changes) (disk : Disk) → changes.disk ≡ Some disk → IfSome changes.disk IsSized → IsSized disk
+sized_of changes disk is sized = subst (λ (o : Option Disk). IfSome o IsSized) is sized
+
+pub some_is : (a b : Disk) → Some a ≡ Some b → a ≡ b
+some_is a b e = some_inj a b e
+
+-- ---- a call behind one that reads
+
+joined : (count early late : ℕ) (old mid now : Changes) (f : StoreFacts) (w v : ContentWindow) (t : ℕ) (image : List (List ℕ)) → t ≤ early → early ≤ late
+    → During count early old mid f w w → During count late mid now f w v → LeftSince count now t image → LeftSince count old t image ⊎ (RecoversWithin f.place (own_of f) w (sector_of image) ⊎ RecoversWithin f.place (own_of f) v (sector_of image))
+joined count early late old mid now f w v t image le later first second left =
+    elim (second t image (omega (arith, le, later)) left) [
+      | inl between ↦ elim (first t image le between) [
+        | inl before ↦ inl before
+        | inr recovers ↦ inr (inl (either (RecoversWithin f.place (own_of f) w (sector_of image)) recovers))
+      ]
+      | inr recovers ↦ inr recovers
+    ]
+  where
+    either : (X : Type 0) → X ⊎ X → X
+    either X (inl x) = x
+    either X (inr x) = x
+
+pub after_reading : (count early late : ℕ) (old mid now : Changes) (f g : StoreFacts) (After : ContentWindow → ContentWindow → Type 0) → early ≤ late → Simulates count early old mid f f AfterWrite → Simulates count late mid now f g After
+    → Simulates count early old now f g After
+after_reading count early late old mid now f g After later read then = record {
+  known = λ e is. let d = then.known e is in read.known d.0 d.1;
+  place = then.place;
+  found = then.found;
+  steps = λ w has.
+      let one = read.steps w has in
+      let same : one.0 ≡ w = one.2.same in
+      let two = then.steps w (subst (λ (v : ContentWindow). HasWindow mid f v) same one.1) in
+      (two.0, two.1, two.2, λ t image le left. joined count early late old mid now f w two.0 t image le later (subst (λ (v : ContentWindow). During count early old mid f w v) same one.3) two.3 left);
+}
+
+-- ---- a sync that failed
+
+pub sync_fails : {T E : Type 0} (count moment : ℕ) (fault : E) (old now : Changes) (f : StoreFacts) → Syncs {T = T} {E = E} moment (Err fault) old now → Simulates count moment old now f f AfterWrite
+sync_fails count moment fault old now f syncs =
+    by_device count moment moment old now f f AfterWrite refl refl (λ e is. (e, sym syncs.err ∙ is)) (omega arith) syncs.past (λ disk m is h. (disk, syncs.err ∙ is, m, h, record { same = refl }))

@@ -1,0 +1,4 @@
+pub mod Appending
+pub mod Standing
+pub mod Windows
+pub mod Laws

@@ -1,0 +1,95 @@
+-- The window of a store, and what a call does to it.
+use Rattle.std.specs.Prelude.{◌≡◌, ◌⊎◌, ℕ, suc, ◌≤◌, Bool, true, false, List, Some, None}
+use Rattle.disk_model.specs.declared.block.Block.{Block}
+use Rattle.disk_model.specs.Bytes.{written}
+use Rattle.disk_model.specs.Sectors.{sector_of, same_block}
+use Rattle.disk_model.specs.Content.{content_of}
+use Rattle.fixup_record.specs.Spellings.{has_spelling}
+use Rattle.sector_device.specs.Disks.{Disk}
+use Rattle.sector_device.specs.Moments.{Changes, LeftSince}
+use Rattle.log_model.specs.declared.entry.Entry.{Entry}
+use Rattle.log_model.specs.Logs.{is_other, is_written_out, first_partial}
+use Rattle.log_page.specs.declared.places.LogPlace.{LogPlace}
+use Rattle.log_page.specs.declared.restart.Restart.{Restart}
+use Rattle.log_page.specs.LiveLogs.{live_log}
+use Rattle.log_reading.specs.Fronts.{chosen_in}
+use Rattle.store_model.specs.Geometry.{SectorBytes}
+use Rattle.store_model.specs.Stores.{Store}
+use Rattle.store_model.specs.Volumes.{is_known, ContentWindow, window_of, RecoversToContent}
+use Rattle.ring_laws.specs.PageBytes.{raw_page}
+use Rattle.txn_model.specs.Values.{StoreFacts, own_of}
+use Rattle.txn_laws.specs.Standing.{StandsBehind}
+
+-- where the disk is known, a machine stands behind the store
+abbrev pub HasMachine : Changes → StoreFacts → Type 0
+HasMachine changes f = (disk : Disk) → changes.disk ≡ Some disk → (m : Store) × StandsBehind f disk m
+
+-- the disk is known, and this is the window of a machine that stands behind the store
+abbrev pub HasWindow : Changes → StoreFacts → ContentWindow → Type 0
+HasWindow changes f w = (disk : Disk) × (changes.disk ≡ Some disk) × (m : Store) × StandsBehind f disk m × (window_of m.window ≡ w)
+
+-- Recovery of the image chooses a restart page, reads a list of entries from its oldest place on, and no entry of another shape; it refuses the list for no block
+-- that is covered in part, and for no body that has no spelling; and it leaves the known blocks that the list doesn't shadow as they are so many commits back.
+pub record RecoversWithin (place : LogPlace) (own : ℕ → Bool) (w : ContentWindow) (image : SectorBytes) : Type 0 where
+  pub restart : Restart
+  pub chosen : chosen_in (raw_page place image 0) (raw_page place image 1) ≡ Some restart
+  pub list : List Entry
+  pub reads : live_log place.pages (raw_page place image) restart.oldest ≡ record { entries = list; foreign = None }
+  pub back : ℕ
+  pub within : back ≤ w.waiting
+  pub recovers : RecoversToContent own list image (w.before back)
+  pub no_partial : first_partial (content_of image) list ≡ None
+  pub known : (b : Block) → is_written_out (content_of image) list b ≡ true → is_known own b ≡ true
+  pub spelled : (b : Block) → is_written_out (content_of image) list b ≡ true → is_other (content_of image) list b ≡ true → has_spelling b.kind (w.before back b).bytes ≡ true
+
+-- during a call: an image that counts as left since t counted so before, or recovers to a content of the window before or after
+abbrev pub During : (count moment : ℕ) → Changes → Changes → StoreFacts → ContentWindow → ContentWindow → Type 0
+During count moment old now f w v = (t : ℕ) (image : List (List ℕ)) → t ≤ moment → LeftSince count now t image
+    → LeftSince count old t image ⊎ (RecoversWithin f.place (own_of f) w (sector_of image) ⊎ RecoversWithin f.place (own_of f) v (sector_of image))
+
+-- Whatever window the store had, it has one that follows; its device wasn't known only now; and its log lies where it did.
+pub record Simulates (count moment : ℕ) (old now : Changes) (f g : StoreFacts) (After : ContentWindow → ContentWindow → Type 0) : Type 0 where
+  pub known : (e : Disk) → now.disk ≡ Some e → (d : Disk) × (old.disk ≡ Some d)
+  pub place : g.place ≡ f.place
+  pub found : g.found ≡ f.found
+  pub steps : (w : ContentWindow) → HasWindow old f w → (v : ContentWindow) × HasWindow now g v × After w v × During count moment old now f w v
+
+-- ---- the windows after each call
+
+-- nothing changes
+pub record AfterWrite (old new : ContentWindow) : Type 0 where
+  pub same : new ≡ old
+
+pub record AfterBegin (old new : ContentWindow) : Type 0 where
+  pub same : new ≡ record old { is_open = true }
+
+-- the contents of before stay, each one more commit back, and the newest one is the present one
+pub record AfterCommit (old new : ContentWindow) : Type 0 where
+  pub present : new.present ≡ old.present
+  pub is_open : new.is_open ≡ false
+  pub waiting : new.waiting ≡ suc old.waiting
+  pub newest : (b : Block) → new.before 0 b ≡ old.present b
+  pub others : (k : ℕ) (b : Block) → new.before (suc k) b ≡ old.before k b
+
+-- the present content is the newest one again
+pub record AfterGiveUp (old new : ContentWindow) : Type 0 where
+  pub present : (b : Block) → new.present b ≡ old.before 0 b
+  pub is_open : new.is_open ≡ false
+  pub waiting : new.waiting ≡ old.waiting
+  pub others : (k : ℕ) (b : Block) → new.before k b ≡ old.before k b
+
+-- the present content has these bytes over the block's, which isn't torn, and the contents that a crash may bring back stay
+pub record AfterChange (c : Block) (at : ℕ) (put : List ℕ) (old new : ContentWindow) : Type 0 where
+  pub bytes : (new.present c).bytes ≡ written at put (old.present c).bytes
+  pub torn : (new.present c).torn ≡ false
+  pub elsewhere : (b : Block) → same_block b c ≡ false → new.present b ≡ old.present b
+  pub is_open : new.is_open ≡ true
+  pub waiting : new.waiting ≡ old.waiting
+  pub others : (k : ℕ) → k ≤ new.waiting → (b : Block) → new.before k b ≡ old.before k b
+
+-- The contents that are left stay, but for the blocks whose bodies were dropped.
+pub record MovesTo (lost : Block → Bool) (old new : ContentWindow) : Type 0 where
+  pub is_open : new.is_open ≡ old.is_open
+  pub waiting : new.waiting ≤ old.waiting
+  pub present : (b : Block) → lost b ≡ false → new.present b ≡ old.present b
+  pub others : (k : ℕ) → k ≤ new.waiting → (b : Block) → lost b ≡ false → new.before k b ≡ old.before k b

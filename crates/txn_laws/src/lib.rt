@@ -1,0 +1,10 @@
+//! What stands behind what a store of blocks keeps: the pure machine, its log on the disk, and its
+//! window of contents.
+//!
+//! The contract: the laws by which each call, as a function of what the store keeps and by what the
+//! device's contract says of its call, is an event of the machine; as functions with no body.
+#![tactic(auto)]
+
+mod laws;
+
+pub use laws::{device_steps, memory_calls, windows_tell};
