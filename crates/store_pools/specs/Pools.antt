@@ -1,0 +1,20 @@
+-- What a store has of blocks: the bodies that it keeps, and what is marked of each.
+use Rattle.std.specs.Prelude.{List, Option, unwrap_or}
+use Rattle.std.specs.Option.{option_map}
+use Rattle.disk_model.specs.declared.block.Block.{Block}
+use Rattle.disk_model.specs.declared.block.Body.{Body}
+use Rattle.block_pool.specs.Pools.{held}
+use Rattle.txn_model.specs.declared.mark.Mark.{Mark}
+use Rattle.txn_model.specs.Values.{no_mark}
+use Rattle.store_pools.specs.declared.kept.KeptBody.{KeptBody}
+
+abbrev pub body_of_kept : KeptBody → Body
+body_of_kept k = record { bytes = k.bytes; torn = k.torn }
+
+-- the bodies of a pool, by blocks
+abbrev pub bodies_of : List (Block × KeptBody) → Block → Option Body
+bodies_of bodies b = option_map body_of_kept (held bodies b)
+
+-- and the marks, of which a block that has none is plainly clean
+abbrev pub marks_of : List (Block × Mark) → Block → Mark
+marks_of marks b = unwrap_or (held marks b) no_mark
