@@ -1,8 +1,9 @@
 //! Bytes that a draft puts into blocks and streams.
 ghost use Rattle.std.specs.Prelude.{◌≡◌, ◌+◌, ◌*◌, ◌<◌, ◌≤◌, ◌^◌, IfSome, OnOk, OnErr, length};
+ghost use Rattle.disk_model.specs.Bytes.{written};
 ghost use Rattle.disk_model.specs.Sectors.{sectors};
 ghost use Rattle.block_view.specs.Views.{AsksView};
-ghost use Rattle.plan_draft.specs.Touching.{bodies_of};
+ghost use Rattle.plan_draft.specs.Touching.{bodies_of, touch};
 ghost use Rattle.plan_draft.specs.Writing.{present, put_part};
 ghost use Rattle.plan_draft.specs.Faults.{fault_cause};
 
@@ -44,6 +45,7 @@ impl<'a, V: View> Draft<'a, V> {
         bytes: &[u8],
     ) -> Result<(), ViewFault>
         requires inside { offset + length bytes.now ≤ 512 * sectors block.kind }
+        ensures touched { OnOk result (IfSome (V.content self.old.view.now) (λ c. self.new.touched.items ≡ touch block fresh (written offset bytes.now (present c (bodies_of self.old.touched.items) block fresh)) (c block) self.old.touched.items)) }
         ensures bodies { OnOk result (IfSome (V.content self.old.view.now) (λ c. bodies_of self.new.touched.items ≡ put_part c block fresh offset bytes.now (bodies_of self.old.touched.items))) }
         ensures unchanged { OnErr result (self.new.touched.items ≡ self.old.touched.items) }
         ensures asks { AsksView V.content V.kept V.faults fault_cause self.old.view.now self.new.view.now result }
