@@ -1,9 +1,3 @@
-pub mod Keeping
-pub mod Listing
-pub mod Ordering
-pub mod Indexing
-pub mod Nodes
-pub mod Checking
 pub mod EmptyLog
 pub mod NewLog
 pub mod Opening

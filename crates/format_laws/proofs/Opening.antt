@@ -37,7 +37,7 @@ use Rattle.volume_format.specs.Files.{system_data, standard, named as name_attr,
 use Rattle.volume_format.specs.Images.{boot_of, log_bytes, formatted}
 use Rattle.format_blocks.specs.Blocks.{block, HasBlocks}
 use Rattle.format_files.specs.Volumes.{extents_at, new_geometry}
-use Rattle.format_laws.specs.Trees.{new_tree}
+use Rattle.format_rules.specs.Trees.{new_tree}
 use Rattle.format_laws.specs.Images.{NewVolumeStands, NewImageStandsFor}
 use Rattle.format_blocks.proofs.Sizing.{length-log}
 use Rattle.format_blocks.proofs.Standing.{layout_fits, regions_stand}
@@ -46,7 +46,7 @@ use Rattle.format_files.proofs.Streams.{data_is}
 use Rattle.format_files.proofs.Loading.{passes, goes_on}
 use Rattle.format_files.proofs.Tabling.{used, volume_loaded}
 use Rattle.format_files.proofs.Linking.{vol, system_here}
-use Rattle.format_laws.proofs.Checking.{checked_here, state_here}
+use Rattle.format_rules.proofs.Checking.{checked_here, state_here}
 use Rattle.format_laws.proofs.EmptyLog.{filler, filler_part, empty_state, same_content}
 use Rattle.format_laws.proofs.NewLog.{new_place, new_recovery}
 

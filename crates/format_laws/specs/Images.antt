@@ -5,7 +5,7 @@ use Rattle.volume_format.specs.Images.{formatted}
 use Rattle.image_read.specs.Checks.{check_of}
 use Rattle.image_read.specs.States.{StandsFor}
 use Rattle.format_blocks.specs.Regions.{CanFormat}
-use Rattle.format_laws.specs.Trees.{new_tree}
+use Rattle.format_rules.specs.Trees.{new_tree}
 
 -- a check of a device that was formatted answers the tree of the twelve system files, with all clusters after them free
 abbrev pub NewVolumeStands : Type 0

@@ -6,7 +6,4 @@
 
 mod laws;
 
-pub use laws::{
-    loaded_volume_stands, new_image_stands_for, new_volume_keeps_indexes, new_volume_keeps_sizes,
-    new_volume_stands,
-};
+pub use laws::{new_image_stands_for, new_volume_stands};

@@ -3,7 +3,7 @@ ghost use Rattle.std.specs.Prelude.{◌≡◌, ◌*◌, ◌^◌, ◌<◌, IfOk, 
 ghost use Rattle.host_base.specs.Answers.{Gives, GivesOrFails};
 ghost use Rattle.host_base.specs.Causes.{HasFailed, last_moment};
 ghost use Rattle.device_view.specs.Devices.{KeepsDevice, CountsOnDevice};
-ghost use Rattle.volume_map.specs.Maps.{IsMap, IsMapOf, volume_in};
+ghost use Rattle.volume_map.specs.Maps.{IsMapOf, volume_in};
 ghost use Rattle.block_view.specs.Views.{AsksView};
 ghost use Rattle.image_open.specs.Errors.{scan_cause};
 ghost use Rattle.image_read.specs.Errors.{error_of_check};
@@ -43,7 +43,6 @@ fn error_of(fault: CheckFault) -> MountFault
 /// - [`MountFault::Device`]: the view failed.
 /// - [`MountFault::Memory`]: want of memory.
 pub fn tree_on<V: View>(alloc: Global, view: &mut V, map: &VolumeMap) -> Result<Tree, MountFault>
-    requires map { IsMap map.now }
     ensures answer { IfSome (V.content view.old) (λ c. IsMapOf c map.now → GivesOrFails (λ tree. tree) scan_cause result (tree_on c (volume_in map.now))) }
     ensures kept { AsksView V.content V.kept V.faults scan_cause view.old view.new result }
 {
@@ -81,7 +80,6 @@ pub(crate) fn volume_tree<V: View>(
     view: &mut V,
     map: &VolumeMap,
 ) -> Result<Tree, MountFault>
-    requires map { IsMap map.now }
     requires parts { IfSome (V.content view.old) (λ c. IsMapOf c map.now) }
     ensures answer { IfSome (V.content view.old) (λ c. GivesOrFails (λ tree. tree) scan_cause result (volume_tree c (volume_in map.now))) }
     ensures kept { AsksView V.content V.kept V.faults scan_cause view.old view.new result }
@@ -104,7 +102,6 @@ pub fn volume_on<V: View>(
 ) -> Result<VolumeMap, MountFault>
     requires place { geometry.now.mft * geometry.now.per_cluster < 2 ^ 62 }
     ensures answer { IfSome (V.content view.old) (λ c. GivesOrFails volume_in scan_cause result (volume_on c geometry.now total)) }
-    ensures map { IfOk result IsMap }
     ensures parts { IfSome (V.content view.old) (λ c. IfOk result (IsMapOf c)) }
     ensures kept { AsksView V.content V.kept V.faults scan_cause view.old view.new result }
 {

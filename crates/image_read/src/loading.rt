@@ -4,7 +4,7 @@ ghost use Rattle.host_base.specs.Answers.{GivesOrFails};
 ghost use Rattle.disk_model.specs.Content.{Content};
 ghost use Rattle.block_view.specs.Views.{AsksView};
 ghost use Rattle.volume_model.specs.Volumes.{Volume};
-ghost use Rattle.volume_map.specs.Maps.{IsMap, IsMapOf, volume_in};
+ghost use Rattle.volume_map.specs.Maps.{IsMapOf, volume_in};
 ghost use Rattle.image_open.specs.Errors.{scan_cause};
 ghost use Rattle.image_open.specs.declared.refusal.Refusal.{Refusal as the_refusal};
 ghost use Rattle.image_read.specs.Checks.{loaded_in};
@@ -36,7 +36,6 @@ pub trait MapReader {
         view: &mut V,
         map: &VolumeMap,
     ) -> Result<Self::Answer, MountFault>
-        requires map { IsMap map.now }
         requires parts { IfSome (V.content view.old) (λ c. IsMapOf c map.now) }
         ensures answer { IfSome (V.content view.old) (λ c. GivesOrFails Self.shown scan_cause result (meant self.now c (volume_in map.now))) }
         ensures kept { AsksView V.content V.kept V.faults scan_cause view.old view.new result };

@@ -4,7 +4,7 @@ ghost use Rattle.host_base.specs.Answers.{GivesOrFails};
 ghost use Rattle.host_base.specs.Causes.{HasFailed, last_moment};
 ghost use Rattle.device_view.specs.Devices.{KeepsDevice, CountsOnDevice};
 ghost use Rattle.volume_model.specs.Volumes.{upper_of};
-ghost use Rattle.volume_map.specs.Maps.{IsMap, IsMapOf, volume_in};
+ghost use Rattle.volume_map.specs.Maps.{IsMapOf, volume_in};
 ghost use Rattle.block_view.specs.Views.{AsksView};
 ghost use Rattle.image_open.specs.Errors.{scan_cause};
 ghost use Rattle.image_read.specs.Mounts.{volume_mounted, opened_mounted, mounted_in, mounted_of};
@@ -32,7 +32,6 @@ pub struct Mounted {
 
 // The table of upper-case units of a loaded volume.
 fn upper_on<V: View>(alloc: Global, view: &mut V, map: &VolumeMap) -> Result<Upcase, MountFault>
-    requires map { IsMap map.now }
     ensures answer { IfSome (V.content view.old) (λ c. GivesOrFails (λ upper. upper) scan_cause result (Ok (upper_of c (volume_in map.now)))) }
     ensures kept { AsksView V.content V.kept V.faults scan_cause view.old view.new result }
 {
@@ -47,7 +46,6 @@ fn with_upper<V: View>(
     map: &VolumeMap,
     tree: Tree,
 ) -> Result<Mounted, MountFault>
-    requires map { IsMap map.now }
     ensures answer { IfSome (V.content view.old) (λ c. GivesOrFails (λ m. m) scan_cause result (Ok (record { upper = upper_of c (volume_in map.now); tree = tree }))) }
     ensures kept { AsksView V.content V.kept V.faults scan_cause view.old view.new result }
 {
@@ -61,7 +59,6 @@ fn volume_mounted<V: View>(
     view: &mut V,
     map: &VolumeMap,
 ) -> Result<Mounted, MountFault>
-    requires map { IsMap map.now }
     requires parts { IfSome (V.content view.old) (λ c. IsMapOf c map.now) }
     ensures answer { IfSome (V.content view.old) (λ c. GivesOrFails (λ m. m) scan_cause result (volume_mounted c (volume_in map.now))) }
     ensures kept { AsksView V.content V.kept V.faults scan_cause view.old view.new result }

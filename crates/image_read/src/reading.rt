@@ -4,7 +4,7 @@ ghost use Rattle.host_base.specs.Answers.{GivesOrFails};
 ghost use Rattle.host_base.specs.Causes.{HasFailed, last_moment};
 ghost use Rattle.device_view.specs.Devices.{KeepsDevice, CountsOnDevice};
 ghost use Rattle.stream_map.specs.Runs.{AreSmall};
-ghost use Rattle.volume_map.specs.Maps.{IsMap, IsMapOf, volume_in};
+ghost use Rattle.volume_map.specs.Maps.{IsMapOf, volume_in};
 ghost use Rattle.block_view.specs.Views.{AsksView};
 ghost use Rattle.volume_model.specs.Volumes.{upper_of};
 ghost use Rattle.volume_state.specs.Journals.{journal_first, journal_entries};
@@ -69,7 +69,6 @@ fn records_by<V: View>(
     extents: &Extents,
     body: &mut Body,
 ) -> Result<ReadJournal, MountFault>
-    requires map { IsMap map.now }
     requires parts { IfSome (V.content view.old) (λ c. IsMapOf c map.now) }
     requires small { AreSmall extents.now.runs }
     requires left { journal_first map.now.per_cluster extents.now ≤ extents.now.real }
@@ -87,7 +86,6 @@ fn placed_records<V: View>(
     view: &mut V,
     map: &VolumeMap,
 ) -> Result<ReadJournal, MountFault>
-    requires map { IsMap map.now }
     requires parts { IfSome (V.content view.old) (λ c. IsMapOf c map.now) }
     ensures answer { IfSome (V.content view.old) (λ c. GivesOrFails (λ j. j) scan_cause result (placed_records c (volume_in map.now))) }
     ensures kept { AsksView V.content V.kept V.faults scan_cause view.old view.new result }
@@ -103,7 +101,6 @@ fn volume_records<V: View>(
     view: &mut V,
     map: &VolumeMap,
 ) -> Result<ReadJournal, MountFault>
-    requires map { IsMap map.now }
     requires parts { IfSome (V.content view.old) (λ c. IsMapOf c map.now) }
     ensures answer { IfSome (V.content view.old) (λ c. GivesOrFails (λ j. j) scan_cause result (volume_records c (volume_in map.now))) }
     ensures kept { AsksView V.content V.kept V.faults scan_cause view.old view.new result }

@@ -5,7 +5,7 @@ ghost use Rattle.file_tree.specs.declared.journal.Usn.{Usn as UsnOf};
 ghost use Rattle.state_model.specs.Loads.{table_in};
 ghost use Rattle.state_model.specs.Trees.{all_links};
 ghost use Rattle.stream_map.specs.Runs.{AreSmall};
-ghost use Rattle.volume_map.specs.Maps.{IsMap, volume_in};
+ghost use Rattle.volume_map.specs.Maps.{volume_in};
 ghost use Rattle.block_view.specs.Views.{AsksView};
 ghost use Rattle.volume_state.specs.Journals.{journal_first, journal_entries};
 ghost use Rattle.usn_journal.specs.Places.{journal_place};
@@ -62,7 +62,6 @@ fn named_place(
     up: &Upcase,
     links: &[Link],
 ) -> Result<Extents, MountFault>
-    requires map { IsMap map.now }
     requires links { links.now ≡ all_links (table_in map.now.files.items) (length map.now.files.items) }
     ensures answer { Gives (λ e. e) scan_cause result (refused_as NoJournal (journal_place up.now (volume_in map.now))) }
     ensures inside { IfOk result (λ e. journal_first map.now.per_cluster e ≤ e.real) }
@@ -87,7 +86,6 @@ pub fn place_on<V: View>(
     map: &VolumeMap,
     body: &mut Body,
 ) -> Result<Extents, MountFault>
-    requires map { IsMap map.now }
     ensures answer { IfSome (V.content view.old) (λ c. GivesOrFails (λ e. e) scan_cause result (place_on c (volume_in map.now))) }
     ensures inside { IfOk result (λ e. journal_first map.now.per_cluster e ≤ e.real) }
     ensures small { IfOk result (λ e. AreSmall e.runs) }

@@ -1,22 +1,21 @@
 //! The table of upper-case units.
-ghost use Rattle.std.specs.Prelude.{◌≡◌, length, IfOk, IfSome};
+ghost use Rattle.std.specs.Prelude.{◌≡◌, length, IfOk, IfErr, IfSome};
 ghost use Rattle.state_model.specs.Streams.{stream_bytes, real_size};
 ghost use Rattle.stream_map.specs.Runs.{HasSmallRuns};
-ghost use Rattle.upcase_order.specs.Tables.{upcase_of};
-ghost use Rattle.volume_map.specs.Errors.{map_cause, NeverRefused};
-ghost use Rattle.volume_map.specs.Maps.{volume_in, IsMap};
+ghost use Rattle.upcase_order.specs.Tables.{upcase_of, standard_table};
+ghost use Rattle.volume_map.specs.Maps.{volume_in};
+ghost use Rattle.system_files.specs.Errors.{upper_cause};
 ghost use Rattle.block_view.specs.Views.{AsksView};
 ghost use Rattle.volume_model.specs.Volumes.{table_or_standard, upper_of};
 
-use block_view::View;
+use block_view::{View, ViewFault};
 use disk_model::Body;
-use host_base::Memory;
 use record_model::DATA;
 use state_model::{ClusterSize, Stream};
 use std::alloc::{AllocError, Global};
 use stream_map::{front, real_size};
 use upcase_order::{Upcase, UpcaseFault};
-use volume_map::{MapFault, VolumeMap, file_stream, stream_or_empty};
+use volume_map::{VolumeMap, file_stream, stream_or_empty};
 
 const UPCASE_FILE: u64 = 10;
 
@@ -28,14 +27,23 @@ fn table_room(alloc: Global) -> Result<Vec<u8>, AllocError>
     vec![in alloc; 0u8; TABLE_BYTES]
 }
 
+// The table of the format.
+fn standard(alloc: Global) -> Result<Upcase, ViewFault>
+    ensures value { IfOk result (λ table. table ≡ standard_table) }
+    ensures memory { IfErr result (λ e. e ≡ ViewFault.Memory) }
+{
+    Upcase::standard(alloc).or(Err(ViewFault::Memory))
+}
+
 // The table that these bytes spell, or the standard one.
-fn table_or_standard(alloc: Global, bytes: &[u8]) -> Result<Upcase, Memory>
-    ensures { IfOk result (λ table. table ≡ table_or_standard (upcase_of bytes.now)) }
+fn table_or_standard(alloc: Global, bytes: &[u8]) -> Result<Upcase, ViewFault>
+    ensures value { IfOk result (λ table. table ≡ table_or_standard (upcase_of bytes.now)) }
+    ensures memory { IfErr result (λ e. e ≡ ViewFault.Memory) }
 {
     match Upcase::read(alloc, bytes) {
         Ok(table) => Ok(table),
-        Err(UpcaseFault::Length { .. }) => Upcase::standard(alloc),
-        Err(UpcaseFault::Memory) => Err(Memory),
+        Err(UpcaseFault::Length { .. }) => standard(alloc),
+        Err(UpcaseFault::Memory) => Err(ViewFault::Memory),
     }
 }
 
@@ -47,12 +55,11 @@ fn front_table<V: View>(
     stream: &Stream,
     body: &mut Body,
     room: &mut [u8],
-) -> Result<Upcase, MapFault>
+) -> Result<Upcase, ViewFault>
     requires small { HasSmallRuns stream.now }
     requires long { real_size stream.now ≡ length room.old }
     ensures value { IfSome (V.content view.old) (λ c. IfOk result (λ table. table ≡ table_or_standard (upcase_of (stream_bytes c per stream.now)))) }
-    ensures kept { AsksView V.content V.kept V.faults map_cause view.old view.new result }
-    ensures certain { NeverRefused result }
+    ensures kept { AsksView V.content V.kept V.faults upper_cause view.old view.new result }
 {
     front(view, per, stream, 0, body, room)?;
     Ok(table_or_standard(alloc, room)?)
@@ -65,14 +72,13 @@ fn stream_table<V: View>(
     per: ClusterSize,
     stream: &Stream,
     body: &mut Body,
-) -> Result<Upcase, MapFault>
+) -> Result<Upcase, ViewFault>
     requires small { HasSmallRuns stream.now }
     ensures value { IfSome (V.content view.old) (λ c. IfOk result (λ table. table ≡ table_or_standard (upcase_of (stream_bytes c per stream.now)))) }
-    ensures kept { AsksView V.content V.kept V.faults map_cause view.old view.new result }
-    ensures certain { NeverRefused result }
+    ensures kept { AsksView V.content V.kept V.faults upper_cause view.old view.new result }
 {
     if real_size(stream) != TABLE_BYTES as u64 {
-        return Ok(Upcase::standard(alloc)?);
+        return Ok(standard(alloc)?);
     }
     let mut room = table_room(alloc)?;
     front_table(alloc, view, per, stream, body, &mut room)
@@ -80,19 +86,20 @@ fn stream_table<V: View>(
 
 /// The volume's table of upper-case units: the data of `$UpCase`, or that of the format where this
 /// hasn't 131,072 bytes. `body` is room for a body. It reads no more than these bytes.
+///
+/// - [`ViewFault::Fault`]: the view failed.
+/// - [`ViewFault::Memory`]: want of memory.
 #[tactic(auto, unfolding(volume_model::specs::Volumes::upper_of))]
 pub fn upper_table<V: View>(
     alloc: Global,
     view: &mut V,
     map: &VolumeMap,
     body: &mut Body,
-) -> Result<Upcase, MapFault>
-    requires { IsMap map.now }
+) -> Result<Upcase, ViewFault>
     ensures value { IfSome (V.content view.old) (λ c. IfOk result (λ table. table ≡ upper_of c (volume_in map.now))) }
-    ensures kept { AsksView V.content V.kept V.faults map_cause view.old view.new result }
-    ensures certain { NeverRefused result }
+    ensures kept { AsksView V.content V.kept V.faults upper_cause view.old view.new result }
 {
-    let found = file_stream(alloc, &map.files, UPCASE_FILE, DATA)?;
+    let found = file_stream(alloc, &map.files, UPCASE_FILE, DATA).or(Err(ViewFault::Memory))?;
     let stream = stream_or_empty(alloc, found);
     stream_table(alloc, view, map.per_cluster, &stream, body)
 }

@@ -103,16 +103,20 @@ fn turns_of(alloc: Global, replies: Vec<Reply>) -> Result<Vec<Turn>, Fail> {
 fn prints_a_run_that_changes(rt: HostRuntime) -> Result<(), Fail> {
     let alloc = rt.alloc();
     let bytes = Bytes::copy_of(alloc, b"Hello")?;
-    let mut replies = Vec::new(alloc);
-    replies.push(Reply::Created { number: 25, seq: 2 })?;
-    replies.push(Reply::Wrote { count: 5 })?;
-    replies.push(Reply::Bytes { bytes })?;
-    replies.push(Reply::Bytes {
-        bytes: Bytes::new(alloc),
-    })?;
-    replies.push(Reply::Synced { turns: 3 })?;
-    replies.push(one_record(alloc)?)?;
-    replies.push(one_hit(alloc)?)?;
+    let record = one_record(alloc)?;
+    let hit = one_hit(alloc)?;
+    let replies = [
+        Reply::Created { number: 25, seq: 2 },
+        Reply::Wrote { count: 5 },
+        Reply::Bytes { bytes },
+        Reply::Bytes {
+            bytes: Bytes::new(alloc),
+        },
+        Reply::Synced { turns: 3 },
+        record,
+        hit,
+    ];
+    let replies = Vec::from_array(alloc, replies)?;
     let turns = turns_of(alloc, replies)?;
     let mut out = String::new(alloc);
     text(&turns, &[], &mut out)?;
@@ -131,16 +135,18 @@ fn prints_a_run_that_changes(rt: HostRuntime) -> Result<(), Fail> {
 #[test]
 fn prints_what_refuses(rt: HostRuntime) -> Result<(), Fail> {
     let alloc = rt.alloc();
-    let mut replies = Vec::new(alloc);
-    replies.push(Reply::FixedBy { why: Why::Reparse })?;
-    replies.push(Reply::TooLong { end: 100_001 })?;
-    replies.push(Reply::MftFull { records: 1_048_576 })?;
-    replies.push(Reply::NoSpace {
-        room: 81,
-        needed: 82,
-    })?;
-    replies.push(Reply::RecordFull { used: 1_480 })?;
-    replies.push(Reply::IntoItself)?;
+    let replies = [
+        Reply::FixedBy { why: Why::Reparse },
+        Reply::TooLong { end: 100_001 },
+        Reply::MftFull { records: 1_048_576 },
+        Reply::NoSpace {
+            room: 81,
+            needed: 82,
+        },
+        Reply::RecordFull { used: 1_480 },
+        Reply::IntoItself,
+    ];
+    let replies = Vec::from_array(alloc, replies)?;
     let turns = turns_of(alloc, replies)?;
     let mut out = String::new(alloc);
     text(&turns, &[], &mut out)?;

@@ -4,7 +4,7 @@ ghost use Rattle.host_base.specs.Answers.{Gives};
 ghost use Rattle.state_model.specs.Loads.{table_in};
 ghost use Rattle.state_model.specs.Trees.{all_links};
 ghost use Rattle.stream_map.specs.Runs.{AreSmall, HasSmallRuns};
-ghost use Rattle.volume_map.specs.Maps.{volume_in, IsMap};
+ghost use Rattle.volume_map.specs.Maps.{volume_in};
 ghost use Rattle.volume_state.specs.Journals.{journal_first, entries_in};
 ghost use Rattle.usn_journal.specs.Places.{in_shape, place_of_streams, place_of_file, journal_place, place_cause};
 
@@ -142,7 +142,6 @@ pub fn journal_place(
     up: &Upcase,
     links: &[Link],
 ) -> Result<Extents, PlaceFault>
-    requires map { IsMap map.now }
     requires links { links.now ≡ all_links (table_in map.now.files.items) (length map.now.files.items) }
     ensures place { Gives (λ e. e) place_cause result (journal_place up.now (volume_in map.now)) }
     ensures inside { IfOk result (λ e. journal_first map.now.per_cluster e ≤ e.real) }

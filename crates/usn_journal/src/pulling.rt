@@ -1,30 +1,24 @@
-ghost use Rattle.std.specs.Prelude.{◌≡◌, ◌+◌, ◌*◌, ◌^◌, ◌<◌, ◌≤◌, ◌⊎◌, not, find, length, All, IfOk, IfErr, IfSome, IsOk, Ok, Err};
+ghost use Rattle.std.specs.Prelude.{◌≡◌, ◌+◌, ◌*◌, ◌^◌, ◌<◌, ◌≤◌, ◌⊎◌, length, All, IfOk, IfErr, IfSome, IsOk, Ok, Err};
 ghost use Rattle.host_base.specs.Answers.{GivesOrFails};
 ghost use Rattle.file_tree.specs.declared.journal.Usn.{Usn as UsnOf};
 ghost use Rattle.stream_map.specs.Runs.{AreSmall};
 ghost use Rattle.block_view.specs.Views.{AsksView};
-ghost use Rattle.std.specs.Option.{option_copied};
-ghost use Rattle.volume_model.specs.Sizes.{is_hole};
-ghost use Rattle.volume_state.specs.Journals.{run_place, journal_first, journal_entries};
+ghost use Rattle.volume_state.specs.Journals.{journal_first, journal_entries};
 ghost use Rattle.usn_journal.specs.PullErrors.{journal_cause, page_cause, pull_cause, IsInside};
 ghost use Rattle.usn_journal.specs.declared.pull_fault.PullRefusal.TheVariants.{Trimmed, Ahead};
 ghost use Rattle.usn_journal.specs.Pulls.{usn_end, end_of, read_entries, pulled_in, pulled_of};
 
 use crate::pages::read_pages;
 use crate::pull_fault::{PageFault, PullFault, PullRefusal};
+use crate::shape::first_byte;
 use block_view::View;
 use disk_model::Body;
 use file_tree::{Usn, UsnList};
-use record_model::Run;
 use state_model::{ClusterSize, Extents};
 use std::alloc::{AllocError, Global};
-use stream_map::is_hole;
 
 // The bytes of a page of the journal.
 const PAGE: usize = 4096;
-
-// The bytes of a sector.
-const SECTOR: u128 = 512;
 
 // The most bytes of a journal whose pages are read.
 const MOST_READ: u64 = u64::MAX - 8192;
@@ -34,31 +28,6 @@ const MOST_READ: u64 = u64::MAX - 8192;
 pub struct Pulled {
     pub entries: UsnList,
     pub end: u64,
-}
-
-// The first run that isn't sparse.
-fn first_whole(runs: &[Run]) -> Option<&Run>
-    ensures { option_copied result ≡ find (λ r. not (is_hole r)) runs.now }
-{
-    runs.iter().find(|run| !is_hole(run))
-}
-
-fn run_place(per: ClusterSize, size: u64, run: Option<&Run>) -> u128
-    ensures { result ≡ run_place per size (option_copied run.entry) }
-{
-    match run {
-        Some(run) => u128::from(run.vcn) * (SECTOR * u128::from(per.sectors())),
-        None => u128::from(size),
-    }
-}
-
-// Where the journal begins: at its first cluster that isn't sparse, or at its end.
-#[tactic(auto, unfolding(volume_state::specs::Journals::journal_first))]
-fn first_place(per: ClusterSize, extents: &Extents) -> u128
-    ensures { result ≡ journal_first per extents.now }
-{
-    let run = first_whole(extents.runs.as_slice());
-    run_place(per, extents.real, run)
 }
 
 fn page_room(alloc: Global) -> Result<Vec<u8>, AllocError>
@@ -170,7 +139,7 @@ pub fn read_from<V: View>(
     ensures kept { AsksView V.content V.kept V.faults pull_cause view.old view.new result }
 {
     let next = extents.real;
-    let first = first_place(per, extents) as u64;
+    let first = first_byte(per, extents);
     if from < first {
         return Err(PullFault::Refused(PullRefusal::Trimmed { first }));
     }

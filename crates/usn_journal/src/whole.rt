@@ -5,7 +5,7 @@ ghost use Rattle.disk_model.specs.Content.{Content};
 ghost use Rattle.state_model.specs.Loads.{table_in};
 ghost use Rattle.state_model.specs.Trees.{all_links};
 ghost use Rattle.stream_map.specs.Runs.{AreSmall, HasSmallRuns};
-ghost use Rattle.volume_map.specs.Maps.{volume_in, IsMap};
+ghost use Rattle.volume_map.specs.Maps.{volume_in};
 ghost use Rattle.block_view.specs.Views.{AsksView};
 ghost use Rattle.volume_state.specs.Journals.{journal_first, journal_owned, journal_with, journal_of_streams, journal_of_file};
 ghost use Rattle.volume_state.specs.Trees.{without_records};
@@ -164,7 +164,6 @@ pub fn volume_journal<V: View>(
     links: &[Link],
     body: &mut Body,
 ) -> Result<Option<Journal>, JournalFault>
-    requires map { IsMap map.now }
     requires links { links.now ≡ all_links (table_in map.now.files.items) (length map.now.files.items) }
     ensures value { IfSome (V.content view.old) (λ c. GivesOrFails (λ journal. journal) journal_cause result (bare_journal c up.now (volume_in map.now))) }
     ensures kept { AsksView V.content V.kept V.faults journal_cause view.old view.new result }

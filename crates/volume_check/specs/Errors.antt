@@ -1,6 +1,8 @@
 -- The causes of a check's errors.
 use Rattle.std.specs.Prelude.{⊤, Result, Ok, Err}
 use Rattle.host_base.specs.Answers.{Cause, refused, no_memory, failed}
+use Rattle.block_view.specs.declared.fault.ViewFault.{ViewFault}
+use Rattle.block_view.specs.declared.fault.ViewFault.TheVariants as views
 use Rattle.state_model.specs.declared.broken.Broken.{Broken}
 use Rattle.directory_index.specs.declared.fault.IndexFault.{IndexFault}
 use Rattle.directory_index.specs.declared.fault.IndexFault.TheVariants as indexes
@@ -8,8 +10,6 @@ use Rattle.stream_rules.specs.declared.fault.SizesFault.{SizesFault}
 use Rattle.stream_rules.specs.declared.fault.SizesFault.TheVariants as sizes
 use Rattle.usn_journal.specs.declared.journal_fault.JournalFault.{JournalFault}
 use Rattle.usn_journal.specs.declared.journal_fault.JournalFault.TheVariants as journals
-use Rattle.volume_map.specs.declared.fault.MapFault.{MapFault}
-use Rattle.volume_map.specs.declared.fault.MapFault.TheVariants as maps
 use Rattle.volume_check.specs.declared.fault.CheckFault.{CheckFault}
 use Rattle.volume_check.specs.declared.fault.CheckFault.TheVariants as faults
 
@@ -27,10 +27,9 @@ NeverBroken (Err faults.View) = ⊤
 NeverBroken (Err faults.Memory) = ⊤
 
 -- what the faults of the parts become
-abbrev pub of_map : MapFault → CheckFault
-of_map (maps.Refused refusal) = faults.Memory
-of_map maps.View = faults.View
-of_map maps.Memory = faults.Memory
+abbrev pub of_view : ViewFault → CheckFault
+of_view views.Fault = faults.View
+of_view views.Memory = faults.Memory
 
 abbrev pub of_index : IndexFault → CheckFault
 of_index indexes.View = faults.View

@@ -1,12 +1,11 @@
 //! The check.
 ghost use Rattle.std.specs.Prelude.{◌≡◌, IfSome};
 ghost use Rattle.host_base.specs.Answers.{GivesOrFails};
-ghost use Rattle.volume_map.specs.Maps.{volume_in, IsMap, IsMapOf};
+ghost use Rattle.volume_map.specs.Maps.{volume_in, IsMapOf};
 ghost use Rattle.block_view.specs.Views.{AsksView};
 ghost use Rattle.volume_state.specs.Trees.{checked};
 ghost use Rattle.volume_check.specs.Errors.{check_cause};
 ghost use Rattle.volume_check.specs.Parts.{AreParts};
-ghost use Rattle.volume_tree.specs.Names.{AreNames};
 
 use crate::fault::CheckFault;
 use crate::report::report;
@@ -14,32 +13,26 @@ use crate::rules::from_1;
 use block_view::View;
 use disk_model::Body;
 use file_tree::Tree;
-use record_rules::Climber;
 use std::alloc::Global;
 use system_files::upper_table;
 use upcase_order::Upcase;
 use volume_map::VolumeMap;
-use volume_tree::{Names, names_of};
+use volume_tree::NamedVolume;
 
 // The same, by the volume's table of upper-case units.
 fn check_ordered<V: View>(
     alloc: Global,
     view: &mut V,
-    map: &VolumeMap,
-    names: &Names,
-    climber: &Climber,
+    volume: &NamedVolume,
     upper: &Upcase,
     body: &mut Body,
 ) -> Result<Tree, CheckFault>
-    requires map { IsMap map.now }
-    requires names { AreNames map.now.files.items names.now }
-    requires records { climber.now.records.now ≡ map.now.files.items }
-    ensures value { IfSome (V.content view.old) (λ c. AreParts c map.now upper.now → GivesOrFails (λ tree. tree) check_cause result (checked c (volume_in map.now))) }
+    ensures value { IfSome (V.content view.old) (λ c. AreParts c volume.now.map.now upper.now → GivesOrFails (λ tree. tree) check_cause result (checked c (volume_in volume.now.map.now))) }
     ensures kept { AsksView V.content V.kept V.faults check_cause view.old view.new result }
 {
-    match from_1(alloc, view, map, names, climber, upper, body)? {
+    match from_1(alloc, view, volume, upper, body)? {
         Some(broken) => Err(CheckFault::Broken(broken)),
-        None => report(alloc, view, map, names, climber, upper, body),
+        None => report(alloc, view, volume, upper, body),
     }
 }
 
@@ -47,19 +40,14 @@ fn check_ordered<V: View>(
 fn check_named<V: View>(
     alloc: Global,
     view: &mut V,
-    map: &VolumeMap,
-    names: &Names,
-    climber: &Climber,
+    volume: &NamedVolume,
 ) -> Result<Tree, CheckFault>
-    requires map { IsMap map.now }
-    requires names { AreNames map.now.files.items names.now }
-    requires records { climber.now.records.now ≡ map.now.files.items }
-    ensures value { IfSome (V.content view.old) (λ c. IsMapOf c map.now → GivesOrFails (λ tree. tree) check_cause result (checked c (volume_in map.now))) }
+    ensures value { IfSome (V.content view.old) (λ c. IsMapOf c volume.now.map.now → GivesOrFails (λ tree. tree) check_cause result (checked c (volume_in volume.now.map.now))) }
     ensures kept { AsksView V.content V.kept V.faults check_cause view.old view.new result }
 {
     let mut body = Body::empty(alloc)?;
-    let upper = upper_table(alloc, view, map, &mut body)?;
-    check_ordered(alloc, view, map, names, climber, &upper, &mut body)
+    let upper = upper_table(alloc, view, volume.map, &mut body)?;
+    check_ordered(alloc, view, volume, &upper, &mut body)
 }
 
 /// The tree that a loaded volume stands for, without the bytes of its nodes and the records of its
@@ -85,11 +73,9 @@ fn check_named<V: View>(
 /// linear in the records, the names and the runs. Blocks of an index that no node lies in cost
 /// nothing.
 pub fn check<V: View>(alloc: Global, view: &mut V, map: &VolumeMap) -> Result<Tree, CheckFault>
-    requires map { IsMap map.now }
     ensures value { IfSome (V.content view.old) (λ c. IsMapOf c map.now → GivesOrFails (λ tree. tree) check_cause result (checked c (volume_in map.now))) }
     ensures kept { AsksView V.content V.kept V.faults check_cause view.old view.new result }
 {
-    let names = names_of(alloc, &map.files)?;
-    let climber = Climber::new(alloc, &map.files, &names.links)?;
-    check_named(alloc, view, map, &names, &climber)
+    let volume = NamedVolume::new(alloc, map)?;
+    check_named(alloc, view, &volume)
 }

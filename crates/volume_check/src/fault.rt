@@ -1,3 +1,4 @@
+use block_view::ViewFault;
 use directory_index::IndexFault;
 use host_base::Memory;
 use state_model::Broken;
@@ -5,7 +6,6 @@ use std::alloc::AllocError;
 use stream_rules::SizesFault;
 use thiserror::Error;
 use usn_journal::JournalFault;
-use volume_map::MapFault;
 
 /// Why a check found no tree.
 #[derive(Clone, Copy, Debug, PartialEq, Eq, Error)]
@@ -42,18 +42,16 @@ impl From<Memory> for CheckFault {
     }
 }
 
-impl From<MapFault> for CheckFault {
+impl From<ViewFault> for CheckFault {
     ghost use Rattle.std.specs.Prelude.{◌≡◌};
-    ghost use Rattle.volume_check.specs.Errors.{of_map};
+    ghost use Rattle.volume_check.specs.Errors.{of_view};
 
-    ghost from_gives = { λ fault error. error ≡ of_map fault };
+    ghost from_gives = { λ fault error. error ≡ of_view fault };
 
-    fn from(fault: MapFault) -> Self {
+    fn from(fault: ViewFault) -> Self {
         match fault {
-            // The files of a loaded volume are refused no more.
-            MapFault::Refused(_) => CheckFault::Memory,
-            MapFault::View => CheckFault::View,
-            MapFault::Memory => CheckFault::Memory,
+            ViewFault::Fault => CheckFault::View,
+            ViewFault::Memory => CheckFault::Memory,
         }
     }
 }

@@ -2,11 +2,10 @@
 ghost use Rattle.std.specs.Prelude.{◌≡◌, ◌+◌, ◌*◌, ◌<◌, IfOk, IfSome, IsSome};
 ghost use Rattle.disk_model.specs.Content.{Content as the_content};
 ghost use Rattle.volume_model.specs.Owners.{volume_runs};
-ghost use Rattle.volume_map.specs.Maps.{volume_in, IsMap, IsMapOf};
+ghost use Rattle.volume_map.specs.Maps.{volume_in, IsMapOf};
 ghost use Rattle.block_view.specs.Views.{AsksView};
 ghost use Rattle.volume_check.specs.Errors.{check_cause, NeverBroken};
 ghost use Rattle.volume_check.specs.Parts.{AreParts};
-ghost use Rattle.volume_tree.specs.Names.{AreNames};
 ghost use Rattle.volume_model.specs.Sizes.{is_at, placed_record, keeps_place};
 ghost use Rattle.volume_state.specs.Rules.{broken_1, broken_2, broken_4};
 ghost use Rattle.volume_check.specs.Steps.{from_1, from_2, from_3, from_4, from_5, from_6, from_7, from_8};
@@ -15,22 +14,21 @@ use crate::fault::CheckFault;
 use block_view::View;
 use disk_model::{BlockKind, Body};
 use host_base::Memory;
-use record_rules::{Climber, first_misnamed, first_misplaced, first_unrooted};
+use record_rules::{first_misnamed, first_misplaced, first_unrooted};
 use state_model::Broken;
 use std::alloc::Global;
 use stream_map::block_at;
 use stream_rules::{Run, volume_runs};
 use upcase_order::Upcase;
 use volume_map::VolumeMap;
-use volume_tree::Names;
+use volume_tree::NamedVolume;
 
 // Rule 8: the way up of each directory.
 #[tactic(auto, unfolding(crate::specs::Steps::from_8, volume_state::specs::Rules::broken_8))]
-fn from_8(map: &VolumeMap, climber: &Climber) -> Option<Broken>
-    requires { climber.now.records.now ≡ map.now.files.items }
-    ensures { result ≡ from_8 (volume_in map.now) }
+fn from_8(volume: &NamedVolume) -> Option<Broken>
+    ensures { result ≡ from_8 (volume_in volume.now.map.now) }
 {
-    match first_unrooted(climber) {
+    match first_unrooted(&volume.climber) {
         Some(number) => Some(Broken { rule: 8, number }),
         None => None,
     }
@@ -38,50 +36,41 @@ fn from_8(map: &VolumeMap, climber: &Climber) -> Option<Broken>
 
 // From rule 7 on: records that are in use and not marked.
 #[tactic(auto, unfolding(crate::specs::Steps::from_7, volume_state::specs::Rules::broken_7))]
-fn from_7(map: &VolumeMap, climber: &Climber) -> Option<Broken>
-    requires { climber.now.records.now ≡ map.now.files.items }
-    ensures { (c : the_content) → IsMapOf c map.now → result ≡ from_7 c (volume_in map.now) }
+fn from_7(volume: &NamedVolume) -> Option<Broken>
+    ensures { (c : the_content) → IsMapOf c volume.now.map.now → result ≡ from_7 c (volume_in volume.now.map.now) }
 {
-    match volume_map::first_unmarked(&map.heads, &map.record_bits) {
+    match volume_map::first_unmarked(&volume.map.heads, &volume.map.record_bits) {
         Some(number) => Some(Broken { rule: 7, number }),
-        None => from_8(map, climber),
+        None => from_8(volume),
     }
 }
 
 // From rule 6 on: clusters that are owned and not marked.
 #[tactic(auto, unfolding(crate::specs::Steps::from_6, volume_state::specs::Rules::broken_6))]
-fn from_6(
-    alloc: Global,
-    map: &VolumeMap,
-    climber: &Climber,
-    runs: &[Run],
-) -> Result<Option<Broken>, Memory>
-    requires records { climber.now.records.now ≡ map.now.files.items }
-    requires runs { runs.now ≡ volume_runs map.now.files.items }
-    ensures { (c : the_content) → IsMapOf c map.now → IfOk result (λ broken. broken ≡ from_6 c (volume_in map.now)) }
+fn from_6(alloc: Global, volume: &NamedVolume, runs: &[Run]) -> Result<Option<Broken>, Memory>
+    requires runs { runs.now ≡ volume_runs volume.now.map.now.files.items }
+    ensures { (c : the_content) → IsMapOf c volume.now.map.now → IfOk result (λ broken. broken ≡ from_6 c (volume_in volume.now.map.now)) }
 {
-    match stream_rules::first_unmarked(alloc, runs, &map.cluster_bits)? {
+    match stream_rules::first_unmarked(alloc, runs, &volume.map.cluster_bits)? {
         Some(number) => Ok(Some(Broken { rule: 6, number })),
-        None => Ok(from_7(map, climber)),
+        None => Ok(from_7(volume)),
     }
 }
 
 // From rule 5 on: clusters that are owned twice.
 #[tactic(auto, unfolding(crate::specs::Steps::from_5, volume_state::specs::Rules::broken_5))]
-fn from_5(alloc: Global, map: &VolumeMap, climber: &Climber) -> Result<Option<Broken>, Memory>
-    requires { climber.now.records.now ≡ map.now.files.items }
-    ensures { (c : the_content) → IsMapOf c map.now → IfOk result (λ broken. broken ≡ from_5 c (volume_in map.now)) }
+fn from_5(alloc: Global, volume: &NamedVolume) -> Result<Option<Broken>, Memory>
+    ensures { (c : the_content) → IsMapOf c volume.now.map.now → IfOk result (λ broken. broken ≡ from_5 c (volume_in volume.now.map.now)) }
 {
-    let runs = volume_runs(alloc, &map.files)?;
-    match stream_rules::first_shared(alloc, runs.as_slice(), map.clusters)? {
+    let runs = volume_runs(alloc, &volume.map.files)?;
+    match stream_rules::first_shared(alloc, runs.as_slice(), volume.map.clusters)? {
         Some(number) => Ok(Some(Broken { rule: 5, number })),
-        None => from_6(alloc, map, climber, runs.as_slice()),
+        None => from_6(alloc, volume, runs.as_slice()),
     }
 }
 
 // Whether the record with this number, by the runs of the file table, is that of the boot sector.
 fn is_in_place(map: &VolumeMap, number: u64) -> bool
-    requires map { IsMap map.now }
     requires number { number < 4 }
     ensures { result ≡ is_at (map.now.mft * map.now.per_cluster + 2 * number) (placed_record (volume_in map.now) number) }
 {
@@ -96,7 +85,6 @@ fn is_in_place(map: &VolumeMap, number: u64) -> bool
 // Whether the file table begins where the boot sector says.
 #[tactic(auto, unfolding(volume_model::specs::Sizes::keeps_place))]
 fn keeps_place(map: &VolumeMap) -> bool
-    requires { IsMap map.now }
     ensures { result ≡ keeps_place (volume_in map.now) }
 {
     is_in_place(map, 0) && is_in_place(map, 1) && is_in_place(map, 2) && is_in_place(map, 3)
@@ -110,7 +98,6 @@ fn first_unfit<V: View>(
     map: &VolumeMap,
     body: &mut Body,
 ) -> Result<Option<u64>, CheckFault>
-    requires map { IsMap map.now }
     ensures value { IfSome (V.content view.old) (λ c. IfOk result (λ number. number ≡ broken_4 c (volume_in map.now))) }
     ensures never { NeverBroken result }
     ensures kept { AsksView V.content V.kept V.faults check_cause view.old view.new result }
@@ -128,19 +115,16 @@ fn first_unfit<V: View>(
 fn from_4<V: View>(
     alloc: Global,
     view: &mut V,
-    map: &VolumeMap,
-    climber: &Climber,
+    volume: &NamedVolume,
     body: &mut Body,
 ) -> Result<Option<Broken>, CheckFault>
-    requires map { IsMap map.now }
-    requires records { climber.now.records.now ≡ map.now.files.items }
-    ensures value { IfSome (V.content view.old) (λ c. IsMapOf c map.now → IfOk result (λ broken. broken ≡ from_4 c (volume_in map.now))) }
+    ensures value { IfSome (V.content view.old) (λ c. IsMapOf c volume.now.map.now → IfOk result (λ broken. broken ≡ from_4 c (volume_in volume.now.map.now))) }
     ensures never { NeverBroken result }
     ensures kept { AsksView V.content V.kept V.faults check_cause view.old view.new result }
 {
-    match first_unfit(alloc, view, map, body)? {
+    match first_unfit(alloc, view, volume.map, body)? {
         Some(number) => Ok(Some(Broken { rule: 4, number })),
-        None => Ok(from_5(alloc, map, climber)?),
+        None => Ok(from_5(alloc, volume)?),
     }
 }
 
@@ -149,30 +133,25 @@ fn from_4<V: View>(
 fn from_3<V: View>(
     alloc: Global,
     view: &mut V,
-    map: &VolumeMap,
-    names: &Names,
-    climber: &Climber,
+    volume: &NamedVolume,
     upper: &Upcase,
     body: &mut Body,
 ) -> Result<Option<Broken>, CheckFault>
-    requires map { IsMap map.now }
-    requires names { AreNames map.now.files.items names.now }
-    requires records { climber.now.records.now ≡ map.now.files.items }
-    ensures value { IfSome (V.content view.old) (λ c. AreParts c map.now upper.now → IfOk result (λ broken. broken ≡ from_3 c (volume_in map.now))) }
+    ensures value { IfSome (V.content view.old) (λ c. AreParts c volume.now.map.now upper.now → IfOk result (λ broken. broken ≡ from_3 c (volume_in volume.now.map.now))) }
     ensures never { NeverBroken result }
     ensures kept { AsksView V.content V.kept V.faults check_cause view.old view.new result }
 {
     match directory_index::first_broken(
         alloc,
         view,
-        map.per_cluster,
+        volume.map.per_cluster,
         upper,
-        &map.files,
-        &names.links,
-        &names.counts,
+        &volume.map.files,
+        &volume.links,
+        &volume.counts,
     )? {
         Some(number) => Ok(Some(Broken { rule: 3, number })),
-        None => from_4(alloc, view, map, climber, body),
+        None => from_4(alloc, view, volume, body),
     }
 }
 
@@ -181,29 +160,23 @@ fn from_3<V: View>(
 fn from_2<V: View>(
     alloc: Global,
     view: &mut V,
-    map: &VolumeMap,
-    names: &Names,
-    climber: &Climber,
+    volume: &NamedVolume,
     upper: &Upcase,
     body: &mut Body,
 ) -> Result<Option<Broken>, CheckFault>
-    requires map { IsMap map.now }
-    requires names { AreNames map.now.files.items names.now }
-    requires records { climber.now.records.now ≡ map.now.files.items }
-    ensures value { IfSome (V.content view.old) (λ c. AreParts c map.now upper.now → IfOk result (λ broken. broken ≡ from_2 c (volume_in map.now))) }
+    ensures value { IfSome (V.content view.old) (λ c. AreParts c volume.now.map.now upper.now → IfOk result (λ broken. broken ≡ from_2 c (volume_in volume.now.map.now))) }
     ensures never { NeverBroken result }
     ensures kept { AsksView V.content V.kept V.faults check_cause view.old view.new result }
-    ensures unasked { IsSome (broken_2 (volume_in map.now)) → view.new ≡ view.old }
+    ensures unasked { IsSome (broken_2 (volume_in volume.now.map.now)) → view.new ≡ view.old }
 {
-    match first_misplaced(&map.files, &names.links) {
+    match first_misplaced(&volume.map.files, &volume.links) {
         Some(number) => Ok(Some(Broken { rule: 2, number })),
-        None => from_3(alloc, view, map, names, climber, upper, body),
+        None => from_3(alloc, view, volume, upper, body),
     }
 }
 
 /// The first rule before the ninth that a loaded volume breaks, with the least number at which it
-/// does, if it breaks one. `names` are the names of its files, `climber` climbs over these, `upper`
-/// is its table of upper-case units, and `body` is room for a body.
+/// does, if it breaks one. `upper` is its table of upper-case units, and `body` is room for a body.
 ///
 /// It goes over the indexes and then over the streams, and sorts the runs; a rule is tried only
 /// where those before it are kept. Where rule 1 is broken the view isn't asked.
@@ -211,22 +184,17 @@ fn from_2<V: View>(
 pub fn from_1<V: View>(
     alloc: Global,
     view: &mut V,
-    map: &VolumeMap,
-    names: &Names,
-    climber: &Climber,
+    volume: &NamedVolume,
     upper: &Upcase,
     body: &mut Body,
 ) -> Result<Option<Broken>, CheckFault>
-    requires map { IsMap map.now }
-    requires names { AreNames map.now.files.items names.now }
-    requires records { climber.now.records.now ≡ map.now.files.items }
-    ensures value { IfSome (V.content view.old) (λ c. AreParts c map.now upper.now → IfOk result (λ broken. broken ≡ from_1 c (volume_in map.now))) }
+    ensures value { IfSome (V.content view.old) (λ c. AreParts c volume.now.map.now upper.now → IfOk result (λ broken. broken ≡ from_1 c (volume_in volume.now.map.now))) }
     ensures never { NeverBroken result }
     ensures kept { AsksView V.content V.kept V.faults check_cause view.old view.new result }
-    ensures unasked { IsSome (broken_1 (volume_in map.now)) → view.new ≡ view.old }
+    ensures unasked { IsSome (broken_1 (volume_in volume.now.map.now)) → view.new ≡ view.old }
 {
-    match first_misnamed(&map.files, &names.links) {
+    match first_misnamed(&volume.map.files, &volume.links) {
         Some(number) => Ok(Some(Broken { rule: 1, number })),
-        None => from_2(alloc, view, map, names, climber, upper, body),
+        None => from_2(alloc, view, volume, upper, body),
     }
 }

@@ -1,36 +1,17 @@
 //! The long names of files.
 ghost use Rattle.std.specs.Prelude.{◌≡◌, ◌++◌, [], IfOk, OnOk};
 ghost use Rattle.std.specs.List.{cons_option, filter};
-ghost use Rattle.record_model.specs.StdValues.{file_name_of};
 ghost use Rattle.file_tree.specs.Trees.{is_long};
-ghost use Rattle.state_model.specs.Files.{only_base, named, form_link, attr_link, record_links, links_of};
+ghost use Rattle.state_model.specs.Files.{only_base, form_link, attr_link, record_links, links_of};
 ghost use Rattle.volume_links.specs.Names.{long_links};
 
 use file_record::FileRec;
 use file_tree::{Link, SHORT};
 use host_base::{FileRef, Memory};
-use record_model::{Attr, FILE_NAME, FileNameValue, OwnForm, ValueFault};
+use record_model::{Attr, FILE_NAME, OwnForm};
+use record_rules::value_link;
 use std::alloc::Global;
-use std_values::NamedValue;
 use volume_map::{is_base_record, reference};
-
-/// The link of a file-name value of this file; none where the bytes are no such value.
-pub fn value_link(alloc: Global, child: FileRef, value: &[u8]) -> Result<Option<Link>, Memory>
-    ensures { IfOk result (λ link. link ≡ named child (file_name_of value.now)) }
-{
-    let name = match FileNameValue::read(alloc, value) {
-        Ok(name) => name,
-        Err(ValueFault::Memory) => return Err(Memory),
-        Err(ValueFault::Length { .. }) => return Ok(None),
-        Err(ValueFault::Shape) => return Ok(None),
-    };
-    Ok(Some(Link {
-        parent: name.parent,
-        name: name.name,
-        space: name.space,
-        child,
-    }))
-}
 
 // The link of an attribute, if it is a file name.
 #[tactic(auto, unfolding(state_model::specs::Files::attr_link))]

@@ -13,7 +13,7 @@ ghost use Rattle.state_model.specs.Files.{named, attr_link};
 ghost use Rattle.state_model.specs.Loads.{span, has_fitting_pairs, whole_record};
 ghost use Rattle.volume_links.specs.Plain.{Grows, is_lawful, value_link, may_follow, are_plain, is_plain, TakesPlain, ArePlain, IsPlain};
 
-use crate::names::{push_long, value_link};
+use crate::names::push_long;
 use attr_codec::{AttrRef, Form, read};
 use disk_model::{u16_at, u32_at, u64_at};
 use file_tree::Link;
@@ -22,6 +22,7 @@ use record_model::{
     ATTRIBUTE_LIST, END_MARK, FILE_NAME, INDEX_ALLOCATION, MOST_ATTRIBUTES, STANDARD_INFORMATION,
     Sizes, StdInfo,
 };
+use record_rules::value_link;
 use std::alloc::Global;
 use std_values::FixedValue;
 use volume_map::pairs_fit;

@@ -1,18 +1,12 @@
 -- A loaded volume, as definitions see it.
-use Rattle.std.specs.Prelude.{◌≡◌, ◌*◌, ◌^◌, ◌<◌}
+use Rattle.std.specs.Prelude.{◌≡◌}
 use Rattle.disk_model.specs.Content.{Content}
-use Rattle.stream_map.specs.Runs.{AreSmall}
 use Rattle.volume_model.specs.Volumes.{Volume, record_bits, cluster_bits}
 use Rattle.volume_map.specs.declared.map.VolumeMap.{VolumeMap}
 use Rattle.volume_map.specs.Heads.{heads_of}
 
 abbrev pub volume_in : VolumeMap → Volume
 volume_in m = record { per = m.per_cluster; clusters = m.clusters; mft = m.mft; table = m.table; files = m.files.items }
-
--- what holds of a volume that was loaded: the file table's cluster has a sector below 2^62, and its runs are small
-pub record IsMap (m : VolumeMap) : Type 0 where
-  pub place : m.mft * m.per_cluster < 2 ^ 62
-  pub small : AreSmall m.table.runs
 
 -- what holds of a volume that was loaded of this content: it has the heads of all records, and the bits of both bitmaps
 pub record IsMapOf (c : Content) (m : VolumeMap) : Type 0 where

@@ -28,11 +28,11 @@ pub struct Walk {
     pub heads: Vec<Head>,
 }
 
-// What a record of the table is, and its head.
+/// What a record of the table is, and its head.
 #[derive(Debug, Drop)]
-struct Found {
-    slot: Slot,
-    head: Head,
+pub struct Found {
+    pub slot: Slot,
+    pub head: Head,
 }
 
 // That of a record which isn't there.
@@ -66,10 +66,13 @@ fn read_found<V: View>(
     })
 }
 
-// What the record of that number is, and its head; one wholly past the initialised size isn't in
-// use.
+/// What the record of that number is in a table with these clusters, and its head; one wholly past
+/// the initialised size isn't in use. `per` is the sectors of a cluster, and `body` room for a
+/// body. It reads that record alone, and takes time linear in it and in the runs.
+///
+/// The errors are a failure of the view and want of memory.
 #[tactic(auto, unfolding(state_model::specs::Loads::table_slot, crate::specs::Heads::table_head, crate::specs::Heads::head_of, volume_model::specs::Nodes::spare_sequence))]
-fn table_found<V: View>(
+pub fn table_found<V: View>(
     alloc: Global,
     view: &mut V,
     per: ClusterSize,

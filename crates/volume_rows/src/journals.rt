@@ -1,6 +1,5 @@
 //! The change journal of a loaded volume, without its records.
 ghost use Rattle.std.specs.Prelude.{IfOk};
-ghost use Rattle.volume_map.specs.Maps.{IsMap};
 
 use bit_set::BitSet;
 use block_view::MemoryView;
@@ -64,7 +63,6 @@ fn file_of(alloc: Global, row: &Row) -> Result<FileRec, AllocError> {
 
 // 25 records, of which the last one is the file.
 fn map_of(alloc: Global, row: &Row) -> Result<VolumeMap, AllocError>
-    ensures { IfOk result IsMap }
 {
     let mut files = Vec::new(alloc);
     put_file(&mut files, 24, file_of(alloc, row)?)?;

@@ -4,13 +4,11 @@ ghost use Rattle.state_model.specs.Files.{record_links};
 ghost use Rattle.volume_map.specs.Maps.{volume_in};
 ghost use Rattle.volume_model.specs.Nodes.{data_flags, has_sparse_run, why_not, is_unread, is_unchanged, kind_in, shows_data};
 
+use crate::names::NamedVolume;
 use file_record::FileRec;
 use file_tree::{Kind, Link, Why};
 use record_model::{ATTRIBUTE_LIST, REPARSE_POINT};
-use record_rules::{
-    Climber, has_type, is_compressed, is_directory_record, is_encrypted, is_sparse,
-};
-use volume_map::VolumeMap;
+use record_rules::{has_type, is_compressed, is_directory_record, is_encrypted, is_sparse};
 
 /// What a file's data says of it.
 #[derive(Clone, Copy)]
@@ -63,22 +61,20 @@ fn is_unchanged(file: &FileRec, about: Data) -> bool
 /// What kind of file the file with this number and these names is.
 #[tactic(auto, unfolding(volume_model::specs::Nodes::kind_in))]
 pub fn kind_in(
-    map: &VolumeMap,
-    climber: &Climber,
+    volume: &NamedVolume,
     number: u64,
     file: &FileRec,
     links: &[Link],
     about: Data,
 ) -> Kind
-    requires records { climber.now.records.now ≡ map.now.files.items }
     requires links { links.now ≡ record_links number file.now }
     requires flags { about.flags ≡ data_flags file.now }
     requires hole { about.has_hole ≡ has_sparse_run file.now }
-    ensures { result ≡ kind_in (volume_in map.now) number file.now }
+    ensures { result ≡ kind_in (volume_in volume.now.map.now) number file.now }
 {
     if is_directory_record(file) {
         Kind::Directory
-    } else if climber.is_system(number, links) {
+    } else if volume.climber.is_system(number, links) {
         Kind::System
     } else if is_unread(file, about) {
         Kind::Opaque

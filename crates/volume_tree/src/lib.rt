@@ -12,6 +12,6 @@ mod node;
 mod stream;
 mod tree;
 
-pub use names::{Names, names_of};
+pub use names::NamedVolume;
 pub use node::bare_nodes;
 pub use tree::tree_with;

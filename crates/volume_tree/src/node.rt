@@ -4,20 +4,19 @@ ghost use Rattle.std.specs.List.{range_with_len, filter_map, cons_option};
 ghost use Rattle.state_model.specs.Files.{record_links};
 ghost use Rattle.record_model.specs.Records.{Record as the_record};
 ghost use Rattle.state_model.specs.Loads.{data_stream};
-ghost use Rattle.record_rules.specs.Links.{links_in};
 ghost use Rattle.volume_map.specs.Maps.{volume_in};
 ghost use Rattle.volume_model.specs.Nodes.{no_bytes, node_with, node_by, node_at, bare_nodes, data_shown, why_not};
 
 use crate::kind::{Data, kind_in, shows_data, why_not};
+use crate::names::NamedVolume;
 use crate::stream::{clusters_or, data_flags, data_stream, has_hole, size_or, valid_or};
 use file_record::FileRec;
-use file_tree::{Kind, Link, LinkList, Node, NodeList, Why};
+use file_tree::{Kind, Link, Node, NodeList, Why};
 use host_base::{Bytes, Memory};
 use record_model::OBJECT_ID;
-use record_rules::{Climber, FIRST_USER_RECORD, file_at, has_type, info_of, links_of};
+use record_rules::{FIRST_USER_RECORD, file_at, has_type, info_of, links_of};
 use state_model::Stream;
 use std::alloc::{AllocError, Global};
-use volume_map::VolumeMap;
 
 // The node of this kind that shows this data, without bytes.
 #[tactic(auto, unfolding(volume_model::specs::Nodes::node_with))]
@@ -62,47 +61,37 @@ fn data_shown(kind: Kind, stream: Option<Stream>) -> Option<Stream>
 #[tactic(auto, unfolding(volume_model::specs::Nodes::node_by))]
 fn node_of(
     alloc: Global,
-    map: &VolumeMap,
-    climber: &Climber,
+    volume: &NamedVolume,
     number: u64,
     file: &FileRec,
     links: &[Link],
 ) -> Result<Node, Memory>
-    requires records { climber.now.records.now ≡ map.now.files.items }
     requires links { links.now ≡ record_links number file.now }
-    ensures { IfOk result (λ node. node ≡ node_by no_bytes (volume_in map.now) number file.now) }
+    ensures { IfOk result (λ node. node ≡ node_by no_bytes (volume_in volume.now.map.now) number file.now) }
 {
     let stream = data_stream(alloc, file)?;
     let about = Data {
         flags: data_flags(file),
         has_hole: has_hole(&stream),
     };
-    let kind = kind_in(map, climber, number, file, links, about);
+    let kind = kind_in(volume, number, file, links, about);
     let why = why_not(file, about);
     node_with(alloc, number, file, kind, why, &data_shown(kind, stream))
 }
 
 // The node of the file with this number, if it has one.
 #[tactic(auto, using(record_rules::proofs::Links::links_found), unfolding(volume_model::specs::Nodes::node_at, state_model::specs::Trees::is_nameless, state_model::specs::Files::links_at))]
-fn node_at(
-    alloc: Global,
-    map: &VolumeMap,
-    climber: &Climber,
-    links: &[LinkList],
-    number: u64,
-) -> Result<Option<Node>, Memory>
-    requires records { climber.now.records.now ≡ map.now.files.items }
-    requires table { links.now ≡ links_in map.now.files.items }
-    ensures { IfOk result (λ node. node ≡ node_at no_bytes (volume_in map.now) number) }
+fn node_at(alloc: Global, volume: &NamedVolume, number: u64) -> Result<Option<Node>, Memory>
+    ensures { IfOk result (λ node. node ≡ node_at no_bytes (volume_in volume.now.map.now) number) }
 {
-    let Some(file) = file_at(&map.files, number) else {
+    let Some(file) = file_at(&volume.map.files, number) else {
         return Ok(None);
     };
-    let names = links_of(links, number);
+    let names = links_of(&volume.links, number);
     if number < FIRST_USER_RECORD && names.is_empty() {
         return Ok(None);
     }
-    Ok(Some(node_of(alloc, map, climber, number, file, names)?))
+    Ok(Some(node_of(alloc, volume, number, file, names)?))
 }
 
 fn push_some(nodes: &mut NodeList, node: Option<Node>) -> Result<(), AllocError>
@@ -115,24 +104,16 @@ fn push_some(nodes: &mut NodeList, node: Option<Node>) -> Result<(), AllocError>
 }
 
 /// The nodes of a volume by number, without their bytes: base records in use, but those of the
-/// volume itself that have no name. `climber` climbs over the map's files, and `links` are the
-/// names of each file. The error is want of memory.
+/// volume itself that have no name. The error is want of memory.
 ///
 /// Linear in the attributes and runs of the files, and in their names times how deep these stand.
 #[tactic(auto, using(crate::proofs::Nodes::nodes_more), unfolding(volume_model::specs::Nodes::nodes_by))]
-pub fn bare_nodes(
-    alloc: Global,
-    map: &VolumeMap,
-    climber: &Climber,
-    links: &[LinkList],
-) -> Result<NodeList, Memory>
-    requires records { climber.now.records.now ≡ map.now.files.items }
-    requires table { links.now ≡ links_in map.now.files.items }
-    ensures value { IfOk result (λ nodes. nodes ≡ bare_nodes (volume_in map.now)) }
+pub fn bare_nodes(alloc: Global, volume: &NamedVolume) -> Result<NodeList, Memory>
+    ensures value { IfOk result (λ nodes. nodes ≡ bare_nodes (volume_in volume.now.map.now)) }
 {
     let mut nodes = NodeList::new(alloc);
-    for number in 0..map.files.len() {
-        let node = node_at(alloc, map, climber, links, number as u64)?;
+    for number in 0..volume.map.files.len() {
+        let node = node_at(alloc, volume, number as u64)?;
         push_some(&mut nodes, node)?;
     }
     Ok(nodes)

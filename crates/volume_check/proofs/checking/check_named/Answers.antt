@@ -8,5 +8,5 @@ use Rattle.volume_check.proofs.checking.check_named.Goals as goal
 
 pub returns-clause-value : goal.returns-clause-value
 returns-clause-value g c =
-    known_parts _ c.args.map.now c.in_ok-upper.upper (λ content. GivesOrFails (λ (t : Tree). t) check_cause c.check_ordered.result (checked content (volume_in c.args.map.now))) c.in_ok-upper.ensures.value
+    known_parts _ c.args.volume.now.map.now c.in_ok-upper.upper (λ content. GivesOrFails (λ (t : Tree). t) check_cause c.check_ordered.result (checked content (volume_in c.args.volume.now.map.now))) c.in_ok-upper.ensures.value
     (rw c.in_ok-upper.ensures.kept.same at c.check_ordered.ensures.value)

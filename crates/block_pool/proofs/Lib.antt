@@ -1,0 +1,5 @@
+pub mod Ordering
+pub mod Shown
+pub mod Small
+pub mod LookUps
+pub mod Walks

@@ -1,5 +1,0 @@
-use Rattle.format_laws.proofs.Keeping.{keeps_sizes_law}
-use Rattle.format_laws.proofs.laws.new_volume_keeps_sizes.Goals as goal
-
-pub returns : goal.returns
-returns c = keeps_sizes_law

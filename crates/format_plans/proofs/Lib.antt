@@ -1,0 +1,4 @@
+pub mod Spelling
+pub mod Listing
+pub mod Marking
+pub mod Taking

@@ -1,0 +1,5 @@
+pub mod Placing
+pub mod Touching
+pub mod Puts
+pub mod Ranges
+pub mod Finished

@@ -1,0 +1,9 @@
+-- Where an error of a call of a draft comes from.
+use Rattle.host_base.specs.Answers.{Cause, no_memory, failed}
+use Rattle.block_view.specs.declared.fault.ViewFault.{ViewFault}
+use Rattle.block_view.specs.declared.fault.ViewFault.TheVariants.{Fault, Memory}
+
+-- a call that refuses nothing
+abbrev pub fault_cause : ViewFault → Cause (Unit {0})
+fault_cause Fault = failed
+fault_cause Memory = no_memory

@@ -1,0 +1,10 @@
+pub mod Runs
+pub mod Placing
+pub mod Used
+pub mod Streams
+pub mod Spreads
+pub mod Plans
+pub mod UsedLaws
+pub mod Contents
+pub mod Steps
+pub mod StepLaws
