@@ -1,0 +1,6 @@
+pub mod Among
+pub mod Rising
+pub mod Finding
+pub mod Owning
+pub mod Holding
+pub mod Climbing
