@@ -138,6 +138,7 @@ module _ (f : StoreFacts) (disk : Disk) (m : Store) (h : StandsBehind f disk m) 
       renamed = h.holds.renamed;
     };
     below = h.below;
+    note = h.note;
     same = same;
     sized = sized;
     sound = sound-step h.geometry m n (write_page upto within.0 within.1) h.sound;
@@ -192,6 +193,7 @@ module _ (f : StoreFacts) (disk : Disk) (m : Store) (h : StandsBehind f disk m) 
       renamed = h.holds.renamed;
     };
     below = h.below;
+    note = h.note;
     same = same;
     sized = sized;
     sound = sound-step h.geometry m x (write_page_fails upto within.1) h.sound;
