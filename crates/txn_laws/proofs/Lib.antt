@@ -16,3 +16,4 @@ pub mod Following
 pub mod Showing
 pub mod Noting
 pub mod Openings
+pub mod Naming

@@ -219,7 +219,7 @@ moment_rises moment = elim (cases_Bool (nat_lt moment last_moment)) [
   | inr more ↦ subst (λ (b : Bool). moment ≤ cond b (moment + 2) moment) (sym more) (omega arith)
 ]
 
-sends_later : (check : Option ℕ) (moment : ℕ) → moment ≤ sending_moment check moment
+pub sends_later : (check : Option ℕ) (moment : ℕ) → moment ≤ sending_moment check moment
 sends_later None moment = moment_rises moment
 sends_later (Some word) moment = omega arith
 

@@ -1,5 +1,5 @@
 ghost use Rattle.txn_laws.specs.Following.{WindowsFollow};
-ghost use Rattle.txn_laws.specs.Laws.{DeviceSteps, MemoryCalls, StoresStart, WindowsTell};
+ghost use Rattle.txn_laws.specs.Laws.{CheckpointSteps, DeviceSteps, MemoryCalls, StoresStart, WindowsTell};
 
 use sector_device::Device;
 
@@ -26,6 +26,13 @@ pub fn memory_calls()
 /// before or after it.
 pub fn device_steps<D: Device>(_device: &D)
     ensures { DeviceSteps D.gives D.changes_of D.moment_of }
+{}
+
+/// Law: so does the end of a checkpoint: the restart page that names the noted page, whether its
+/// write answers `Ok` or fails, again with the same bytes too, and the sync behind it, which frees
+/// the ring up to that page.
+pub fn checkpoint_steps<D: Device>(_device: &D)
+    ensures { CheckpointSteps D.gives D.changes_of D.moment_of }
 {}
 
 /// Law: behind each call the contents that are left are those of before, or newer, on the blocks
