@@ -17,3 +17,4 @@ pub mod Showing
 pub mod Noting
 pub mod Openings
 pub mod Naming
+pub mod Choosing

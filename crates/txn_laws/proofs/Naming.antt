@@ -39,9 +39,9 @@ use Rattle.area_laws.proofs.Naming.{restart_names, restart_fails}
 use Rattle.area_laws.proofs.Reading.{is_first, front_named}
 use Rattle.area_laws.proofs.Rising.{next_place}
 use Rattle.txn_model.specs.Values.{StoreFacts, own_of}
-use Rattle.txn_model.specs.Calls.{front_lsn, named_facts, naming_facts}
+use Rattle.txn_model.specs.Calls.{front_lsn, MayNameNoted, named_facts, naming_facts}
 use Rattle.txn_laws.specs.Standing.{StandsBehind, session_of}
-use Rattle.txn_laws.specs.Windows.{HasMachine, Simulates, AfterWrite}
+use Rattle.txn_laws.specs.Windows.{Simulates, AfterWrite}
 use Rattle.txn_laws.specs.Laws.{MayEndCheckpoint, SendsNaming}
 use Rattle.txn_laws.proofs.PageWrites.{page_is_own, sends_later}
 use Rattle.txn_laws.proofs.Telling.{by_device, known_before_write, sized_of, some_is}
@@ -49,7 +49,7 @@ use Rattle.txn_laws.proofs.Telling.{by_device, known_before_write, sized_of, som
 same_page : (a b : Restart) → ◌≡◌ {A = Option Restart} (Some a) (Some b) → a ≡ b
 same_page a b e = cc
 
-module _ (f : StoreFacts) (disk : Disk) (m : Store) (h : StandsBehind f disk m) (page : ℕ) (may : MayEndCheckpoint f page) where
+module _ (f : StoreFacts) (disk : Disk) (m : Store) (h : StandsBehind f disk m) (page : ℕ) (may : MayNameNoted f page) where
   abbrev s : LogSession
   s = session_of f h.lap
 
@@ -76,8 +76,8 @@ module _ (f : StoreFacts) (disk : Disk) (m : Store) (h : StandsBehind f disk m) 
   may_front : IsOldest f.log oldest
   may_front = front_named s f.log h.ring h.restarts h.pages h.fields disk h.stands page (omega (arith, page_is, h.holds.low begun, h.stands.ring.oldest)) may.durable
 
-  own_lap : lap_at f.log page < 2 ^ sequence_bits f.log.pages
-  own_lap =
+  own_lap : MayEndCheckpoint f page → lap_at f.log page < 2 ^ sequence_bits f.log.pages
+  own_lap end =
       let size = ring_size f.log in
       let area = h.stands.ring.area in
       let some = area.some in
@@ -86,7 +86,7 @@ module _ (f : StoreFacts) (disk : Disk) (m : Store) (h : StandsBehind f disk m) 
       let lt : next_number f.log 0x58 < size * (next_number f.log 0x58 / size + 1) = lt-mul-div-succ (next_number f.log 0x58) full in
       let below : page < (next_number f.log 0x58 / size + 1) * size = omega arith in
       let q : page / size < next_number f.log 0x58 / size + 1 = (div-lt_iff_lt-mul full).1 below in
-      omega (arith, may.lap)
+      omega (arith, end.lap)
     where
       before_next : page ≤ next_number f.log 0x58
       before_next =
@@ -97,11 +97,11 @@ module _ (f : StoreFacts) (disk : Disk) (m : Store) (h : StandsBehind f disk m) 
             | inr x ↦ omega (arith, x.1, area.written_pages, area.sealed_pages)
           ]
 
-  small : oldest < 2 ^ 64
-  small = let area = h.stands.ring.area in let room = lsn_room f.log page 0x40 area.some area.few own_lap (omega arith) in omega arith
+  small : MayEndCheckpoint f page → oldest < 2 ^ 64
+  small end = let area = h.stands.ring.area in let room = lsn_room f.log page 0x40 area.some area.few (own_lap end) (omega arith) in omega arith
 
-  may_name : (clean : Bool) → MayName f.log h.restarts h.fields oldest clean
-  may_name clean = let few = may.opens in record { synced = may.unnamed; place = may_front; lap = may.lap; again = may.again; small = small; few = omega arith; newer = λ x is. inl few }
+  may_name : (clean : Bool) → MayEndCheckpoint f page → MayName f.log h.restarts h.fields oldest clean
+  may_name clean end = let few = end.opens in record { synced = may.unnamed; place = may_front; lap = end.lap; again = end.again; small = small end; few = omega arith; newer = λ x is. inl few }
 
   -- ---- the machine's event
 
@@ -130,13 +130,13 @@ module _ (f : StoreFacts) (disk : Disk) (m : Store) (h : StandsBehind f disk m) 
 
   -- ---- the page that is sent
 
-  oldest_sent : (clean : Bool) → (page_to_send f.log oldest clean).oldest ≡ oldest
-  oldest_sent clean = by_sent f.log.sent refl
+  oldest_sent : (clean : Bool) → MayEndCheckpoint f page → (page_to_send f.log oldest clean).oldest ≡ oldest
+  oldest_sent clean end = by_sent f.log.sent refl
     where
       by_sent : (o : Option SentRestart) → f.log.sent ≡ o → (page_to_send f.log oldest clean).oldest ≡ oldest
       by_sent (Some x) is =
           ap (λ (o : Option SentRestart). (page_to_send (record f.log { sent = o }) oldest clean).oldest) is
-          ∙ subst (λ (o : Option SentRestart). IfSome o (λ y. y.page.oldest ≡ oldest)) is may.again
+          ∙ subst (λ (o : Option SentRestart). IfSome o (λ y. y.page.oldest ≡ oldest)) is end.again
       by_sent None is = ap (λ (o : Option SentRestart). (page_to_send (record f.log { sent = o }) oldest clean).oldest) is
 
   -- its sectors are the log's
@@ -158,10 +158,10 @@ module _ (f : StoreFacts) (disk : Disk) (m : Store) (h : StandsBehind f disk m) 
   abbrev n : Store
   n = record m { renamed = true; replaced = true }
 
-  named_behind : (clean : Bool) (places : PagePlaces) (told : RestartFields) (now : Disk) → told (suc h.restarts.sure) ≡ Some (page_to_send f.log oldest clean)
+  named_behind : (clean : Bool) (end : MayEndCheckpoint f page) (places : PagePlaces) (told : RestartFields) (now : Disk) → told (suc h.restarts.sure) ≡ Some (page_to_send f.log oldest clean)
       → ((i : ℕ) → i ≢ suc h.restarts.sure → told i ≡ h.fields i) → Stands s (named_area oldest f.log) h.ring (restart_written h.restarts places) h.pages told now → m.disk ≡ disk_without (own_of f) now → IsSized now
       → StandsBehind (named_facts page f) now n
-  named_behind clean places told now said others stands same sized = record {
+  named_behind clean end places told now said others stands same sized = record {
     geometry = h.geometry;
     volume = h.volume;
     lap = h.lap;
@@ -187,7 +187,7 @@ module _ (f : StoreFacts) (disk : Disk) (m : Store) (h : StandsBehind f disk m) 
         sure = h.holds.names.sure;
         sure_is = others h.restarts.sure (λ e. omega (arith, e)) ∙ h.holds.names.sure_is;
         oldest = h.holds.names.oldest;
-        next = λ x is e. ap (λ (r : Restart). r.oldest) (same_page x (page_to_send f.log oldest clean) (sym e ∙ said)) ∙ oldest_sent clean ∙ first;
+        next = λ x is e. ap (λ (r : Restart). r.oldest) (same_page x (page_to_send f.log oldest clean) (sym e ∙ said)) ∙ oldest_sent clean end ∙ first;
       };
       done = h.holds.done;
       replaced = refl;
@@ -219,11 +219,11 @@ module _ (f : StoreFacts) (disk : Disk) (m : Store) (h : StandsBehind f disk m) 
   abbrev x : Store
   x = record m { renamed = true }
 
-  naming_behind : (clean : Bool) (word : ℕ) (places : PagePlaces) (told : RestartFields) (now : Disk) → told (suc h.restarts.sure) ≡ Some (page_to_send f.log oldest clean)
+  naming_behind : (clean : Bool) (end : MayEndCheckpoint f page) (word : ℕ) (places : PagePlaces) (told : RestartFields) (now : Disk) → told (suc h.restarts.sure) ≡ Some (page_to_send f.log oldest clean)
       → ((i : ℕ) → i ≢ suc h.restarts.sure → told i ≡ h.fields i)
       → Stands s (record f.log { sent = Some (record { page = page_to_send f.log oldest clean; check = word }) }) h.ring (restart_sent h.restarts places) h.pages told now → m.disk ≡ disk_without (own_of f) now → IsSized now
       → StandsBehind (naming_facts page clean word f) now x
-  naming_behind clean word places told now said others stands same sized = record {
+  naming_behind clean end word places told now said others stands same sized = record {
     geometry = h.geometry;
     volume = h.volume;
     lap = h.lap;
@@ -249,7 +249,7 @@ module _ (f : StoreFacts) (disk : Disk) (m : Store) (h : StandsBehind f disk m) 
         sure = h.holds.names.sure;
         sure_is = others h.restarts.sure (λ e. omega (arith, e)) ∙ h.holds.names.sure_is;
         oldest = h.holds.names.oldest;
-        next = λ x is e. ap (λ (r : Restart). r.oldest) (same_page x (page_to_send f.log oldest clean) (sym e ∙ said)) ∙ oldest_sent clean ∙ first;
+        next = λ x is e. ap (λ (r : Restart). r.oldest) (same_page x (page_to_send f.log oldest clean) (sym e ∙ said)) ∙ oldest_sent clean end ∙ first;
       };
       done = h.holds.done;
       replaced = h.holds.replaced;
@@ -278,8 +278,11 @@ module _ (f : StoreFacts) (disk : Disk) (m : Store) (h : StandsBehind f disk m) 
 
 -- ---- the calls
 
-pub front_is_oldest : (f : StoreFacts) (page : ℕ) (changes : Changes) (disk : Disk) → HasMachine changes f → changes.disk ≡ Some disk → MayEndCheckpoint f page → IsOldest f.log (front_lsn f.log page)
-front_is_oldest f page changes disk has is may = let x = has disk is in may_front f disk x.0 x.1 page may
+pub may_rename : (f : StoreFacts) (page : ℕ) (disk : Disk) (m : Store) → StandsBehind f disk m → MayNameNoted f page → MayRename m
+may_rename f page disk m h may = renames f disk m h page may
+
+pub front_is_oldest : (f : StoreFacts) (page : ℕ) (disk : Disk) (m : Store) → StandsBehind f disk m → MayNameNoted f page → IsOldest f.log (front_lsn f.log page)
+front_is_oldest f page disk m h may = may_front f disk m h page may
 
 module _ {D : Type 0} (gives : D → Option (List (List ℕ))) (changes : D → Changes) (moment : D → ℕ) (count page word : ℕ) (clean : Bool) (f : StoreFacts) (old new : D) (sees : SeesDisk (gives old) (changes old).disk)
     (sized : IfSome (changes new).disk IsSized) (may : MayEndCheckpoint f page) where
@@ -295,12 +298,12 @@ module _ {D : Type 0} (gives : D → Option (List (List ℕ))) (changes : D → 
       (known_before_write _ _ _ _ (changes old) (changes new) sent.sends.writes) (sends_later (sent_word f.log.sent) (moment old)) sent.sends.writes.past
       (λ disk m is h.
       let known : IsKnown gives changes old disk = record { known = is; sees = sees } in
-      let all = restart_names gives changes moment (session_of f h.lap) f.log h.ring h.restarts h.pages h.fields disk (front_lsn f.log page) clean word old new known h.stands (may_name f disk m h page may clean) sent in
+      let all = restart_names gives changes moment (session_of f h.lap) f.log h.ring h.restarts h.pages h.fields disk (front_lsn f.log page) clean word old new known h.stands (may_name f disk m h page may.may clean may) sent in
       let there : (changes new).disk ≡ Some (put sector (sectors_of bytes) disk) = sent.sends.writes.ok ∙ ap (option_map (put sector (sectors_of bytes))) is in
       let now : put sector (sectors_of bytes) disk ≡ all.disk = some_is (put sector (sectors_of bytes) disk) all.disk (sym there ∙ all.known) in
       let same = subst (λ (d : Disk). m.disk ≡ disk_without (own_of f) d) now
-      (same_disk f disk m h page may (page_to_send f.log (front_lsn f.log page) clean) word (put sector (sectors_of bytes) disk) (whole_between disk (put sector (sectors_of bytes) disk) (λ i. refl))) in
-      (all.disk, all.known, n f disk m h page may, named_behind f disk m h page may clean all.places all.told all.disk all.said all.others all.stands same (sized_of (changes new) all.disk all.known sized), record { same = refl }))
+      (same_disk f disk m h page may.may (page_to_send f.log (front_lsn f.log page) clean) word (put sector (sectors_of bytes) disk) (whole_between disk (put sector (sectors_of bytes) disk) (λ i. refl))) in
+      (all.disk, all.known, n f disk m h page may.may, named_behind f disk m h page may.may clean may all.places all.told all.disk all.said all.others all.stands same (sized_of (changes new) all.disk all.known sized), record { same = refl }))
 
   pub fails_to_name : (fault : Failed) → SendsNaming gives changes moment f.log page clean word (Err fault) old new → Simulates count (moment old) (changes old) (changes new) f (naming_facts page clean word f) AfterWrite
   fails_to_name fault sent =
@@ -308,8 +311,8 @@ module _ {D : Type 0} (gives : D → Option (List (List ℕ))) (changes : D → 
       (known_before_write _ _ _ _ (changes old) (changes new) sent.sends.writes) (sends_later (sent_word f.log.sent) (moment old)) sent.sends.writes.past
       (λ disk m is h.
       let known : IsKnown gives changes old disk = record { known = is; sees = sees } in
-      let all = restart_fails gives changes moment fault (session_of f h.lap) f.log h.ring h.restarts h.pages h.fields disk (front_lsn f.log page) clean word old new known h.stands (may_name f disk m h page may clean) sent in
+      let all = restart_fails gives changes moment fault (session_of f h.lap) f.log h.ring h.restarts h.pages h.fields disk (front_lsn f.log page) clean word old new known h.stands (may_name f disk m h page may.may clean may) sent in
       let torn = torn_known sector (sectors_of bytes) disk (changes new).disk (subst (λ (o : Option Disk). IsTornDisk sector (sectors_of bytes) o (changes new).disk) is sent.sends.writes.err) in
       let now : torn.0 ≡ all.disk = some_is torn.0 all.disk (sym torn.1 ∙ all.known) in
-      let same = subst (λ (d : Disk). m.disk ≡ disk_without (own_of f) d) now (same_disk f disk m h page may (page_to_send f.log (front_lsn f.log page) clean) word torn.0 torn.2) in
-      (all.disk, all.known, x f disk m h page may, naming_behind f disk m h page may clean word all.places all.told all.disk all.said all.others all.stands same (sized_of (changes new) all.disk all.known sized), record { same = refl }))
+      let same = subst (λ (d : Disk). m.disk ≡ disk_without (own_of f) d) now (same_disk f disk m h page may.may (page_to_send f.log (front_lsn f.log page) clean) word torn.0 torn.2) in
+      (all.disk, all.known, x f disk m h page may.may, naming_behind f disk m h page may.may clean may word all.places all.told all.disk all.said all.others all.stands same (sized_of (changes new) all.disk all.known sized), record { same = refl }))

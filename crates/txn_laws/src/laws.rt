@@ -1,5 +1,7 @@
 ghost use Rattle.txn_laws.specs.Following.{WindowsFollow};
-ghost use Rattle.txn_laws.specs.Laws.{CheckpointSteps, DeviceSteps, MemoryCalls, StoresStart, WindowsTell};
+ghost use Rattle.txn_laws.specs.Laws.{
+    CheckpointSteps, DeviceSteps, MemoryCalls, NextStepsMayBeTaken, StoresStart, WindowsTell,
+};
 
 use sector_device::Device;
 
@@ -40,4 +42,10 @@ pub fn checkpoint_steps<D: Device>(_device: &D)
 /// what was known durable then.
 pub fn windows_follow()
     ensures { WindowsFollow }
+{}
+
+/// Law: the next step by what a store tells of itself may be taken where no transaction is open: the
+/// laws of its calls ask for no more.
+pub fn next_steps_may_be_taken()
+    ensures { NextStepsMayBeTaken }
 {}

@@ -1,5 +1,5 @@
 -- What each call makes of what a store keeps.
-use Rattle.std.specs.Prelude.{ℕ, suc, ◌+◌, ◌-◌, ◌*◌, ◌/◌, ◌==◌, ◌&&◌, ◌||◌, not, nat_le, Bool, true, false, if◌then◌else◌, List, [], ◌∷◌, ◌++◌, map, replicate, slice_index, Option, Some, None, is_some, unwrap_or}
+use Rattle.std.specs.Prelude.{◌≡◌, ℕ, suc, ◌+◌, ◌-◌, ◌*◌, ◌/◌, ◌≤◌, ◌==◌, ◌&&◌, ◌||◌, not, nat_le, Bool, true, false, if◌then◌else◌, List, [], ◌∷◌, ◌++◌, map, replicate, slice_index, Option, Some, None, is_some, unwrap_or}
 use Rattle.std.specs.List.{list_any, range_with_len}
 use Rattle.std.specs.Option.{option_or}
 use Rattle.disk_model.specs.declared.block.Block.{Block}
@@ -126,6 +126,14 @@ sent_facts check f = record f { log = record f.log { check = Some check } }
 -- the LSN of the front of a page, by which a restart page names it
 abbrev pub front_lsn : LogAreaOf → ℕ → ℕ
 front_lsn log page = number_lsn log page 0x40
+
+-- A checkpoint that noted this page may end by a restart page: nothing that it noted is still to be written out or synced, the pages before the noted one are durable, and no restart page was
+-- written since the last sync.
+pub record MayNameNoted (f : StoreFacts) (page : ℕ) : Type 0 where
+  pub noted : f.noted ≡ Some page
+  pub paid : (b : Block) → ((f.mark b).owed ≡ false) × ((f.mark b).due ≡ false)
+  pub durable : page ≤ f.log.synced
+  pub unnamed : f.log.named ≡ None
 
 -- a restart page was written that names this page, and one was sent in a write that failed
 abbrev pub named_facts : ℕ → StoreFacts → StoreFacts
