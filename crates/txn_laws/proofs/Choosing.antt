@@ -1,8 +1,7 @@
 -- The next step of a store may be taken.
-use Rattle.std.proofs.Common.{◌≡◌, ℕ, ◌+◌, ◌-◌, ◌<◌, ◌≤◌, Bool, true, false, cond, List, [], ◌∷◌, length, Option, Some, None, refl, sym, ap, ◌∙◌, subst, arith}
-use Rattle.std.specs.Prelude.{◌&&◌, ◌||◌, not, nat_le, count_by, IfSome, is_some}
+use Rattle.std.proofs.Common.{◌≡◌, ℕ, ◌≤◌, Bool, true, false, cond, List, [], ◌∷◌, length, Option, Some, None, refl, sym, ap, ◌∙◌, subst, arith}
+use Rattle.std.specs.Prelude.{◌&&◌, ◌||◌, not, nat_le, IfSome, is_some}
 use Rattle.disk_model.specs.declared.block.Block.{Block}
-use Rattle.disk_model.specs.Sectors.{same_block}
 use Rattle.store_model.proofs.Told.{true≢false}
 use Rattle.flush_policy.specs.declared.facts.Facts.{Facts}
 use Rattle.flush_policy.specs.declared.facts.StoreStep.{StoreStep}
@@ -11,8 +10,7 @@ use Rattle.flush_policy.specs.Choice.{next_step}
 use Rattle.flush_policy.specs.Steps.{MayTake}
 use Rattle.flush_policy.proofs.Steps.{may_be_taken}
 use Rattle.txn_model.specs.Values.{StoreFacts}
-use Rattle.txn_model.specs.Calls.{is_ready, MayNameNoted}
-use Rattle.txn_model.specs.Told.{is_left, AreLeft, FactsTold, KeepsSteps, MayTakeStep}
+use Rattle.txn_model.specs.Told.{AreLeft, FactsTold, KeepsSteps, MayTakeStep}
 use Rattle.txn_laws.proofs.Syncs.{and_left}
 
 -- where no blocks are left, no block is owed or due
@@ -63,8 +61,7 @@ next_may_be_taken f told step keeps says closed e = by step (may_be_taken told s
     by WriteRestart (begun, none, synced) =
         let all = says.synced synced.unsynced in
         let page = the_page f.noted (and_left (is_some f.noted) (not (is_some f.log.named)) (sym says.begun ∙ begun)) in
-        let sealed : page.0 ≤ f.log.sealed = subst (λ (o : Option ℕ). IfSome o (λ n. n ≤ f.log.sealed)) page.1 keeps.noted in
-        (
+        let sealed : page.0 ≤ f.log.sealed = subst (λ (o : Option ℕ). IfSome o (λ n. n ≤ f.log.sealed)) page.1 keeps.noted in (
           page.0,
           record {
             noted = page.1;

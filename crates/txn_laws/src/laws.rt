@@ -1,6 +1,11 @@
 ghost use Rattle.txn_laws.specs.Following.{WindowsFollow};
 ghost use Rattle.txn_laws.specs.Laws.{
-    CheckpointSteps, DeviceSteps, MemoryCalls, NextStepsMayBeTaken, StoresStart, WindowsTell,
+  CheckpointSteps,
+  DeviceSteps,
+  MemoryCalls,
+  NextStepsMayBeTaken,
+  StoresStart,
+  WindowsTell,
 };
 
 use sector_device::Device;
