@@ -86,6 +86,7 @@ module _ (f : StoreFacts) (disk : Disk) (m : Store) (b : Block) (x : Body) (kept
     holds = log_kept s l m disk h.holds (n now) now
         (record { log_is = refl; synced_is = refl; done_is = refl; sent_is = refl; place_is = refl; begun_is = refl; renamed_is = refl; replaced_is = refl }) (alike now between);
     below = h.below;
+    note = h.note;
     same = refl;
     sized = sized;
     sound = sound-step h.geometry m (n now) (write_again (disk_without (own_of f) now) (as_before now between)) h.sound;
@@ -167,6 +168,7 @@ module _ (f : StoreFacts) (disk : Disk) (m : Store) (b : Block) (x : Body) (kept
         holds = log_kept s l m disk h.holds (n now) now
             (record { log_is = refl; synced_is = refl; done_is = refl; sent_is = refl; place_is = refl; begun_is = refl; renamed_is = refl; replaced_is = refl }) (alike now between);
         below = h.below;
+        note = h.note;
         same = refl;
         sized = sized;
         sound = sound-step h.geometry m (n now) (write_again (disk_without (own_of f) now) (as_before now between)) h.sound;

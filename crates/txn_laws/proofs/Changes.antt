@@ -592,6 +592,7 @@ module _ (f : StoreFacts) (disk : Disk) (m : Store) (c : Block) (at : ℕ) (new 
             (record { log_is = refl; synced_is = refl; done_is = refl; sent_is = refl; place_is = refl; begun_is = refl; renamed_is = refl; replaced_is = refl })
             (record { durable = λ k i a b c. refl; written = λ k i a b c. refl });
         below = λ begun. omega (arith, h.below begun, chained.rises);
+        note = h.note;
         same = h.same;
         sized = h.sized;
         sound = sound-step h.geometry m n step h.sound;

@@ -122,6 +122,7 @@ module _ (f : StoreFacts) (disk : Disk) (m : Store) (opened : f.is_open ≡ true
         holds = holds_more s f.log h.ring h.restarts h.pages h.fields h.noted m disk h.stands e may refl h.holds h.below n
             (record { log_is = ap (λ (x : Entry). m.log ++ x ∷ []) mine_is; synced_is = refl; done_is = refl; sent_is = refl; place_is = refl; begun_is = refl; renamed_is = refl; replaced_is = refl });
         below = λ begun. omega (arith, h.below begun, (placed s f.log h.ring h.pages disk h.stands.ring e may).from);
+        note = h.note;
         same = h.same;
         sized = h.sized;
         sound = sound-step h.geometry m n (commit e.lsn f.last (h.window.is_open ∙ opened)) h.sound;

@@ -16,3 +16,5 @@ pub mod Following
 pub mod Showing
 pub mod Noting
 pub mod Openings
+pub mod Naming
+pub mod Choosing

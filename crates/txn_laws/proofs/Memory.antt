@@ -50,6 +50,7 @@ begins f disk m closed h = (record m { window = after_begin m.window }, stands, 
           (record { log_is = refl; synced_is = refl; done_is = refl; sent_is = refl; place_is = refl; begun_is = refl; renamed_is = refl; replaced_is = refl })
           (record { durable = λ k i a b c. refl; written = λ k i a b c. refl });
       below = h.below;
+      note = h.note;
       same = h.same;
       sized = h.sized;
       sound = sound-step h.geometry m (record m { window = after_begin m.window }) (begin (h.window.is_open ∙ closed)) h.sound;
@@ -102,6 +103,7 @@ sealed_behind f disk m h = record {
       subst (λ (c : Option ℕ). HoldsLog (session_of f h.lap) (record { ring = h.ring; check = c; pages = h.pages; restarts = h.restarts; word = sent_word (sealed_area f.log).sent; fields = h.fields; noted = h.noted }) m disk) (sym (sealed_check f.log))
       (subst (λ (c : Option SentRestart). HoldsLog (session_of f h.lap) (record { ring = h.ring; check = f.log.check; pages = h.pages; restarts = h.restarts; word = sent_word c; fields = h.fields; noted = h.noted }) m disk) (sym (sealed_sent f.log)) h.holds);
   below = λ begun. omega (arith, h.below begun, sealed_rises f.log);
+  note = h.note;
   same = h.same;
   sized = h.sized;
   sound = h.sound;
@@ -262,6 +264,7 @@ module _ (f : StoreFacts) (disk : Disk) (m : Store) (opened : f.is_open ≡ true
             (record { log_is = refl; synced_is = refl; done_is = refl; sent_is = refl; place_is = refl; begun_is = refl; renamed_is = refl; replaced_is = refl })
             (record { durable = λ k i a b c. refl; written = λ k i a b c. refl });
         below = h.below;
+        note = h.note;
         same = h.same;
         sized = h.sized;
         sound = sound-step h.geometry m n (give_up (h.window.is_open ∙ opened)) h.sound;

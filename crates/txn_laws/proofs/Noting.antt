@@ -1,5 +1,5 @@
 -- A checkpoint begins.
-use Rattle.std.proofs.Common.{◌≡◌, ℕ, ◌+◌, ◌-◌, ◌≤◌, Bool, true, false, cond, length, Option, None, refl, sym, ap, ◌∙◌, inl, inr, arith}
+use Rattle.std.proofs.Common.{◌≡◌, ℕ, ◌+◌, ◌-◌, Bool, true, false, cond, length, Option, None, refl, sym, ap, ◌∙◌, inl, inr, arith}
 use Rattle.std.specs.Prelude.{◌||◌, is_some}
 use Rattle.std.proofs.lemmas.Bool.{cases_Bool}
 use Rattle.disk_model.specs.declared.block.Block.{Block}
@@ -35,8 +35,8 @@ notes f disk m closed unnoted h = (checkpoint_begun m, stands, record { same = r
     early : m.begun ≡ false
     early = h.by_pages.begun ∙ ap (λ (o : Option ℕ). is_some o) unnoted
 
-    upto : it.ring.oldest + length it.pages ≤ (sealed_area f.log).sealed
-    upto =
+    all : (sealed_area f.log).sealed ≡ it.ring.oldest + length it.pages
+    all =
         let used : used_pages (sealed_area f.log) ≡ (sealed_area f.log).sealed - (sealed_area f.log).oldest + 0 = ap (λ (b : Bool). (sealed_area f.log).sealed - (sealed_area f.log).oldest + cond b 1 0) (not_filling f.log) in
         let area = it.stands.ring.area in
         omega (arith, used, it.stands.ring.counted, it.stands.ring.oldest, area.durable_pages, area.written_pages, area.sealed_pages)
@@ -66,7 +66,8 @@ notes f disk m closed unnoted h = (checkpoint_begun m, stands, record { same = r
       stands = it.stands;
       holds = log_noted (session_of f it.lap) (numbers_of (sealed_facts f) it.ring it.pages it.restarts it.fields it.noted) m disk it.holds (checkpoint_begun m) early
           (record { log_is = refl; synced_is = refl; done_is = refl; sent_is = refl; place_is = refl; begun_is = refl; renamed_is = not_renamed; replaced_is = refl });
-      below = λ begun. upto;
+      below = λ begun. (let e = all in omega (arith, e));
+      note = all;
       same = it.same;
       sized = it.sized;
       sound = sound-step it.geometry m (checkpoint_begun m) (begin_checkpoint early (it.window.is_open ∙ closed)) it.sound;

@@ -138,6 +138,7 @@ module _ (f : StoreFacts) (disk : Disk) (m : Store) (h : StandsBehind f disk m) 
       renamed = h.holds.renamed;
     };
     below = h.below;
+    note = h.note;
     same = same;
     sized = sized;
     sound = sound-step h.geometry m n (write_page upto within.0 within.1) h.sound;
@@ -192,6 +193,7 @@ module _ (f : StoreFacts) (disk : Disk) (m : Store) (h : StandsBehind f disk m) 
       renamed = h.holds.renamed;
     };
     below = h.below;
+    note = h.note;
     same = same;
     sized = sized;
     sound = sound-step h.geometry m x (write_page_fails upto within.1) h.sound;
@@ -217,7 +219,7 @@ moment_rises moment = elim (cases_Bool (nat_lt moment last_moment)) [
   | inr more ↦ subst (λ (b : Bool). moment ≤ cond b (moment + 2) moment) (sym more) (omega arith)
 ]
 
-sends_later : (check : Option ℕ) (moment : ℕ) → moment ≤ sending_moment check moment
+pub sends_later : (check : Option ℕ) (moment : ℕ) → moment ≤ sending_moment check moment
 sends_later None moment = moment_rises moment
 sends_later (Some word) moment = omega arith
 

@@ -68,6 +68,7 @@ module _ (place : LogPlace) (log : LogAreaOf) (found : List Block) (lap : ℕ) (
     holds = log_starts (record { place = place; lap = lap }) r log.check q (sent_word log.sent) fields 0 0 m disk own stands.ring.ring stands.restarts.restarts idle said names
         (record { log_is = refl; synced_is = refl; done_is = refl; sent_is = refl; place_is = refl; begun_is = refl; renamed_is = refl; replaced_is = refl });
     below = λ begun. absurd (true≢false (sym begun));
+    note = tt;
     same = refl;
     sized = sized;
     sound = sound_events_law.mounted (own_of f) (volume_geometry (own_of f)) (is_volume (own_of f)) 1 (content_of (seen disk)) (disk_without (own_of f) disk) bears;

@@ -1,37 +1,39 @@
--- A sync that went well, where no restart page was written.
+-- A sync that went well: where a restart page was written, it frees the ring up to the noted page.
 use Rattle.std.proofs.Common.{◌≡◌, ◌≢◌, subst, ℕ, zero, suc, ◌+◌, ◌-◌, ◌*◌, ◌%◌, ◌<◌, ◌≤◌, Bool, true, false, cond, List, [], ◌∷◌, length, take, drop, get_or, Option, Some, None, Ok, refl, sym, ap, ap₂, ◌∙◌, inl, inr, arith}
 use Rattle.std.specs.Prelude.{◌&&◌, ◌||◌, not, nat_le, is_some, IfSome, slice_index, unwrap_or}
-use Rattle.std.proofs.lemmas.Bool.{cases_Bool, cases_lt, lt-leb, le-leb, eq-eqb, ne_eqb}
-use Rattle.std.proofs.lemmas.List.{length-take-le, length-append, get_or-take, drop-drop}
+use Rattle.std.proofs.lemmas.Bool.{cases_Bool, cases_lt, lt-leb, le-leb, leb-false, eq-eqb, ne_eqb}
+use Rattle.std.proofs.lemmas.List.{length-take-le, length-append, length-drop, get_or-take, get_or-drop, drop-drop}
 use Rattle.disk_model.specs.declared.block.Block.{Block}
 use Rattle.disk_model.specs.declared.block.Body.{Body}
 use Rattle.disk_model.specs.Sectors.{sectors}
 use Rattle.sector_device.specs.Disks.{Disk, IsSized, seen, settled}
 use Rattle.log_model.specs.declared.entry.Entry.{Entry}
 use Rattle.log_model.specs.Logs.{first_undo}
-use Rattle.log_area.specs.Areas.{place_at, synced_area}
+use Rattle.log_page.specs.declared.restart.Restart.{Restart}
+use Rattle.log_area.specs.Areas.{place_at, synced_area, number_of}
 use Rattle.store_model.specs.Logs.{BodyBytes, commits, undone, has_update, IsOusted}
 use Rattle.store_model.specs.Stores.{Store}
-use Rattle.store_model.specs.Events.{Loses, MayBury, synced_store, buried, Step}
-use Rattle.store_model.specs.Events.Step.{sync}
+use Rattle.store_model.specs.Events.{Loses, MayBury, synced_store, buried, freed, Step}
+use Rattle.store_model.specs.Events.Step.{sync, sync_frees}
 use Rattle.store_model.specs.Rings.{Ring, entries_on, synced_places}
 use Rattle.store_model.specs.Volumes.{first_bytes, window_of}
 use Rattle.store_model.proofs.Told.{true≢false}
-use Rattle.store_model.proofs.Lost.{has_drop, loses_at}
+use Rattle.store_model.proofs.Lost.{has_drop, loses_at, loses_rest}
 use Rattle.store_model.proofs.Ends.{commits-drop_le}
-use Rattle.store_model.proofs.Rings.{entries_front, entries_longer, drop_entries}
+use Rattle.store_model.proofs.Rings.{entries_front, entries_longer, drop_entries, take_entries}
 use Rattle.store_model.proofs.Sound.{sound-step}
 use Rattle.store_model.proofs.Moving.{windows_move_law}
 use Rattle.ring_laws.specs.Numbers.{LogSession, ring_size}
 use Rattle.ring_laws.specs.RestartPages.{restart_synced}
 use Rattle.ring_laws.specs.StoreLogs.{LogNumbers}
 use Rattle.ring_laws.proofs.SeenDisks.{without_synced}
-use Rattle.ring_laws.proofs.StoreEvents.{log_synced}
+use Rattle.ring_laws.proofs.StoreEvents.{log_synced, log_freed}
 use Rattle.area_laws.specs.Standing.{Stands, freed_to}
 use Rattle.area_laws.proofs.Joined.{syncs_all}
+use Rattle.area_laws.proofs.Reading.{is_first, number_is}
 use Rattle.txn_model.specs.Values.{StoreFacts, own_of}
 use Rattle.txn_model.specs.Calls.{is_buried, durable_after, synced_facts}
-use Rattle.txn_laws.specs.Standing.{HasBytes, StandsBehind, session_of, numbers_of}
+use Rattle.txn_laws.specs.Standing.{HasBytes, IsKilled, StandsBehind, session_of, numbers_of}
 use Rattle.txn_laws.specs.Windows.{Simulates, MovesTo}
 use Rattle.txn_laws.specs.Laws.{SyncsNow}
 use Rattle.txn_laws.proofs.Telling.{by_device, known_before_sync, sized_of}
@@ -72,7 +74,7 @@ all_pages ((e ∷ es) ∷ pages) (suc n) some le =
     let rest = all_pages pages n (λ k lt. some (suc k) (omega (arith, lt))) (omega (arith, le, length-append (e ∷ es) (entries_on pages), length-append (e ∷ es) (entries_on (take n pages)))) in
     omega (arith, rest)
 
-module _ (f : StoreFacts) (disk : Disk) (m : Store) (unnamed : f.log.named ≡ None) (h : StandsBehind f disk m) where
+module _ (f : StoreFacts) (disk : Disk) (m : Store) (h : StandsBehind f disk m) where
   abbrev s : LogSession
   s = session_of f h.lap
 
@@ -91,23 +93,25 @@ module _ (f : StoreFacts) (disk : Disk) (m : Store) (unnamed : f.log.named ≡ N
   abbrev n : Store
   n = buried h.geometry (synced_store m) (λ b. m.dead b && nat_le (f.mark b).killed f.log.done)
 
-  early : m.replaced ≡ false
-  early = h.holds.replaced ∙ h.stands.restarts.done ∙ ap (λ (o : Option ℕ). is_some o) unnamed
-
   done_is : m.done ≡ length (entries_on (take (h.ring.done - h.ring.oldest) h.pages))
   done_is = h.holds.done
 
   -- ---- what is dropped
 
-  loses : (b : Block) → m.dead b ≡ true → (f.mark b).killed ≤ f.log.done → Loses m.log m.done b
-  loses b dead le =
+  -- what the pages before the killer's end lose
+  loses_there : (b : Block) → m.dead b ≡ true → Loses m.log (length (entries_on (take ((f.mark b).killed - h.ring.oldest) h.pages))) b
+  loses_there b dead =
       let x = h.by_pages.killed b dead in
       let k = (f.mark b).killed - h.ring.oldest in
-      let lose : Loses m.log (length (entries_on (take k h.pages))) b = record {
+      record {
         ousted = subst (λ (es : List Entry). IsOusted es b) (entries_front h.pages k ∙ ap (λ (es : List Entry). take (length (entries_on (take k h.pages))) es) (sym h.holds.kept.holds.log)) x.ousted;
         quiet = ap (λ (es : List Entry). has_update es b) (ap (λ (es : List Entry). drop (length (entries_on (take k h.pages))) es) h.holds.kept.holds.log ∙ drop_entries h.pages k) ∙ x.quiet;
-      } in
-      loses_later m.log (length (entries_on (take k h.pages))) m.done b (omega (arith, done_is, entries_longer h.pages k (h.ring.done - h.ring.oldest) (omega (arith, le, h.stands.ring.done)))) lose
+      }
+
+  loses : (b : Block) → m.dead b ≡ true → (f.mark b).killed ≤ f.log.done → Loses m.log m.done b
+  loses b dead le =
+      let k = (f.mark b).killed - h.ring.oldest in
+      loses_later m.log (length (entries_on (take k h.pages))) m.done b (omega (arith, done_is, entries_longer h.pages k (h.ring.done - h.ring.oldest) (omega (arith, le, h.stands.ring.done)))) (loses_there b dead)
 
   all_gone : m.done ≡ length m.log → (b : Block) → m.dead b ≡ true → (f.mark b).killed ≤ f.log.done
   all_gone all b dead =
@@ -122,9 +126,6 @@ module _ (f : StoreFacts) (disk : Disk) (m : Store) (unnamed : f.log.named ≡ N
     lost = λ b is. loses b (and_left (m.dead b) (nat_le (f.mark b).killed f.log.done) is) (is_below (f.mark b).killed f.log.done (and_right (m.dead b) (nat_le (f.mark b).killed f.log.done) is));
     all = λ all b dead. ap₂ (λ (a : Bool) (c : Bool). a && c) dead (le-leb (f.mark b).killed f.log.done (all_gone all b dead));
   }
-
-  abbrev step : Step h.geometry m n
-  step = sync (λ b. m.dead b && nat_le (f.mark b).killed f.log.done) early buries
 
   -- what stays by the marks stays in the machine
   stays : (b : Block) → is_buried f.log.done (f.mark b) ≡ false → gone b ≡ false
@@ -177,24 +178,6 @@ module _ (f : StoreFacts) (disk : Disk) (m : Store) (unnamed : f.log.named ≡ N
         ap (λ (v : Bool). cond v f.durable (slice_index f.ends (place_at f.log (f.log.done - 1))) + c) (eq-eqb f.log.synced f.log.done same)
         ∙ ap (λ (x : ℕ). f.durable + x) all ∙ h.window.waiting
   ]
-
-  -- ---- the log
-
-  oldest_is : freed_to f.log ≡ h.ring.oldest
-  oldest_is = ap (λ (o : Option ℕ). unwrap_or o f.log.oldest) unnamed ∙ sym h.stands.ring.oldest
-
-  dropped_none : (k : ℕ) → k ≡ 0 → drop k h.pages ≡ h.pages
-  dropped_none k is = ap (λ (j : ℕ). drop j h.pages) is ∙ drop_zero h.pages
-    where
-      drop_zero : (ps : List (List Entry)) → drop 0 ps ≡ ps
-      drop_zero [] = refl
-      drop_zero (p ∷ ps) = refl
-
-  stands_now : Stands s (synced_area f.log) r (restart_synced h.restarts) h.pages h.fields (settled disk)
-  stands_now =
-      subst (λ (ps : List (List Entry)). Stands s (synced_area f.log) r (restart_synced h.restarts) ps h.fields (settled disk)) (dropped_none (freed_to f.log - f.log.oldest) (omega (arith, oldest_is, h.stands.ring.oldest)))
-      (subst (λ (o : ℕ). Stands s (synced_area f.log) (record h.ring { oldest = o; synced = h.ring.done; places = synced_places h.ring.places }) (restart_synced h.restarts) (drop (freed_to f.log - f.log.oldest) h.pages) h.fields (settled disk)) oldest_is
-      (syncs_all s f.log h.ring h.restarts h.pages h.fields disk h.stands))
 
   -- ---- marks
 
@@ -301,72 +284,270 @@ module _ (f : StoreFacts) (disk : Disk) (m : Store) (unnamed : f.log.named ≡ N
       (subst (λ (t : Bool). HasBytes b (undone m.window.draft m.window.body b) t x) (sym (same_before b none))
       (subst (λ (o : Option Body). IfSome o (HasBytes b (undone m.window.draft m.window.body b) (m.window.was_torn 0 b))) is (h.window.before b)))
 
-  pub syncs_well : IsSized (settled disk) → (n : Store) × StandsBehind (synced_facts f) (settled disk) n × MovesTo (λ b. is_buried f.log.done (f.mark b)) (window_of m.window) (window_of n.window)
-  syncs_well sized = (n, stands, moves)
-    where
-      moves : MovesTo (λ b. is_buried f.log.done (f.mark b)) (window_of m.window) (window_of n.window)
-      moves = record {
-        is_open = refl;
-        waiting = omega (arith, kept_waiting, few);
-        present = λ b none. ap₂ (λ (bytes : BodyBytes) (t : Bool). record { bytes = first_bytes (512 * sectors b.kind) bytes; torn = t }) (same_body b (stays b none)) (same_torn b (stays b none));
-        others = λ k le b none. subst (λ (j : ℕ). (window_of n.window).before j b ≡ (window_of m.window).before k b) (let e : 0 + k ≡ k = omega arith in e)
-            (windows_move_law.members h.geometry m n step b (stays b none) k (omega (arith, le))).1;
-      }
+  -- ---- no restart page was written
 
-      stands : StandsBehind g (settled disk) n
-      stands = record {
-        geometry = h.geometry;
-        volume = h.volume;
-        lap = h.lap;
-        ring = r;
-        pages = h.pages;
-        restarts = restart_synced h.restarts;
-        fields = h.fields;
-        noted = h.noted;
-        stands = stands_now;
-        holds = log_synced s l m disk h.holds n early
-            (record { log_is = refl; synced_is = refl; done_is = refl; sent_is = refl; place_is = refl; begun_is = refl; renamed_is = refl; replaced_is = refl });
-        below = h.below;
-        same = ap settled h.same ∙ sym (without_synced (own_of f) disk);
-        sized = sized;
-        sound = sound-step h.geometry m n step h.sound;
-        window = record {
-          is_open = h.window.is_open;
-          tx = h.window.tx;
-          waiting = ap (λ (x : ℕ). durable_after f.log f.ends f.durable + x) kept_waiting ∙ now_durable;
-          body = body_now;
-          changed = h.window.changed;
-          before = λ b. before_now b (f.before b) refl;
-        };
-        marks = record {
-          dirty = dirty_now;
-          dead = dead_now;
-          kept = kept_now;
-          apart = λ b is. h.marks.apart b (and_left (f.mark b).dead (not (is_buried f.log.done (f.mark b))) is);
-          lone = h.marks.lone;
-          known = λ b is. h.marks.known b (some_kept b is);
-          changed = h.marks.changed;
-          wet = λ b is. absurd (true≢false (sym is));
-          owed = owed_now;
-          due = λ begun b is. absurd (true≢false (sym is));
-        };
-        by_pages = record {
-          some = h.by_pages.some;
-          imaged = λ b is. let x = h.by_pages.imaged b is in (record { has = x.0.has; last = x.0.last }, λ e. record { has = (x.1 e).has; last = (x.1 e).last });
-          until = h.by_pages.until;
-          commit = λ b k lt has. h.by_pages.commit b k (omega (arith, lt, kept_waiting, few)) (ap (λ (us : List Entry). has_update us b) (sym (get_or-take c m.window.waiting k [] (omega (arith, lt, kept_waiting)))) ∙ has);
-          killed = λ b dead. h.by_pages.killed b (and_right (not (gone b)) (m.dead b) dead);
-          counted = h.by_pages.counted;
-          ends = λ k lt low. h.by_pages.ends k lt (omega (arith, low, h.stands.ring.ring.ring.synced));
-          begun = h.by_pages.begun ∙ sym (ap (λ (o : Option ℕ). is_some (cond (is_some o) None f.noted)) unnamed);
-        };
-      }
+  module _ (unnamed : f.log.named ≡ None) where
+    early : m.replaced ≡ false
+    early = h.holds.replaced ∙ h.stands.restarts.done ∙ ap (λ (o : Option ℕ). is_some o) unnamed
+
+    abbrev step : Step h.geometry m n
+    step = sync (λ b. m.dead b && nat_le (f.mark b).killed f.log.done) early buries
+
+    oldest_is : freed_to f.log ≡ h.ring.oldest
+    oldest_is = ap (λ (o : Option ℕ). unwrap_or o f.log.oldest) unnamed ∙ sym h.stands.ring.oldest
+
+    dropped_none : (k : ℕ) → k ≡ 0 → drop k h.pages ≡ h.pages
+    dropped_none k is = ap (λ (j : ℕ). drop j h.pages) is ∙ drop_zero h.pages
+      where
+        drop_zero : (ps : List (List Entry)) → drop 0 ps ≡ ps
+        drop_zero [] = refl
+        drop_zero (p ∷ ps) = refl
+
+    stands_now : Stands s (synced_area f.log) r (restart_synced h.restarts) h.pages h.fields (settled disk)
+    stands_now =
+        subst (λ (ps : List (List Entry)). Stands s (synced_area f.log) r (restart_synced h.restarts) ps h.fields (settled disk)) (dropped_none (freed_to f.log - f.log.oldest) (omega (arith, oldest_is, h.stands.ring.oldest)))
+        (subst (λ (o : ℕ). Stands s (synced_area f.log) (record h.ring { oldest = o; synced = h.ring.done; places = synced_places h.ring.places }) (restart_synced h.restarts) (drop (freed_to f.log - f.log.oldest) h.pages) h.fields (settled disk)) oldest_is
+        (syncs_all s f.log h.ring h.restarts h.pages h.fields disk h.stands))
+
+    syncs_well : IsSized (settled disk) → (n : Store) × StandsBehind (synced_facts f) (settled disk) n × MovesTo (λ b. is_buried f.log.done (f.mark b)) (window_of m.window) (window_of n.window)
+    syncs_well sized = (n, stands, moves)
+      where
+        moves : MovesTo (λ b. is_buried f.log.done (f.mark b)) (window_of m.window) (window_of n.window)
+        moves = record {
+          is_open = refl;
+          waiting = omega (arith, kept_waiting, few);
+          present = λ b none. ap₂ (λ (bytes : BodyBytes) (t : Bool). record { bytes = first_bytes (512 * sectors b.kind) bytes; torn = t }) (same_body b (stays b none)) (same_torn b (stays b none));
+          others = λ k le b none. subst (λ (j : ℕ). (window_of n.window).before j b ≡ (window_of m.window).before k b) (let e : 0 + k ≡ k = omega arith in e)
+              (windows_move_law.members h.geometry m n step b (stays b none) k (omega (arith, le))).1;
+        }
+
+        stands : StandsBehind g (settled disk) n
+        stands = record {
+          geometry = h.geometry;
+          volume = h.volume;
+          lap = h.lap;
+          ring = r;
+          pages = h.pages;
+          restarts = restart_synced h.restarts;
+          fields = h.fields;
+          noted = h.noted;
+          stands = stands_now;
+          holds = log_synced s l m disk h.holds n early
+              (record { log_is = refl; synced_is = refl; done_is = refl; sent_is = refl; place_is = refl; begun_is = refl; renamed_is = refl; replaced_is = refl });
+          below = h.below;
+          note = subst (λ (o : Option ℕ). IfSome (cond (is_some o) None f.noted) (λ n. n ≡ h.noted)) (sym unnamed) h.note;
+          same = ap settled h.same ∙ sym (without_synced (own_of f) disk);
+          sized = sized;
+          sound = sound-step h.geometry m n step h.sound;
+          window = record {
+            is_open = h.window.is_open;
+            tx = h.window.tx;
+            waiting = ap (λ (x : ℕ). durable_after f.log f.ends f.durable + x) kept_waiting ∙ now_durable;
+            body = body_now;
+            changed = h.window.changed;
+            before = λ b. before_now b (f.before b) refl;
+          };
+          marks = record {
+            dirty = dirty_now;
+            dead = dead_now;
+            kept = kept_now;
+            apart = λ b is. h.marks.apart b (and_left (f.mark b).dead (not (is_buried f.log.done (f.mark b))) is);
+            lone = h.marks.lone;
+            known = λ b is. h.marks.known b (some_kept b is);
+            changed = h.marks.changed;
+            wet = λ b is. absurd (true≢false (sym is));
+            owed = owed_now;
+            due = λ begun b is. absurd (true≢false (sym is));
+          };
+          by_pages = record {
+            some = h.by_pages.some;
+            imaged = λ b is. let x = h.by_pages.imaged b is in (record { has = x.0.has; last = x.0.last }, λ e. record { has = (x.1 e).has; last = (x.1 e).last });
+            until = h.by_pages.until;
+            commit = λ b k lt has. h.by_pages.commit b k (omega (arith, lt, kept_waiting, few)) (ap (λ (us : List Entry). has_update us b) (sym (get_or-take c m.window.waiting k [] (omega (arith, lt, kept_waiting)))) ∙ has);
+            killed = λ b dead. h.by_pages.killed b (and_right (not (gone b)) (m.dead b) dead);
+            counted = h.by_pages.counted;
+            ends = λ k lt low. h.by_pages.ends k lt (omega (arith, low, h.stands.ring.ring.ring.synced));
+            begun = h.by_pages.begun ∙ sym (ap (λ (o : Option ℕ). is_some (cond (is_some o) None f.noted)) unnamed);
+          };
+        }
+
+  -- ---- a restart page was written
+
+  module _ (p : ℕ) (named : f.log.named ≡ Some p) where
+    late : m.replaced ≡ true
+    late = h.holds.replaced ∙ h.stands.restarts.done ∙ ap (λ (o : Option ℕ). is_some o) named
+
+    abbrev e : Store
+    e = freed (buried h.geometry (synced_store m) (λ b. m.dead b && nat_le (f.mark b).killed f.log.done))
+
+    abbrev free_step : Step h.geometry m e
+    free_step = sync_frees (λ b. m.dead b && nat_le (f.mark b).killed f.log.done) late buries
+
+    restart_begun : h.restarts.begun ≡ true
+    restart_begun = h.holds.kept.restarts.begun (h.stands.restarts.done ∙ ap (λ (o : Option ℕ). is_some o) named)
+
+    renamed : m.renamed ≡ true
+    renamed = h.holds.kept.begun restart_begun
+
+    begun : m.begun ≡ true
+    begun = h.holds.renamed renamed
+
+    low : h.ring.oldest ≤ h.noted
+    low = h.holds.low begun
+
+    high : h.noted ≤ f.log.done
+    high = omega (arith, h.holds.kept.high renamed, h.stands.ring.ring.ring.synced, h.stands.ring.done)
+
+    -- the restart page names the noted page
+    names_noted : p ≡ h.noted
+    names_noted =
+        let x = subst (λ (o : Option ℕ). IfSome o (λ n. (x : Restart) × (h.fields (suc h.restarts.sure) ≡ Some x) × (number_of f.log x.oldest ≡ n))) named h.stands.restarts.names in
+        sym x.2 ∙ ap (number_of f.log) (h.holds.names.next x.0 restart_begun x.1 ∙ sym (is_first s f.log h.ring h.restarts h.pages h.fields disk h.stands h.noted))
+        ∙ number_is s f.log h.ring h.restarts h.pages h.fields disk h.stands h.noted
+
+    freed_is : freed_to f.log ≡ h.noted
+    freed_is = ap (λ (o : Option ℕ). unwrap_or o f.log.oldest) named ∙ names_noted
+
+    abbrev k : ℕ
+    k = h.noted - h.ring.oldest
+
+    abbrev rest : List (List Entry)
+    rest = drop (h.noted - h.ring.oldest) h.pages
+
+    abbrev t : Ring
+    t = record h.ring { oldest = h.noted; synced = h.ring.done; places = synced_places h.ring.places }
+
+    stands_freed : Stands s (synced_area f.log) t (restart_synced h.restarts) rest h.fields (settled disk)
+    stands_freed =
+        subst (λ (i : ℕ). Stands s (synced_area f.log) t (restart_synced h.restarts) (drop i h.pages) h.fields (settled disk)) (let i : freed_to f.log - f.log.oldest ≡ h.noted - h.ring.oldest = omega (arith, freed_is, h.stands.ring.oldest) in i)
+        (subst (λ (o : ℕ). Stands s (synced_area f.log) (record h.ring { oldest = o; synced = h.ring.done; places = synced_places h.ring.places }) (restart_synced h.restarts) (drop (freed_to f.log - f.log.oldest) h.pages) h.fields (settled disk)) freed_is
+        (syncs_all s f.log h.ring h.restarts h.pages h.fields disk h.stands))
+
+    place_is : m.place ≡ length (entries_on (take k h.pages))
+    place_is = h.holds.place begun
+
+    rest_is : drop m.place m.log ≡ entries_on rest
+    rest_is = ap₂ (λ (i : ℕ) (es : List Entry). drop i es) place_is h.holds.kept.holds.log ∙ drop_entries h.pages k
+
+    few_pages : k ≤ length h.pages
+    few_pages = let area = h.stands.ring.area in omega (arith, low, high, h.stands.ring.counted, h.stands.ring.oldest, area.durable_pages, area.written_pages, area.sealed_pages)
+
+    length-rest : h.noted + length rest ≡ h.ring.oldest + length h.pages
+    length-rest = omega (arith, length-drop k h.pages, few_pages, low)
+
+    in_rest : (i : ℕ) → i < length rest → k + i < length h.pages
+    in_rest i lt = omega (arith, lt, length-drop k h.pages)
+
+    -- a dead body that stays stands behind the noted page
+    killed_rest : (b : Block) → e.dead b ≡ true → IsKilled rest h.noted (f.mark b).killed b
+    killed_rest b is =
+        let dead = and_right (not (gone b)) (m.dead b) is in
+        let x = h.by_pages.killed b dead in
+        let above = stays_above b dead (not_true (gone b) (and_left (not (gone b)) (m.dead b) is)) in
+        let j = (f.mark b).killed - h.ring.oldest in
+        let i = (f.mark b).killed - h.noted in
+        let all : k + i ≡ j = omega (arith, low, high, above) in
+        let lost = loses_rest m.log m.place (length (entries_on (take j h.pages))) b (has_there b dead) (loses_there b dead) in
+        let parts = take_entries h.pages k i in
+        let front : length (entries_on (take j h.pages)) - m.place ≡ length (entries_on (take i rest)) = omega (arith, parts, place_is, ap (λ (n : ℕ). length (entries_on (take n h.pages))) all) in
+        record {
+          ousted = subst (λ (es : List Entry). IsOusted es b) (ap₂ (λ (n : ℕ) (es : List Entry). take n es) front rest_is ∙ sym (entries_front rest i)) lost.ousted;
+          quiet = ap (λ (ps : List (List Entry)). has_update (entries_on ps) b) (drop-drop i k h.pages ∙ ap (λ (n : ℕ). drop n h.pages) all) ∙ x.quiet;
+          within = omega (arith, x.within, length-rest);
+        }
+      where
+        not_true : (v : Bool) → not v ≡ true → v ≡ false
+        not_true true is = absurd (true≢false (sym is))
+        not_true false is = refl
+
+        stays_above : (b : Block) → m.dead b ≡ true → gone b ≡ false → f.log.done < (f.mark b).killed
+        stays_above b dead none = leb-false (f.mark b).killed f.log.done (not_left (m.dead b) (nat_le (f.mark b).killed f.log.done) dead none)
+
+        has_there : (b : Block) → m.dead b ≡ true → has_update (drop m.place m.log) b ≡ true
+        has_there b dead = elim ((h.sound.shades_next begun).of_dead b dead) [
+          | inl x ↦ x.0
+          | inr x ↦ absurd (true≢false (sym x.0 ∙ (h.sound.paid renamed b).0))
+        ]
+
+    frees_well : IsSized (settled disk) → (n : Store) × StandsBehind (synced_facts f) (settled disk) n × MovesTo (λ b. is_buried f.log.done (f.mark b)) (window_of m.window) (window_of n.window)
+    frees_well sized = (e, stands, moves)
+      where
+        moves : MovesTo (λ b. is_buried f.log.done (f.mark b)) (window_of m.window) (window_of e.window)
+        moves = record {
+          is_open = refl;
+          waiting = omega (arith, kept_waiting, few);
+          present = λ b none. ap₂ (λ (bytes : BodyBytes) (t : Bool). record { bytes = first_bytes (512 * sectors b.kind) bytes; torn = t }) (same_body b (stays b none)) (same_torn b (stays b none));
+          others = λ k le b none. subst (λ (j : ℕ). (window_of e.window).before j b ≡ (window_of m.window).before k b) (let e : 0 + k ≡ k = omega arith in e)
+              (windows_move_law.members h.geometry m e free_step b (stays b none) k (omega (arith, le))).1;
+        }
+
+        stands : StandsBehind g (settled disk) e
+        stands = record {
+          geometry = h.geometry;
+          volume = h.volume;
+          lap = h.lap;
+          ring = t;
+          pages = rest;
+          restarts = restart_synced h.restarts;
+          fields = h.fields;
+          noted = h.noted;
+          stands = stands_freed;
+          holds = log_freed s l m disk h.holds late e
+              (record { log_is = refl; synced_is = refl; done_is = refl; sent_is = refl; place_is = refl; begun_is = refl; renamed_is = refl; replaced_is = refl });
+          below = λ is. absurd (true≢false (sym is));
+          note = subst (λ (o : Option ℕ). IfSome (cond (is_some o) None f.noted) (λ n. n ≡ h.noted)) (sym named) tt;
+          same = ap settled h.same ∙ sym (without_synced (own_of f) disk);
+          sized = sized;
+          sound = sound-step h.geometry m e free_step h.sound;
+          window = record {
+            is_open = h.window.is_open;
+            tx = h.window.tx;
+            waiting = ap (λ (x : ℕ). durable_after f.log f.ends f.durable + x) kept_waiting ∙ now_durable;
+            body = body_now;
+            changed = h.window.changed;
+            before = λ b. before_now b (f.before b) refl;
+          };
+          marks = record {
+            dirty = dirty_now;
+            dead = dead_now;
+            kept = kept_now;
+            apart = λ b is. h.marks.apart b (and_left (f.mark b).dead (not (is_buried f.log.done (f.mark b))) is);
+            lone = h.marks.lone;
+            known = λ b is. h.marks.known b (some_kept b is);
+            changed = h.marks.changed;
+            wet = λ b is. absurd (true≢false (sym is));
+            owed = λ begun b is. absurd (true≢false (sym begun));
+            due = λ begun b is. absurd (true≢false (sym begun));
+          };
+          by_pages = record {
+            some = λ i lt none. h.by_pages.some (k + i) (in_rest i lt) (sym (get_or-drop k h.pages i []) ∙ none);
+            imaged = λ b is. let x = (h.by_pages.imaged b is).1 begun in (record { has = x.has; last = x.last }, λ late. absurd (true≢false (sym late)));
+            until = λ b i lt has. (let old = h.by_pages.until b (k + i) (in_rest i lt) (ap (λ (es : List Entry). has_update es b) (sym (get_or-drop k h.pages i [])) ∙ has) in omega (arith, old, low));
+            commit = λ b k lt has. h.by_pages.commit b k (omega (arith, lt, kept_waiting, few)) (ap (λ (us : List Entry). has_update us b) (sym (get_or-take c m.window.waiting k [] (omega (arith, lt, kept_waiting)))) ∙ has);
+            killed = killed_rest;
+            counted = h.by_pages.counted;
+            ends = λ i lt from.
+                (let at : h.noted + i ≡ h.ring.oldest + (k + i) = omega (arith, low) in
+                ap₂ (λ (x : ℕ) (ps : List (List Entry)). slice_index f.ends (x % ring_size s) + commits (entries_on ps)) at (drop-drop (suc i) k h.pages ∙ ap (λ (n : ℕ). drop n h.pages) (let n : k + suc i ≡ suc (k + i) = omega arith in n))
+                ∙ h.by_pages.ends (k + i) (in_rest i lt) (omega (arith, from, low, h.stands.ring.ring.ring.synced)));
+            begun = sym (ap (λ (o : Option ℕ). is_some (cond (is_some o) None f.noted)) named);
+          };
+        }
+
+  -- ---- either
+
+  pub any_syncs : IsSized (settled disk) → (n : Store) × StandsBehind (synced_facts f) (settled disk) n × MovesTo (λ b. is_buried f.log.done (f.mark b)) (window_of m.window) (window_of n.window)
+  any_syncs sized = by_named f.log.named refl
+    where
+      by_named : (o : Option ℕ) → f.log.named ≡ o → (n : Store) × StandsBehind (synced_facts f) (settled disk) n × MovesTo (λ b. is_buried f.log.done (f.mark b)) (window_of m.window) (window_of n.window)
+      by_named None is = syncs_well is sized
+      by_named (Some p) is = frees_well p is sized
 
 -- ---- the call
 
-pub is_synced : {D : Type 0} (changes : D → Changes) (moment : D → ℕ) (count : ℕ) (f : StoreFacts) (old new : D) → IfSome (changes new).disk IsSized → f.log.named ≡ None → SyncsNow changes moment (Ok tt) old new
+pub is_synced : {D : Type 0} (changes : D → Changes) (moment : D → ℕ) (count : ℕ) (f : StoreFacts) (old new : D) → IfSome (changes new).disk IsSized → SyncsNow changes moment (Ok tt) old new
     → Simulates count (moment old) (changes old) (changes new) f (synced_facts f) (MovesTo (λ b. is_buried f.log.done (f.mark b)))
-is_synced changes moment count f old new sized unnamed syncs =
+is_synced changes moment count f old new sized syncs =
     by_device count (moment old) (moment old) (changes old) (changes new) f (synced_facts f) (MovesTo (λ b. is_buried f.log.done (f.mark b))) refl refl
     (known_before_sync _ _ (changes old) (changes new) syncs) (omega arith) syncs.past
-    (λ disk m is h. let known : (changes new).disk ≡ Some (settled disk) = syncs.ok ∙ ap (option_map settled) is in let it = syncs_well f disk m unnamed h (sized_of (changes new) (settled disk) known sized) in (settled disk, known, it.0, it.1, it.2))
+    (λ disk m is h. let known : (changes new).disk ≡ Some (settled disk) = syncs.ok ∙ ap (option_map settled) is in let it = any_syncs f disk m h (sized_of (changes new) (settled disk) known sized) in (settled disk, known, it.0, it.1, it.2))

@@ -471,6 +471,7 @@ module _ (f : StoreFacts) (disk : Disk) (m : Store) (b : Block) (x : Body) (kept
         holds = log_kept s l m disk h.holds (n now) now
             (record { log_is = refl; synced_is = refl; done_is = refl; sent_is = refl; place_is = refl; begun_is = refl; renamed_is = refl; replaced_is = refl }) (alike check now (between check now is));
         below = h.below;
+        note = h.note;
         same = refl;
         sized = sized;
         sound = sound-step h.geometry m (n now) (step check small now is) h.sound;
@@ -657,6 +658,7 @@ module _ (f : StoreFacts) (disk : Disk) (m : Store) (b : Block) (x : Body) (kept
         holds = log_kept s l m disk h.holds (nf now) now
             (record { log_is = refl; synced_is = refl; done_is = refl; sent_is = refl; place_is = refl; begun_is = refl; renamed_is = refl; replaced_is = refl }) (alike check now part);
         below = h.below;
+        note = h.note;
         same = refl;
         sized = sized;
         sound = sound-step h.geometry m (nf now) (failed_step check now part) h.sound;

@@ -1,5 +1,5 @@
 -- The laws of a store's calls.
-use Rattle.std.specs.Prelude.{Bool, ◌≡◌, ℕ, ◌+◌, ◌*◌, ◌^◌, ◌<◌, ◌≤◌, true, false, List, [], length, Option, Some, None, Result, Ok, Err, IfSome, is_some, unwrap_or}
+use Rattle.std.specs.Prelude.{Bool, ◌≡◌, ℕ, ◌+◌, ◌-◌, ◌*◌, ◌^◌, ◌<◌, ◌≤◌, true, false, List, [], length, Option, Some, None, Result, Ok, Err, IfSome, is_some, unwrap_or}
 use Rattle.host_base.specs.declared.outside.Failed.{Failed}
 use Rattle.disk_model.specs.declared.block.Block.{Block}
 use Rattle.disk_model.specs.declared.block.Body.{Body}
@@ -15,18 +15,25 @@ use Rattle.log_area.specs.Calls.{IsAsked, Sends}
 use Rattle.store_model.specs.Volumes.{is_known, sectors_from, ContentWindow}
 use Rattle.log_page.specs.declared.places.LogPlace.{LogPlace}
 use Rattle.log_page.specs.declared.restart.Restart.{Restart}
-use Rattle.log_area.specs.Areas.{LogAreaOf, lap_at, number_lsn, new_area, named_area, synced_area}
+use Rattle.log_area.specs.Areas.{LogAreaOf, lap_at, next_number, number_lsn, new_area, named_area, synced_area, IsOldest}
+use Rattle.store_model.specs.Stores.{Store}
+use Rattle.store_model.specs.Events.{MayRename}
 use Rattle.store_model.specs.Rings.{Ring, Restarts}
 use Rattle.ring_laws.specs.Numbers.{lsn_of_page, IsInRing}
 use Rattle.ring_laws.specs.PageBytes.{raw_page}
-use Rattle.log_page.specs.Places.{lap_of}
+use Rattle.log_page.specs.Places.{lap_of, sequence_bits}
 use Rattle.log_page.specs.LiveLogs.{said_lsn}
 use Rattle.ring_laws.specs.RestartPages.{RestartFields}
 use Rattle.area_laws.specs.Standing.{Stands}
 use Rattle.area_laws.specs.Laws.{SendsNext, SendsRestart, MayName}
 use Rattle.txn_model.specs.Values.{StoreFacts, own_of}
 use Rattle.txn_model.specs.Pieces.{next_entry}
-use Rattle.txn_model.specs.Calls.{first_facts, begun_facts, committed_facts, given_up_facts, change_acts, changed_facts, sealed_facts, noted_facts, written_facts, sent_facts, is_buried, synced_facts, is_ready, written_out_facts, sent_out_facts, again_facts}
+use Rattle.txn_model.specs.Told.{FactsTold, KeepsSteps, MayTakeStep}
+use Rattle.flush_policy.specs.declared.facts.Facts.{Facts}
+use Rattle.flush_policy.specs.declared.facts.StoreStep.{StoreStep}
+use Rattle.flush_policy.specs.Choice.{next_step}
+use Rattle.txn_model.specs.Calls.{first_facts, begun_facts, committed_facts, given_up_facts, change_acts, changed_facts, sealed_facts, noted_facts, written_facts, sent_facts, front_lsn, MayNameNoted, named_facts, naming_facts, is_buried, synced_facts, is_ready, written_out_facts, sent_out_facts, again_facts}
+use Rattle.txn_laws.specs.Standing.{StandsBehind}
 use Rattle.txn_laws.specs.Appending.{MayAppend, MayAppendAll}
 use Rattle.txn_laws.specs.Windows.{HasMachine, HasWindow, HasStart, IsShown, RecoversWithin, Simulates, AfterBegin, AfterChange, AfterCommit, AfterGiveUp, AfterWrite, MovesTo}
 
@@ -146,3 +153,33 @@ pub record DeviceSteps {D : Type 0} (gives : D → Option (List (List ℕ))) (ch
       → moment old ≤ begun → SendsAgain gives changes moment begun b bytes (Ok tt) old new → Simulates count (moment old) (changes old) (changes new) f (again_facts b f) AfterWrite
   pub again_fails : (count begun : ℕ) (f : StoreFacts) (b : Block) (x : Body) (bytes : List ℕ) (old new : D) → StandsThere (gives old) f b x bytes → SeesDisk (gives old) (changes old).disk → IfSome (changes new).disk IsSized
       → moment old ≤ begun → (fault : Failed) → SendsAgain gives changes moment begun b bytes (Err fault) old new → Simulates count (moment old) (changes old) (changes new) f f AfterWrite
+
+-- The checkpoint that noted this page may end by a restart page, which can be made: one that was sent already names the same page, there is a lap for the least entry, and the open count isn't
+-- at its type's end.
+pub record MayEndCheckpoint (f : StoreFacts) (page : ℕ) : Type 0 where
+  pub may : MayNameNoted f page
+  pub again : IfSome f.log.sent (λ x. x.page.oldest ≡ front_lsn f.log page)
+  pub lap : lap_at f.log (next_number f.log 0x58) < 2 ^ sequence_bits f.log.pages
+  pub opens : f.log.opens < 2 ^ 32 - 1
+
+-- the restart page that names this page of the log is sent to its place
+abbrev pub SendsNaming : {D : Type 0} → (D → Option (List (List ℕ))) → (D → Changes) → (D → ℕ) → LogAreaOf → ℕ → Bool → ℕ → Result (Unit {0}) Failed → D → D → Type 0
+SendsNaming gives changes moment log page clean word result old new = SendsRestart gives changes moment log (front_lsn log page) clean word result old new
+
+-- The end of a checkpoint, by calls of a device of which these are the words of its contract.
+pub record CheckpointSteps {D : Type 0} (gives : D → Option (List (List ℕ))) (changes : D → Changes) (moment : D → ℕ) : Type 0 where
+  -- the machine may write its restart page, and the log may name the noted page
+  pub renames : (f : StoreFacts) (page : ℕ) (disk : Disk) (m : Store) → StandsBehind f disk m → MayNameNoted f page → MayRename m
+  pub front : (f : StoreFacts) (page : ℕ) (disk : Disk) (m : Store) → StandsBehind f disk m → MayNameNoted f page → IsOldest f.log (front_lsn f.log page)
+  -- a restart page was written that names it; it was sent in a write that failed
+  pub name : (count page word : ℕ) (clean : Bool) (f : StoreFacts) (old new : D) → SeesDisk (gives old) (changes old).disk → IfSome (changes new).disk IsSized → MayEndCheckpoint f page
+      → SendsNaming gives changes moment f.log page clean word (Ok tt) old new → Simulates count (moment old) (changes old) (changes new) f (named_facts page f) AfterWrite
+  pub name_fails : (count page word : ℕ) (clean : Bool) (f : StoreFacts) (old new : D) → SeesDisk (gives old) (changes old).disk → IfSome (changes new).disk IsSized → MayEndCheckpoint f page
+      → (fault : Failed) → SendsNaming gives changes moment f.log page clean word (Err fault) old new → Simulates count (moment old) (changes old) (changes new) f (naming_facts page clean word f) AfterWrite
+  -- a sync: where a restart page was written it frees the ring up to the page that this names, and the checkpoint has ended; dead bodies leave as at each sync
+  pub sync : (count : ℕ) (f : StoreFacts) (old new : D) → IfSome (changes new).disk IsSized → SyncsNow changes moment (Ok tt) old new
+      → Simulates count (moment old) (changes old) (changes new) f (synced_facts f) (MovesTo (λ b. is_buried f.log.done (f.mark b)))
+
+-- The next step by what a store tells may be taken, where no transaction is open.
+abbrev pub NextStepsMayBeTaken : Type 0
+NextStepsMayBeTaken = (f : StoreFacts) (told : Facts) (step : StoreStep) → KeepsSteps f → FactsTold f told → f.is_open ≡ false → next_step told ≡ Some step → MayTakeStep f step

@@ -98,6 +98,7 @@ pub record StandsBehind (f : StoreFacts) (disk : Disk) (m : Store) : Type 0 wher
   pub stands : Stands (session_of f lap) f.log ring restarts pages fields disk
   pub holds : HoldsLog (session_of f lap) (numbers_of f ring pages restarts fields noted) m disk
   pub below : m.begun ≡ true → noted ≤ f.log.sealed
+  pub note : IfSome f.noted (λ n. n ≡ noted)
   pub same : m.disk ≡ disk_without (own_of f) disk
   pub sized : IsSized disk
   pub sound : IsSound geometry m

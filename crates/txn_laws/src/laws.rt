@@ -1,5 +1,12 @@
 ghost use Rattle.txn_laws.specs.Following.{WindowsFollow};
-ghost use Rattle.txn_laws.specs.Laws.{DeviceSteps, MemoryCalls, StoresStart, WindowsTell};
+ghost use Rattle.txn_laws.specs.Laws.{
+  CheckpointSteps,
+  DeviceSteps,
+  MemoryCalls,
+  NextStepsMayBeTaken,
+  StoresStart,
+  WindowsTell,
+};
 
 use sector_device::Device;
 
@@ -28,9 +35,22 @@ pub fn device_steps<D: Device>(_device: &D)
     ensures { DeviceSteps D.gives D.changes_of D.moment_of }
 {}
 
+/// Law: so does the end of a checkpoint: the restart page that names the noted page, whether its
+/// write answers `Ok` or fails, again with the same bytes too, and the sync behind it, which frees
+/// the ring up to that page.
+pub fn checkpoint_steps<D: Device>(_device: &D)
+    ensures { CheckpointSteps D.gives D.changes_of D.moment_of }
+{}
+
 /// Law: behind each call the contents that are left are those of before, or newer, on the blocks
 /// that were spared. So an image that was left since a moment recovers to a content no older than
 /// what was known durable then.
 pub fn windows_follow()
     ensures { WindowsFollow }
+{}
+
+/// Law: the next step by what a store tells of itself may be taken where no transaction is open: the
+/// laws of its calls ask for no more.
+pub fn next_steps_may_be_taken()
+    ensures { NextStepsMayBeTaken }
 {}

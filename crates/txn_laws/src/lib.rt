@@ -7,4 +7,7 @@
 
 mod laws;
 
-pub use laws::{device_steps, memory_calls, stores_start, windows_follow, windows_tell};
+pub use laws::{
+    checkpoint_steps, device_steps, memory_calls, next_steps_may_be_taken, stores_start,
+    windows_follow, windows_tell,
+};

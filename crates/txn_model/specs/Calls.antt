@@ -1,5 +1,5 @@
 -- What each call makes of what a store keeps.
-use Rattle.std.specs.Prelude.{ℕ, suc, ◌+◌, ◌-◌, ◌*◌, ◌/◌, ◌==◌, ◌&&◌, ◌||◌, not, nat_le, Bool, true, false, if◌then◌else◌, List, [], ◌∷◌, ◌++◌, map, replicate, slice_index, Option, Some, None, is_some, unwrap_or}
+use Rattle.std.specs.Prelude.{◌≡◌, ℕ, suc, ◌+◌, ◌-◌, ◌*◌, ◌/◌, ◌≤◌, ◌==◌, ◌&&◌, ◌||◌, not, nat_le, Bool, true, false, if◌then◌else◌, List, [], ◌∷◌, ◌++◌, map, replicate, slice_index, Option, Some, None, is_some, unwrap_or}
 use Rattle.std.specs.List.{list_any, range_with_len}
 use Rattle.std.specs.Option.{option_or}
 use Rattle.disk_model.specs.declared.block.Block.{Block}
@@ -11,7 +11,7 @@ use Rattle.disk_model.specs.Sectors.{same_block, are_rivals}
 use Rattle.log_model.specs.declared.entry.Act.{Act}
 use Rattle.log_model.specs.declared.entry.Act.TheVariants.{Commit}
 use Rattle.log_page.specs.declared.places.LogPlace.{LogPlace}
-use Rattle.log_area.specs.Areas.{LogAreaOf, ring_size, place_at, sealed_area, written_area, synced_area}
+use Rattle.log_area.specs.Areas.{LogAreaOf, ring_size, place_at, number_lsn, page_to_send, sealed_area, written_area, synced_area, named_area}
 use Rattle.txn_model.specs.declared.mark.Mark.{Mark}
 use Rattle.txn_model.specs.Values.{no_mark, StoreFacts, put_at, take_at}
 use Rattle.txn_model.specs.Pieces.{logged_acts, log_with, last_of, ends_with}
@@ -122,6 +122,25 @@ written_facts f = record f { log = written_area f.log }
 
 abbrev pub sent_facts : ℕ → StoreFacts → StoreFacts
 sent_facts check f = record f { log = record f.log { check = Some check } }
+
+-- the LSN of the front of a page, by which a restart page names it
+abbrev pub front_lsn : LogAreaOf → ℕ → ℕ
+front_lsn log page = number_lsn log page 0x40
+
+-- A checkpoint that noted this page may end by a restart page: nothing that it noted is still to be written out or synced, the pages before the noted one are durable, and no restart page was
+-- written since the last sync.
+pub record MayNameNoted (f : StoreFacts) (page : ℕ) : Type 0 where
+  pub noted : f.noted ≡ Some page
+  pub paid : (b : Block) → ((f.mark b).owed ≡ false) × ((f.mark b).due ≡ false)
+  pub durable : page ≤ f.log.synced
+  pub unnamed : f.log.named ≡ None
+
+-- a restart page was written that names this page, and one was sent in a write that failed
+abbrev pub named_facts : ℕ → StoreFacts → StoreFacts
+named_facts page f = record f { log = named_area (front_lsn f.log page) f.log }
+
+abbrev pub naming_facts : ℕ → Bool → ℕ → StoreFacts → StoreFacts
+naming_facts page clean check f = record f { log = record f.log { sent = Some (record { page = page_to_send f.log (front_lsn f.log page) clean; check = check }) } }
 
 -- A dead body leaves at a sync by which the pages before this one are durable, where they have the change that killed it.
 abbrev pub is_buried : ℕ → Mark → Bool

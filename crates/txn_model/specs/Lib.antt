@@ -1,3 +1,4 @@
 pub mod Values
 pub mod Pieces
 pub mod Calls
+pub mod Told

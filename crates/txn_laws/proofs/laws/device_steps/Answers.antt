@@ -13,7 +13,7 @@ returns g c = record {
   read = λ count f old new asked. by_read count _ _ _ f _ (λ w. record { same = refl }) asked.unchanged;
   page = λ count f word old new sees sized lt sent. page_goes_out _ _ _ count f word old new sees sized lt sent;
   page_fails = λ count f word old new sees sized lt fault sent. page_goes_badly _ _ _ count f word old new sees sized lt fault sent;
-  sync = λ count f old new sized unnamed syncs. is_synced g.D.Device.changes_of g.D.Device.moment_of count f old new sized unnamed syncs;
+  sync = λ count f old new sized unnamed syncs. is_synced g.D.Device.changes_of g.D.Device.moment_of count f old new sized syncs;
   sync_fails = λ count f old new fault syncs. sync_fails count _ fault _ _ f syncs;
   write_out = λ count begun check f b x old new kept ready spells small sized later sent. is_written_out _ _ _ count begun check f b x old new kept ready spells small sized later sent;
   write_out_fails = λ count begun check f b x old new kept ready spells sized later fault sent. is_not_written_out _ _ _ count begun check f b x old new kept ready spells sized later fault sent;
