@@ -131,6 +131,14 @@ impl LogArea {
         self.sealed - self.done
     }
 
+    /// The offset of the first free byte of the page that is filled, 0x40 where it has no entry.
+    pub fn free_at(&self) -> usize
+        ensures value { result ≡ self.now.free }
+        ensures small { result ≤ 4096 }
+    {
+        self.free
+    }
+
     /// The number of the page that is filled: so many pages were sealed.
     pub fn filled_page(&self) -> u64
         ensures value { result ≡ self.now.sealed }
