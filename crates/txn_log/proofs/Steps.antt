@@ -28,7 +28,7 @@ goes_on tx commits log0 last0 ends0 all log last ends acts log' last' ends' rest
       counted = counted;
       area = ap₂ (λ (a : LogAreaOf) (n : ℕ). log_with a tx n rest) log_is last_is ∙ sym (ap (λ (xs : List Act). log_with log tx last xs) first) ∙ before.area;
       told =
-        ap₂ (λ (a : LogAreaOf) (n : ℕ). ends_with a tx n commits ends' rest) log_is last_is ∙ ap (λ (l : List ℕ). ends_with (appended e log) tx e.lsn commits l rest) told
-        ∙ sym (ap (λ (xs : List Act). ends_with log tx last commits ends xs) first) ∙ before.told;
+          ap₂ (λ (a : LogAreaOf) (n : ℕ). ends_with a tx n commits ends' rest) log_is last_is ∙ ap (λ (l : List ℕ). ends_with (appended e log) tx e.lsn commits l rest) told
+          ∙ sym (ap (λ (xs : List Act). ends_with log tx last commits ends xs) first) ∙ before.told;
       answer = ap₂ (λ (a : LogAreaOf) (n : ℕ). last_of a tx n rest) log_is last_is ∙ sym (ap (λ (xs : List Act). last_of log tx last xs) first) ∙ before.answer;
     }
