@@ -1,4 +1,5 @@
 pub mod Values
 pub mod Pieces
+pub mod Appending
 pub mod Calls
 pub mod Told

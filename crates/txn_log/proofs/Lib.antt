@@ -1,0 +1,5 @@
+pub mod Counts
+pub mod Cuts
+pub mod Sharing
+pub mod Steps
+pub mod Told

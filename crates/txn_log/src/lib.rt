@@ -1,0 +1,17 @@
+//! The entries of a transaction: those that a change logs, which are appended to the ring of a log
+//! one behind the other, and the pages that changes will take.
+//!
+//! The contract: the entries are exactly those of the definitions, and the ring and the counts of
+//! commits by its places are what the definitions make of them. Memory is taken before the first
+//! entry is appended.
+#![tactic(auto)]
+
+mod acts;
+mod appending;
+mod counting;
+mod rivals;
+
+pub use acts::update_acts;
+pub use appending::{append_acts, append_commit};
+pub use counting::pages_for;
+pub use rivals::{rival, rival_count};
