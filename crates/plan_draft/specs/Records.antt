@@ -13,7 +13,7 @@ use Rattle.record_writer.specs.NormalLaws.{FitsByRoom}
 use Rattle.state_model.specs.declared.stream.Extents.{Extents}
 use Rattle.state_model.specs.Loads.{slot_by, used_record}
 use Rattle.state_model.specs.Streams.{block_at}
-use Rattle.plan_model.specs.Bodies.{NewBody}
+use Rattle.plan_bodies.specs.Bodies.{NewBody}
 use Rattle.plan_draft.specs.Touching.{put_in_order}
 
 -- ---- where they lie

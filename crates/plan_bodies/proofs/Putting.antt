@@ -14,7 +14,7 @@ use Rattle.disk_model.specs.Content.{Content, HasSizes}
 use Rattle.disk_model.specs.Laws.{IsElsewhere}
 use Rattle.disk_model.specs.Writes.{bytes_after, covers, is_covered, cover_all}
 use Rattle.disk_model.proofs.Frames.{length-bytes_after, bytes_elsewhere, overlay_elsewhere, same_block-is}
-use Rattle.plan_model.specs.Bodies.{NewBody, whole_write, writes_in, content_with, AreWhole, AreOfOwnBlocks, AreBodies, body_in, body_or, put_body, put_bodies}
+use Rattle.plan_bodies.specs.Bodies.{NewBody, whole_write, writes_in, content_with, AreWhole, AreOfOwnBlocks, AreBodies, body_in, body_or, put_body, put_bodies}
 
 has_sectors : (k : BlockKind) → 0 < sectors k
 has_sectors Plain = omega arith

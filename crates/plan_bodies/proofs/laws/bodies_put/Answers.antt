@@ -1,6 +1,6 @@
 use Rattle.std.proofs.Common.{◌≡◌, true}
-use Rattle.plan_model.proofs.Putting.{body_put, sized_with, contents_put, are_bodies, either, all_in_both}
-use Rattle.plan_model.proofs.laws.bodies_put.Goals as goal
+use Rattle.plan_bodies.proofs.Putting.{body_put, sized_with, contents_put, are_bodies, either, all_in_both}
+use Rattle.plan_bodies.proofs.laws.bodies_put.Goals as goal
 
 pub returns : goal.returns
 returns c = record {
