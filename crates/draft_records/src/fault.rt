@@ -20,7 +20,7 @@ pub enum DraftFault {
 }
 
 impl From<ViewFault> for DraftFault {
-    ghost use Rattle.plan_draft.specs.Faults.{of_view};
+    ghost use Rattle.draft_records.specs.Faults.{of_view};
 
     ghost from_gives = { λ e fault. fault ≡ of_view e };
 
@@ -33,7 +33,7 @@ impl From<ViewFault> for DraftFault {
 }
 
 impl From<RoomFault> for DraftFault {
-    ghost use Rattle.plan_draft.specs.Faults.{of_room};
+    ghost use Rattle.draft_records.specs.Faults.{of_room};
 
     ghost from_gives = { λ e fault. fault ≡ of_room e };
 
@@ -46,7 +46,7 @@ impl From<RoomFault> for DraftFault {
 }
 
 impl From<AllocError> for DraftFault {
-    ghost use Rattle.plan_draft.specs.declared.fault.DraftFault.TheVariants.{Memory as no_memory};
+    ghost use Rattle.draft_records.specs.declared.fault.DraftFault.TheVariants.{Memory as no_memory};
 
     ghost from_gives = { λ _ fault. fault ≡ no_memory };
 

@@ -7,7 +7,7 @@ ghost use Rattle.record_writer.specs.NormalLaws.{FitsByRoom};
 ghost use Rattle.record_writer.specs.Faults.{room_cause};
 ghost use Rattle.host_base.specs.Answers.{Gives};
 ghost use Rattle.state_model.specs.Loads.{slot_by, slot_in, used_record, is_used};
-ghost use Rattle.plan_draft.specs.Records.{name_count, with_links, with_normal, body_of_record};
+ghost use Rattle.draft_records.specs.Records.{name_count, with_links, with_normal, body_of_record};
 
 use disk_model::{Body, u16_at};
 use file_record::{FileRec, RecFault};

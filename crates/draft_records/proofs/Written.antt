@@ -10,11 +10,12 @@ use Rattle.record_model.specs.declared.attribute.OwnForm.{OwnForm}
 use Rattle.record_model.specs.declared.attribute.OwnForm.TheVariants.{Resident, Mapped}
 use Rattle.record_model.specs.Attributes.{spelling, held_bytes}
 use Rattle.record_model.specs.Records.{Record, used_of, spelled_bytes, record_spelling, FitsRecord}
+use Rattle.record_model.proofs.RecordSpelling.{length-record_spelling}
 use Rattle.record_writer.specs.Edits.{form_length}
 use Rattle.record_writer.specs.Normal.{normal, normal_record}
 use Rattle.record_writer.specs.NormalLaws.{FitsByRoom}
 use Rattle.record_writer.proofs.Measures.{length-spelling}
-use Rattle.plan_draft.specs.Records.{is_name, name_count, with_normal, written_record, written_bytes, fits_room, body_of_record}
+use Rattle.draft_records.specs.Records.{is_name, name_count, with_normal, written_record, written_bytes, fits_room, body_of_record}
 
 -- ---- how many attributes there are
 
@@ -91,4 +92,11 @@ pub room_not : (r : Record) (used : ℕ) → body_of_record r ≡ Err used → f
 room_not r used is = elim (cases_lt 1024 (written_bytes r)) [
   | inl over ↦ (let full = body_full r (written_bytes r) refl over in let same : Err (written_bytes r) ≡ Err used = sym full ∙ is in let equal : written_bytes r ≡ used = cc in room_full r used (sym equal) (omega (arith, over, equal)))
   | inr short ↦ (let whole = body_whole r short in let clash : Ok (record_spelling (written_record r)) ≡ Err used = sym whole ∙ is in absurd cc)
+]
+
+-- and it is as long as a record
+pub body_long : (r : Record) (bytes : List ℕ) → FitsByRoom r → body_of_record r ≡ Ok bytes → length bytes ≡ 1024
+body_long r bytes room is = elim (cases_lt 1024 (written_bytes r)) [
+  | inl over ↦ (let full = body_full r (written_bytes r) refl over in let clash : Err (written_bytes r) ≡ Ok bytes = sym full ∙ is in absurd cc)
+  | inr short ↦ (let parts = room_of r bytes is in ap length parts.1 ∙ length-record_spelling (written_record r) (fits_written r room short))
 ]

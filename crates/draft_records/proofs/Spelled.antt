@@ -11,7 +11,7 @@ use Rattle.record_model.specs.Attributes.{filled, FitsAttr, FitsForm}
 use Rattle.record_model.specs.Records.{Record, used_of, FitsRecord}
 use Rattle.record_writer.specs.Normal.{normal, normal_form, normal_record}
 use Rattle.record_writer.specs.NormalLaws.{FitsByRoom}
-use Rattle.plan_draft.specs.Records.{SpelledFitsByRoom}
+use Rattle.draft_records.specs.Records.{SpelledFitsByRoom}
 
 pairs_same : (pairs : List ℕ) → length pairs % 8 ≡ 0 → filled 0 pairs ≡ pairs
 unfolding filled zeros

@@ -3,9 +3,9 @@ use Rattle.std.specs.Prelude.{map}
 use Rattle.record_model.specs.declared.attribute.Attr.{Attr}
 use Rattle.record_model.specs.Records.{Record, used_of}
 use Rattle.record_writer.specs.Normal.{normal}
-use Rattle.plan_draft.specs.Records.{name_count}
-use Rattle.plan_draft.proofs.Written.{few_names}
-use Rattle.plan_draft.proofs.records.written_body.Goals as goal
+use Rattle.draft_records.specs.Records.{name_count}
+use Rattle.draft_records.proofs.Written.{few_names}
+use Rattle.draft_records.proofs.records.written_body.Goals as goal
 
 pub overflow_cast-links : goal.overflow_cast-links
 overflow_cast-links c =
