@@ -51,10 +51,10 @@ use Rattle.tree_laws.specs.Keeping.{PartReplaced}
 use Rattle.tree_laws.specs.Planned.{IsInRecord}
 use Rattle.plan_owners.specs.States.{Stands}
 use Rattle.plan_model.specs.Attributes.{RewritesValues}
-use Rattle.plan_model.specs.Bodies.{NewBody, AreBodies, AreWhole, AreOfOwnBlocks, body_in, body_or, content_with, whole_write}
+use Rattle.plan_bodies.specs.Bodies.{NewBody, AreBodies, AreWhole, AreOfOwnBlocks, body_in, body_or, content_with, whole_write}
 use Rattle.plan_model.specs.Edits.{IsOwnedIn, edited}
 use Rattle.plan_model.specs.Made.{MakesFile, HasMade, ReadsAs, made_streams, made_edits, is_info_or_root}
-use Rattle.plan_model.proofs.Putting.{body_put}
+use Rattle.plan_bodies.proofs.Putting.{body_put}
 use Rattle.plan_model.proofs.Making.{leads_to_made, has_made}
 use Rattle.format_plans.specs.Files.{title, title_link, titled, information, first_record, changed_root, node_with, bits_with, first_bodies}
 use Rattle.format_plans.specs.Laws.{TakesFirstFile, NewVolumeTakesFile, NewImageTakesFile}

@@ -18,7 +18,7 @@ use Rattle.volume_format.specs.Layouts.{record_bits_first, table_first, block_fi
 use Rattle.volume_format.specs.Files.{reference, resident, named, head_of, root_streams, system_attrs}
 use Rattle.volume_format.specs.Indexes.{in_order, entry_of}
 use Rattle.format_blocks.specs.Blocks.{block}
-use Rattle.plan_model.specs.Bodies.{NewBody}
+use Rattle.plan_bodies.specs.Bodies.{NewBody}
 
 -- ---- the file
 

@@ -11,7 +11,7 @@ use Rattle.format_blocks.specs.Blocks.{HasBlocks}
 use Rattle.format_blocks.specs.Regions.{CanFormat}
 use Rattle.format_files.specs.Volumes.{new_geometry, new_volume}
 use Rattle.plan_owners.specs.States.{Stands}
-use Rattle.plan_model.specs.Bodies.{content_with}
+use Rattle.plan_bodies.specs.Bodies.{content_with}
 use Rattle.plan_model.specs.Edits.{edited}
 use Rattle.plan_model.specs.Made.{MakesFile, HasMade, made_edits}
 use Rattle.format_plans.specs.Files.{title_link, first_record, changed_root, first_bodies}

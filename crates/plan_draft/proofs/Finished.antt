@@ -20,7 +20,7 @@ use Rattle.disk_model.specs.Sectors.{sectors, same_block}
 use Rattle.disk_model.specs.Writes.{bytes_after, covers, is_covered, cover_all}
 use Rattle.disk_model.proofs.Frames.{bytes_elsewhere, overlay_elsewhere, same_block-is}
 use Rattle.block_view.specs.Changes.{Fits, write_of, writes_of, content_after}
-use Rattle.plan_model.specs.Bodies.{body_or}
+use Rattle.plan_bodies.specs.Bodies.{body_or}
 use Rattle.plan_draft.specs.declared.touched.Touched.{Touched}
 use Rattle.plan_draft.specs.Touching.{block_key, keys_of, rises, touched_at, IsWhole, IsOldOf, old_body}
 use Rattle.plan_draft.specs.Drafts.{drafted}

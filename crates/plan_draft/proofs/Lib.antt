@@ -3,8 +3,5 @@ pub mod Touching
 pub mod Puts
 pub mod Ranges
 pub mod Finished
-pub mod Blocks
-pub mod Written
 pub mod Parts
-pub mod Spelled
 pub mod Same

@@ -8,7 +8,7 @@ use Rattle.disk_model.specs.Bodies.{BodyOf}
 use Rattle.disk_model.specs.Bytes.{zeros, written}
 use Rattle.disk_model.specs.Content.{Content, HasSizes}
 use Rattle.disk_model.specs.Sectors.{sectors}
-use Rattle.plan_model.specs.Bodies.{NewBody, body_in, content_with}
+use Rattle.plan_bodies.specs.Bodies.{NewBody, body_in, content_with}
 use Rattle.plan_draft.specs.declared.touched.Touched.{Touched}
 use Rattle.plan_draft.specs.Touching.{keys_of, rises, IsWhole, touched_at, bodies_of, put_in_order}
 use Rattle.plan_draft.specs.Drafts.{drafted}

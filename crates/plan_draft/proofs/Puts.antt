@@ -12,7 +12,7 @@ use Rattle.disk_model.specs.Bodies.{BodyOf}
 use Rattle.disk_model.specs.Content.{Content}
 use Rattle.disk_model.specs.Sectors.{sectors, same_block, same_kind}
 use Rattle.disk_model.proofs.Frames.{same_block-is}
-use Rattle.plan_model.specs.Bodies.{NewBody}
+use Rattle.plan_bodies.specs.Bodies.{NewBody}
 use Rattle.plan_draft.specs.declared.touched.Touched.{Touched}
 use Rattle.plan_draft.specs.Touching.{kind_place, block_key, keys_of, rises, place_in, touched_at, touch, touch_again, first_touch, again_at, put_in_order, bodies_of, IsWhole, IsOldOf, StandsAt, WouldStandAt}
 use Rattle.plan_draft.proofs.Placing.{rises_head, rises_tail, none_behind, other_block}

@@ -8,8 +8,8 @@ use Rattle.disk_model.specs.declared.block.Block.{Block}
 use Rattle.disk_model.specs.Content.{Content, HasSizes}
 use Rattle.disk_model.specs.Sectors.{same_block}
 use Rattle.disk_model.proofs.Frames.{same_block-is}
-use Rattle.plan_model.specs.Bodies.{NewBody, AreBodies, body_in, body_or, put_body, content_with}
-use Rattle.plan_model.proofs.Putting.{body_put, block_itself, same_through, same_to, either}
+use Rattle.plan_bodies.specs.Bodies.{NewBody, AreBodies, body_in, body_or, put_body, content_with}
+use Rattle.plan_bodies.proofs.Putting.{body_put, block_itself, same_through, same_to, either}
 use Rattle.plan_draft.specs.Touching.{block_key, put_in_order}
 use Rattle.plan_draft.specs.Same.{PutSame, BodiesInOrder}
 use Rattle.plan_draft.proofs.Touching.{are_bodies}

@@ -9,8 +9,8 @@ use Rattle.disk_model.specs.declared.block.Block.{Block}
 use Rattle.disk_model.specs.Bodies.{BodyOf}
 use Rattle.disk_model.specs.Content.{Content, HasSizes}
 use Rattle.disk_model.specs.Sectors.{sectors, same_block}
-use Rattle.plan_model.specs.Bodies.{NewBody, AreWhole, AreOfOwnBlocks, AreBodies, body_in, body_or, content_with}
-use Rattle.plan_model.proofs.Putting.{body_put}
+use Rattle.plan_bodies.specs.Bodies.{NewBody, AreWhole, AreOfOwnBlocks, AreBodies, body_in, body_or, content_with}
+use Rattle.plan_bodies.proofs.Putting.{body_put}
 use Rattle.plan_draft.specs.declared.touched.Touched.{Touched}
 use Rattle.plan_draft.specs.Touching.{block_key, keys_of, rises, touched_at, bodies_of, IsWhole}
 use Rattle.plan_draft.specs.Drafts.{drafted}

@@ -1,28 +1,9 @@
 -- Where an error of a call of a draft comes from.
-use Rattle.std.specs.Prelude.{ℕ}
-use Rattle.host_base.specs.Answers.{Cause, refused, no_memory, failed}
+use Rattle.host_base.specs.Answers.{Cause, no_memory, failed}
 use Rattle.block_view.specs.declared.fault.ViewFault.{ViewFault}
 use Rattle.block_view.specs.declared.fault.ViewFault.TheVariants as view
-use Rattle.record_writer.specs.declared.fault.RoomFault.{RoomFault}
-use Rattle.record_writer.specs.declared.fault.RoomFault.TheVariants as room
-use Rattle.plan_draft.specs.declared.fault.DraftFault.{DraftFault}
-use Rattle.plan_draft.specs.declared.fault.DraftFault.TheVariants.{Full, Fault, Memory}
 
 -- a call that refuses nothing
 abbrev pub fault_cause : ViewFault → Cause (Unit {0})
 fault_cause view.Fault = failed
 fault_cause view.Memory = no_memory
-
--- a refusal is the bytes that a record would use
-abbrev pub draft_cause : DraftFault → Cause ℕ
-draft_cause (Full used) = refused used
-draft_cause Fault = failed
-draft_cause Memory = no_memory
-
-abbrev pub of_view : ViewFault → DraftFault
-of_view view.Fault = Fault
-of_view view.Memory = Memory
-
-abbrev pub of_room : RoomFault → DraftFault
-of_room (room.Full used) = Full used
-of_room room.Memory = Memory

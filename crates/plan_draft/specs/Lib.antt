@@ -3,6 +3,5 @@ pub mod Drafts
 pub mod Sizes
 pub mod Faults
 pub mod Finishing
-pub mod Records
 pub mod Writing
 pub mod Same

@@ -2,7 +2,7 @@
 use Rattle.std.specs.Prelude.{◌≡◌, true, All, List}
 use Rattle.disk_model.specs.declared.block.Block.{Block}
 use Rattle.disk_model.specs.Content.{Content, HasSizes}
-use Rattle.plan_model.specs.Bodies.{NewBody, AreBodies, body_in, put_body, content_with}
+use Rattle.plan_bodies.specs.Bodies.{NewBody, AreBodies, body_in, put_body, content_with}
 use Rattle.plan_draft.specs.declared.touched.Touched.{Touched}
 use Rattle.plan_draft.specs.Touching.{bodies_of, put_in_order, rises, keys_of, IsWhole}
 

@@ -4,7 +4,7 @@ use Rattle.std.specs.Option.{option_map}
 use Rattle.std.proofs.Common.{◌∙◌}
 use Rattle.disk_model.specs.Content.{Content, HasSizes}
 use Rattle.disk_model.proofs.Frames.{length-bytes_after}
-use Rattle.plan_model.specs.Bodies.{writes_in}
+use Rattle.plan_bodies.specs.Bodies.{writes_in}
 use Rattle.plan_draft.specs.declared.touched.Touched.{Touched}
 use Rattle.plan_draft.specs.Touching.{bodies_of}
 use Rattle.plan_draft.specs.Drafts.{drafted}

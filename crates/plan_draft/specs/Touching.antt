@@ -6,7 +6,7 @@ use Rattle.disk_model.specs.declared.block.BlockKind.TheVariants.{Plain, FileRec
 use Rattle.disk_model.specs.Bodies.{BodyOf}
 use Rattle.disk_model.specs.Content.{Content}
 use Rattle.disk_model.specs.Sectors.{sectors, same_block}
-use Rattle.plan_model.specs.Bodies.{NewBody}
+use Rattle.plan_bodies.specs.Bodies.{NewBody}
 use Rattle.plan_draft.specs.declared.touched.Touched.{Touched}
 
 -- ---- the order of blocks

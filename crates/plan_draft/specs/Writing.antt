@@ -4,7 +4,7 @@ use Rattle.disk_model.specs.declared.block.Block.{Block}
 use Rattle.disk_model.specs.Bytes.{written, zeros}
 use Rattle.disk_model.specs.Content.{Content}
 use Rattle.disk_model.specs.Sectors.{sectors}
-use Rattle.plan_model.specs.Bodies.{NewBody, content_with, body_in}
+use Rattle.plan_bodies.specs.Bodies.{NewBody, content_with, body_in}
 use Rattle.plan_draft.specs.Touching.{put_in_order}
 
 abbrev pub zeros_or : Block → Option (List ℕ) → List ℕ

@@ -19,9 +19,9 @@ use Rattle.plan_owners.specs.States.{Stands}
 use Rattle.plan_owners.specs.Kinds.{cluster_of, OwnsAs}
 use Rattle.plan_owners.proofs.ByKind.{in_grid, owned_as, one_kind, marked_if_used, marked, one_cluster, two_kinds}
 use Rattle.plan_owners.proofs.Outside.{once}
-use Rattle.plan_model.specs.Bodies.{NewBody, content_with, body_in, put_bodies}
+use Rattle.plan_bodies.specs.Bodies.{NewBody, content_with, body_in, put_bodies}
 use Rattle.plan_model.specs.Drafts.{FollowsOwners, MayChange, IsPut, DraftIn, GoesOn, gives_none}
-use Rattle.plan_model.proofs.Putting.{body_put, contents_put, are_bodies, either, all_in_both}
+use Rattle.plan_bodies.proofs.Putting.{body_put, contents_put, are_bodies, either, all_in_both}
 
 -- ---- a plan begins
 

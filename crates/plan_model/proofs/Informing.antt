@@ -64,11 +64,11 @@ use Rattle.tree_laws.proofs.Ruling.{same_listed, same_name_in, same_count, keeps
 use Rattle.plan_owners.specs.States.{Stands}
 use Rattle.plan_owners.proofs.Standing.{some_file, as_file, rule_4_at}
 use Rattle.plan_model.specs.Attributes.{RewritesValues, SparesAll}
-use Rattle.plan_model.specs.Bodies.{NewBody, content_with, writes_in, AreBodies, body_in}
+use Rattle.plan_bodies.specs.Bodies.{NewBody, content_with, writes_in, AreBodies, body_in}
 use Rattle.plan_model.specs.Edits.{WritesFiles, LeadsTo}
 use Rattle.plan_model.specs.Informed.{is_info, IsApart, PutsRecord, with_record, with_info, InfoDiffers}
 use Rattle.plan_model.proofs.OneRecord.{OnlySmall, small_data, small_pieces, small_blocks, small_names, small_1, small_4, sizes_from, OwnRecord, own_record, slot_begins, slot_put, uncut, small_alone, small_base, file_slot, void_elsewhere, small_some}
-use Rattle.plan_model.proofs.Putting.{block_itself}
+use Rattle.plan_bodies.proofs.Putting.{block_itself}
 use Rattle.plan_model.proofs.Rewriting.{same_runs, same_initialised, same_uses, same_directory, same_root}
 use Rattle.plan_model.proofs.Stepping.{written_within, files_edited, tree_nodes}
 

@@ -1,6 +1,5 @@
 pub mod Stepping
 pub mod Rewriting
-pub mod Putting
 pub mod OneRecord
 pub mod Informing
 pub mod Drafting

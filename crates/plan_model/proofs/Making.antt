@@ -75,13 +75,13 @@ use Rattle.plan_owners.specs.Kinds.{OwnsAs}
 use Rattle.plan_owners.specs.States.{Stands}
 use Rattle.plan_owners.proofs.Agreed.{table_begins}
 use Rattle.plan_owners.proofs.Standing.{file_parts, listed_file, some_file, as_file, rule_4_at}
-use Rattle.plan_model.specs.Bodies.{NewBody, whole_write, writes_in, content_with}
+use Rattle.plan_bodies.specs.Bodies.{NewBody, whole_write, writes_in, content_with}
 use Rattle.plan_model.specs.Edits.{IsOwnedIn, WritesFiles, edited, LeadsTo}
 use Rattle.plan_model.specs.Informed.{with_info}
 use Rattle.plan_model.specs.Made.{is_info_or_root, made_streams, made_edits, MakesFile, HasMade}
 use Rattle.plan_model.proofs.Informing.{slot_in_use, marked_in_use, implied}
 use Rattle.plan_model.proofs.OneRecord.{OnlySmall, small_data, small_pieces, small_names, small_1, small_4, sizes_from, OwnRecord, own_record, slot_put, uncut, small_alone, small_base, file_slot, small_some}
-use Rattle.plan_model.proofs.Putting.{none_elsewhere}
+use Rattle.plan_bodies.proofs.Putting.{none_elsewhere}
 use Rattle.plan_model.proofs.Rewriting.{same_runs, same_initialised, same_uses, same_directory}
 use Rattle.plan_model.proofs.Stepping.{written_within, files_edited, tree_nodes}
 

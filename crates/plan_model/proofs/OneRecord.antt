@@ -36,9 +36,9 @@ use Rattle.stream_laws.proofs.Tabling.{no_list_stream}
 use Rattle.plan_owners.specs.States.{Stands}
 use Rattle.plan_owners.proofs.Standing.{slots, loaded_files, joined_at, FileParts, file_parts, some_file}
 use Rattle.plan_model.specs.Attributes.{RewritesValues, SparesAll}
-use Rattle.plan_model.specs.Bodies.{NewBody, content_with, AreBodies, body_in, body_or}
+use Rattle.plan_bodies.specs.Bodies.{NewBody, content_with, AreBodies, body_in, body_or}
 use Rattle.plan_model.specs.Informed.{with_info}
-use Rattle.plan_model.proofs.Putting.{body_put}
+use Rattle.plan_bodies.proofs.Putting.{body_put}
 use Rattle.plan_model.proofs.Rewriting.{same_types, same_directory, same_sizes, same_attributes, same_stream, same_links, same_names}
 
 -- ---- what is written anew

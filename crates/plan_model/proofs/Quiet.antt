@@ -1,6 +1,6 @@
 -- A node's times changed, as an edit of a plan.
 use Rattle.plan_model.specs.Drafts.{KeepsExtents, GoesOn, gives_runs}
-use Rattle.plan_model.specs.Bodies.{NewBody, content_with, AreBodies}
+use Rattle.plan_bodies.specs.Bodies.{NewBody, content_with, AreBodies}
 use Rattle.disk_model.specs.Content.{Content}
 use Rattle.std.specs.List.{AllByRecursion}
 use Rattle.std.proofs.lemmas.Bool.{cases_lt, le-leb, lt-leb}

@@ -18,7 +18,7 @@ use Rattle.record_model.specs.declared.runs.Run.{Run}
 use Rattle.plan_owners.specs.States.{Stands}
 use Rattle.plan_owners.specs.Kinds.{cluster_of, OwnsAs}
 use Rattle.plan_model.specs.Attributes.{RewritesValues}
-use Rattle.plan_model.specs.Bodies.{NewBody, content_with, AreBodies, body_in, put_bodies}
+use Rattle.plan_bodies.specs.Bodies.{NewBody, content_with, AreBodies, body_in, put_bodies}
 use Rattle.plan_model.specs.Informed.{is_info, IsApart, PutsRecord, with_record}
 
 -- the bits follow the owners: they become clear for clusters that are owned no more, and set for those that are owned now, which were

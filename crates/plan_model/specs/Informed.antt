@@ -18,7 +18,7 @@ use Rattle.volume_model.specs.Volumes.{Volume, file_in, table_file, bitmap_file,
 use Rattle.volume_state.specs.Trees.{tree_of}
 use Rattle.plan_owners.specs.States.{Stands}
 use Rattle.plan_model.specs.Attributes.{RewritesValues}
-use Rattle.plan_model.specs.Bodies.{NewBody, content_with}
+use Rattle.plan_bodies.specs.Bodies.{NewBody, content_with}
 use Rattle.plan_model.specs.Edits.{edited}
 
 -- standard information

@@ -1,6 +1,5 @@
 pub mod Edits
 pub mod Attributes
-pub mod Bodies
 pub mod Informed
 pub mod Drafts
 pub mod Made

@@ -32,7 +32,7 @@ use Rattle.tree_laws.specs.Keeping.{PartReplaced}
 use Rattle.tree_laws.specs.Planned.{IsInRecord}
 use Rattle.plan_owners.specs.States.{Stands}
 use Rattle.plan_model.specs.Attributes.{RewritesValues}
-use Rattle.plan_model.specs.Bodies.{NewBody, whole_write, content_with, AreBodies, body_in}
+use Rattle.plan_bodies.specs.Bodies.{NewBody, whole_write, content_with, AreBodies, body_in}
 use Rattle.plan_model.specs.Drafts.{GoesOn}
 use Rattle.plan_model.specs.Edits.{IsOwnedIn, edited}
 use Rattle.plan_model.specs.Informed.{IsApart, with_info}

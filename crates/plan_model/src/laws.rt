@@ -1,5 +1,4 @@
 ghost use Rattle.plan_model.specs.PlannedIndexes.{IndexesOfPlans};
-ghost use Rattle.plan_model.specs.Bodies.{BodiesPut};
 ghost use Rattle.plan_model.specs.Drafts.{DraftsGoOn, RunsGiven};
 ghost use Rattle.plan_model.specs.Edits.{FilesEdited};
 ghost use Rattle.plan_model.specs.Parts.{AttrsReplaced, PiecesJoined};
@@ -19,12 +18,6 @@ pub fn files_edited()
 /// all that its other attributes say stay.
 pub fn values_rewritten()
     ensures { ValuesRewritten }
-{}
-
-/// Law: whole bodies over one content, each of its own block, stand in their blocks; more of them are
-/// put into the one list.
-pub fn bodies_put()
-    ensures { BodiesPut }
 {}
 
 /// Law: where a file's record is put whole with other standard information, a state becomes one of a

@@ -7,6 +7,6 @@
 mod laws;
 
 pub use laws::{
-    attrs_replaced, bodies_put, drafts_go_on, file_is_made, files_edited, index_walked,
-    indexes_of_plans, pieces_joined, runs_given, table_edited, times_changed, values_rewritten,
+    attrs_replaced, drafts_go_on, file_is_made, files_edited, index_walked, indexes_of_plans,
+    pieces_joined, runs_given, table_edited, times_changed, values_rewritten,
 };

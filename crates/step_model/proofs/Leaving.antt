@@ -17,8 +17,8 @@ use Rattle.stream_laws.specs.Owners.{stream_kind}
 use Rattle.stream_laws.specs.Sharing.{StreamKey, stream_at, runs_in}
 use Rattle.plan_owners.specs.States.{Stands}
 use Rattle.plan_owners.proofs.ByKind.{marked}
-use Rattle.plan_model.specs.Bodies.{NewBody, content_with, AreBodies, body_in, body_or}
-use Rattle.plan_model.proofs.Putting.{body_put}
+use Rattle.plan_bodies.specs.Bodies.{NewBody, content_with, AreBodies, body_in, body_or}
+use Rattle.plan_bodies.proofs.Putting.{body_put}
 use Rattle.step_model.specs.Placing.{Growth}
 use Rattle.step_model.specs.Contents.{MayDiffer, IsLeft}
 use Rattle.step_model.specs.ContentLaws.{ContentsLeft}

@@ -9,7 +9,7 @@ use Rattle.volume_model.specs.Volumes.{Volume}
 use Rattle.volume_model.specs.Owners.{uses}
 use Rattle.stream_laws.specs.Sharing.{StreamKey, stream_at, runs_in}
 use Rattle.plan_owners.specs.States.{Stands}
-use Rattle.plan_model.specs.Bodies.{NewBody, content_with, AreBodies}
+use Rattle.plan_bodies.specs.Bodies.{NewBody, content_with, AreBodies}
 use Rattle.step_model.specs.Placing.{Growth}
 use Rattle.step_model.specs.Contents.{MayDiffer, IsLeft}
 

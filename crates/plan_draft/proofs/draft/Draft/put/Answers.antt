@@ -3,7 +3,7 @@ use Rattle.std.specs.Prelude.{All}
 use Rattle.disk_model.specs.Bodies.{BodyOf}
 use Rattle.disk_model.specs.Content.{Content}
 use Rattle.disk_model.specs.Sectors.{sectors}
-use Rattle.plan_model.specs.Bodies.{NewBody}
+use Rattle.plan_bodies.specs.Bodies.{NewBody}
 use Rattle.plan_draft.specs.declared.touched.Touched.{Touched}
 use Rattle.plan_draft.specs.Touching.{keys_of, rises, IsWhole, IsOldOf, touch, again_at, bodies_of, put_in_order, StandsAt}
 use Rattle.plan_draft.proofs.Touching.{for_all}

@@ -1,0 +1,4 @@
+pub mod Written
+pub mod Spelled
+pub mod TableReads
+pub mod Steps

@@ -1,0 +1,6 @@
+use Rattle.disk_model.specs.declared.block.BlockKind.TheVariants.{FileRec}
+use Rattle.stream_map.proofs.Reading.{kind-block_at}
+use Rattle.draft_records.proofs.reading.file.Goals as goal
+
+pub read_in-requires : goal.read_in-requires
+read_in-requires g c = kind-block_at c.args.per _ FileRec _ c.in-Some.block c.in-Some.ensures

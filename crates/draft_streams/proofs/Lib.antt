@@ -1,0 +1,2 @@
+pub mod Effecting
+pub mod Steps
