@@ -3,3 +3,4 @@ pub mod Standing
 pub mod Windows
 pub mod Following
 pub mod Laws
+pub mod Mounting

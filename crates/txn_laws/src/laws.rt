@@ -1,4 +1,5 @@
 ghost use Rattle.txn_laws.specs.Following.{WindowsFollow};
+ghost use Rattle.txn_laws.specs.Mounting.{MountsGoOn};
 ghost use Rattle.txn_laws.specs.Laws.{
   CheckpointSteps,
   DeviceSteps,
@@ -53,4 +54,11 @@ pub fn windows_follow()
 /// laws of its calls ask for no more.
 pub fn next_steps_may_be_taken()
     ensures { NextStepsMayBeTaken }
+{}
+
+/// Law: recovery of a device by the entries of its log leaves, write by write, images that recover to
+/// the same content by the same entries, on known blocks that these don't shadow; and once all is
+/// written and synced, that content stands there.
+pub fn mounts_go_on()
+    ensures { MountsGoOn }
 {}
