@@ -33,7 +33,7 @@ use Rattle.store_model.proofs.Recovery.{Keeps, keeps-step, one_claimed}
 use Rattle.store_model.proofs.Writes.{words_agree_law}
 use Rattle.store_model.proofs.Devices.{torn_is, put_is, spells_body, settled_bears}
 use Rattle.ring_laws.specs.StoreDisks.{disk_without, sectors_without}
-use Rattle.ring_laws.proofs.SeenDisks.{without_left, without_recovered, without_whole, without_bears, without_synced, without_failed}
+use Rattle.ring_laws.proofs.SeenDisks.{without_left, without_content, without_seen, without_recovered, without_whole, without_bears, without_synced, without_failed}
 use Rattle.txn_laws.specs.Mounting.{StandsAt, IsMounting, MayPutBack, MountsGoOn, put_back}
 use Rattle.txn_laws.proofs.Changes.{seen_whole}
 use Rattle.txn_laws.proofs.Syncs.{and_left, and_right}
@@ -136,6 +136,10 @@ module _ (own : ℕ → Bool) (list : List Entry) (disk : Disk) (level : All IsL
     stands = stands_first;
   }
 
+-- known blocks are the same without the own sectors
+seen_without : (own : ℕ → Bool) (disk : Disk) (b : Block) → is_known own b ≡ true → content_of (seen (disk_without own disk)) b ≡ content_of (seen disk) b
+seen_without own disk b known = ap (λ (at : SectorBytes). content_of at b) (without_seen own disk) ∙ without_content own (seen disk) b known
+
 -- ---- and goes on
 
 module _ (own : ℕ → Bool) (list : List Entry) (content : Content) (left : Block → Bool) (disk : Disk) (h : IsMounting own list content left disk) where
@@ -154,11 +158,29 @@ module _ (own : ℕ → Bool) (list : List Entry) (content : Content) (left : Bl
       (recovered_bytes own h.geometry h.volume list (sectors_without own at) b (bytes_in content) torn_in h.level (without_whole own at whole) (h.begins (sectors_without own at) (without_left own disk at can) b (claimed_is list b claimed)) known claimed) in
       record { bytes = x.bytes ∙ numbered content b (h.sized b known); torn = x.torn }
 
-  pub stands_ended : ((b : Block) → is_known own b ≡ true → left b ≡ false) → IsSettled disk → (at : SectorBytes) → CanLeave disk at → (b : Block) → is_known own b ≡ true → is_shadowed list b ≡ false → StandsAt content at b
+  pub stands_ended : ((b : Block) → is_known own b ≡ true → left b ≡ false) → IsSettled (disk_without own disk) → (at : SectorBytes) → CanLeave disk at → (b : Block) → is_known own b ≡ true → is_shadowed list b ≡ false → StandsAt content at b
   stands_ended none still at can b known claimed =
-      let x = settled_bears own disk still at b can known in
+      let x = settled_bears own (disk_without own disk) still (sectors_without own at) b (without_left own disk at can) known in
+      let here : content_of (sectors_without own at) b ≡ content_of at b = without_content own at b known in
+      let there : content_of (seen (disk_without own disk)) b ≡ content_of (seen disk) b = seen_without own disk b known in
       let y = h.stands b known claimed (none b known) in
-      record { bytes = x.0 ∙ y.bytes; torn = λ torn. y.torn (x.1 torn) }
+      record {
+        bytes = ap (λ (body : Body). body.bytes) (sym here) ∙ x.0 ∙ ap (λ (body : Body). body.bytes) there ∙ y.bytes;
+        torn = λ torn. y.torn (ap (λ (body : Body). body.torn) (sym there) ∙ x.1 (ap (λ (body : Body). body.torn) here ∙ torn));
+      }
+
+  pub mounting_elsewhere : (now : Disk) → disk_without own now ≡ disk_without own disk → IsMounting own list content left now
+  mounting_elsewhere now same = record {
+    geometry = h.geometry;
+    volume = h.volume;
+    level = h.level;
+    sized = h.sized;
+    begins = subst (λ (d : Disk). (at : SectorBytes) → CanLeave d at → (b : Block) → IsClaimed list b → Restores h.geometry list at b (bytes_in content) torn_in) (sym same) h.begins;
+    stands = λ b known claimed none.
+        (let y = h.stands b known claimed none in
+        let is : content_of (seen now) b ≡ content_of (seen disk) b = sym (seen_without own now b known) ∙ ap (λ (d : Disk). content_of (seen d) b) same ∙ seen_without own disk b known in
+        record { bytes = ap (λ (body : Body). body.bytes) is ∙ y.bytes; torn = λ torn. y.torn (sym (ap (λ (body : Body). body.torn) is) ∙ torn) });
+  }
 
   pub mounting_synced : IsMounting own list content left (settled disk)
   mounting_synced = record {
@@ -294,6 +316,7 @@ mounts_go_on_law = record {
   written = λ own list content left disk b check h may small sized. mounting_written own list content left disk h b may check small sized;
   failed = λ own list content left disk now b check h may small between. mounting_failed own list content left disk h b may check small now between;
   synced = mounting_synced;
+  elsewhere = λ own list content left disk now h same. mounting_elsewhere own list content left disk h now same;
   recovers = λ own list content left disk at h can whole. recovers_now own list content left disk h at can whole;
   ended = λ own list content left disk at h none still can. stands_ended own list content left disk h none still at can;
 }

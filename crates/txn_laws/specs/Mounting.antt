@@ -57,6 +57,8 @@ pub record MountsGoOn : Type 0 where
   pub synced : (own : ℕ → Bool) (list : List Entry) (content : Content) (left : Block → Bool) (disk : Disk) → IsMounting own list content left disk → IsMounting own list content left (settled disk)
   -- at each moment, and so after recoveries that were stopped, whatever a crash leaves recovers by the list to the same content
   pub recovers : (own : ℕ → Bool) (list : List Entry) (content : Content) (left : Block → Bool) (disk : Disk) (at : SectorBytes) → IsMounting own list content left disk → CanLeave disk at → AreWhole at → RecoversToContent own list at content
-  -- once nothing is left and all is durable the content stands there, so that an empty list may be named
-  pub ended : (own : ℕ → Bool) (list : List Entry) (content : Content) (left : Block → Bool) (disk : Disk) (at : SectorBytes) → IsMounting own list content left disk → ((b : Block) → is_known own b ≡ true → left b ≡ false) → IsSettled disk
-      → CanLeave disk at → (b : Block) → is_known own b ≡ true → is_shadowed list b ≡ false → StandsAt content at b
+  -- what is done with the log's own sectors
+  pub elsewhere : (own : ℕ → Bool) (list : List Entry) (content : Content) (left : Block → Bool) (disk now : Disk) → IsMounting own list content left disk → disk_without own now ≡ disk_without own disk → IsMounting own list content left now
+  -- once nothing is left and all is durable the content stands there, so that an empty list may be named; and it stands while that is written
+  pub ended : (own : ℕ → Bool) (list : List Entry) (content : Content) (left : Block → Bool) (disk : Disk) (at : SectorBytes) → IsMounting own list content left disk → ((b : Block) → is_known own b ≡ true → left b ≡ false)
+      → IsSettled (disk_without own disk) → CanLeave disk at → (b : Block) → is_known own b ≡ true → is_shadowed list b ≡ false → StandsAt content at b
