@@ -1,5 +1,5 @@
 -- A recovery of a device by the entries of its log goes on.
-use Rattle.std.proofs.Common.{◌≡◌, ◌≢◌, ◌⊎◌, ℕ, ◌+◌, ◌-◌, ◌*◌, ◌/◌, ◌^◌, ◌<◌, ◌≤◌, Bool, true, false, cond, List, [], ◌∷◌, length, Option, Some, None, refl, sym, ap, ap₂, ◌∙◌, subst, inl, inr, arith}
+use Rattle.std.proofs.Common.{◌≡◌, ℕ, ◌*◌, ◌^◌, ◌<◌, Bool, true, false, List, [], ◌∷◌, length, Option, None, refl, sym, ap, ap₂, ◌∙◌, subst, inl, inr, arith}
 use Rattle.std.specs.Prelude.{◌&&◌, ◌||◌, not, All, nat_eq, slice_index, unwrap_or}
 use Rattle.std.specs.Cmp.Lexicographic.{pointwise}
 use Rattle.std.proofs.lemmas.Bool.{cases_Bool, eqb-true}
@@ -12,19 +12,19 @@ use Rattle.disk_model.specs.Content.{Content, content_of}
 use Rattle.disk_model.specs.declared.block.Body.{Body}
 use Rattle.disk_model.proofs.Frames.{same_block-is}
 use Rattle.fixup_record.specs.Spellings.{has_spelling, spelled}
-use Rattle.sector_device.specs.Disks.{Disk, IsBetween, IsSettled, IsSized, is_within, newest, put, seen, settled}
+use Rattle.sector_device.specs.Disks.{Disk, IsBetween, IsSettled, IsSized, is_within, newest, seen, settled}
 use Rattle.sector_device.specs.Sectors.{sectors_of}
 use Rattle.sector_device.specs.WholeSectors.{length-sectors_of}
 use Rattle.log_model.specs.declared.entry.Entry.{Entry}
-use Rattle.log_model.specs.Logs.{IsLevel, is_ended, is_shadowed, is_covered_whole, is_other, is_written_out, recovered, told, first_undo}
+use Rattle.log_model.specs.Logs.{IsLevel, is_ended, is_shadowed, is_covered_whole, is_other, is_written_out, recovered, told}
 use Rattle.log_model.proofs.Recovering.{recovered_at, length-recovered, torn_after}
 use Rattle.log_model.proofs.Telling.{silent, silent_rest}
 use Rattle.store_model.specs.Logs.{IsClaimed, has_update}
-use Rattle.store_model.specs.Geometry.{SectorBytes, Geometry, CanLeave, Puts}
+use Rattle.store_model.specs.Geometry.{SectorBytes, Geometry, CanLeave}
 use Rattle.store_model.specs.Stores.{Restores, Window}
-use Rattle.store_model.specs.Recovery.{Recovering, IsWhole, MayRestore, Recovers, recovering}
+use Rattle.store_model.specs.Recovery.{Recovering, IsWhole, MayRestore, recovering}
 use Rattle.store_model.specs.Recovery.Recovers.{restore, settle}
-use Rattle.store_model.specs.Volumes.{is_known, first_bytes, sectors_from, bytes_in, AreWhole, IsVolume, RecoversToContent, BearsContent}
+use Rattle.store_model.specs.Volumes.{is_known, first_bytes, sectors_from, bytes_in, AreWhole, RecoversToContent, BearsContent}
 use Rattle.store_model.proofs.Told.{true≢false, rivals_both}
 use Rattle.store_model.proofs.Lost.{none_covered}
 use Rattle.store_model.proofs.Known.{within_is, is_in, own_content}
