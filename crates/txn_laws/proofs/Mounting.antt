@@ -1,6 +1,6 @@
 -- A recovery of a device by the entries of its log goes on.
-use Rattle.std.proofs.Common.{◌≡◌, ℕ, ◌*◌, ◌^◌, ◌<◌, Bool, true, false, List, [], ◌∷◌, length, Option, None, refl, sym, ap, ap₂, ◌∙◌, subst, inl, inr, arith}
-use Rattle.std.specs.Prelude.{◌&&◌, ◌||◌, not, All, nat_eq, slice_index, unwrap_or}
+use Rattle.std.proofs.Common.{◌≡◌, ℕ, ◌*◌, ◌^◌, ◌<◌, Bool, true, false, List, [], ◌∷◌, length, Option, None, refl, sym, ap, ap₂, ◌∙◌, subst, inl, inr, arith, ◌⊎◌, ◌+◌, ◌-◌, ◌≤◌}
+use Rattle.std.specs.Prelude.{Contains, ◌&&◌, ◌||◌, not, All, nat_eq, slice_index, unwrap_or}
 use Rattle.std.specs.Cmp.Lexicographic.{pointwise}
 use Rattle.std.proofs.lemmas.Bool.{cases_Bool, eqb-true}
 use Rattle.std.proofs.lemmas.List.{ext_get_or}
@@ -10,9 +10,9 @@ use Rattle.disk_model.specs.declared.block.BlockKind.TheVariants.{Plain, FileRec
 use Rattle.disk_model.specs.Sectors.{sectors, same_block, are_rivals}
 use Rattle.disk_model.specs.Content.{Content, content_of}
 use Rattle.disk_model.specs.declared.block.Body.{Body}
-use Rattle.disk_model.proofs.Frames.{same_block-is}
+use Rattle.disk_model.proofs.Frames.{same_block-is, raw_frame}
 use Rattle.fixup_record.specs.Spellings.{has_spelling, spelled}
-use Rattle.sector_device.specs.Disks.{Disk, IsBetween, IsSettled, IsSized, is_within, newest, seen, settled}
+use Rattle.sector_device.specs.Disks.{Disk, IsBetween, IsSettled, IsSized, is_within, newest, seen, settled, put}
 use Rattle.sector_device.specs.Sectors.{sectors_of}
 use Rattle.sector_device.specs.WholeSectors.{length-sectors_of}
 use Rattle.log_model.specs.declared.entry.Entry.{Entry}
@@ -33,9 +33,14 @@ use Rattle.store_model.proofs.Recovery.{Keeps, keeps-step, one_claimed}
 use Rattle.store_model.proofs.Writes.{words_agree_law}
 use Rattle.store_model.proofs.Devices.{torn_is, put_is, spells_body, settled_bears}
 use Rattle.ring_laws.specs.StoreDisks.{disk_without, sectors_without}
-use Rattle.ring_laws.proofs.SeenDisks.{without_left, without_content, without_seen, without_recovered, without_whole, without_bears, without_synced, without_failed}
+use Rattle.ring_laws.specs.PageBytes.{page_sector, raw_page, IsStill, AreAlike}
+use Rattle.ring_laws.proofs.LogSectors.{kept_elsewhere}
+use Rattle.ring_laws.proofs.SeenDisks.{not_own, without_left, without_content, without_seen, without_recovered, without_whole, without_bears, without_synced, without_failed}
 use Rattle.txn_laws.specs.Mounting.{StandsAt, IsMounting, MayPutBack, MountsGoOn, put_back}
+use Rattle.txn_model.specs.Values.{is_own}
+use Rattle.log_page.specs.declared.places.LogPlace.{LogPlace}
 use Rattle.txn_laws.proofs.Changes.{seen_whole}
+use Rattle.txn_laws.proofs.PageWrites.{page_is_own}
 use Rattle.txn_laws.proofs.Syncs.{and_left, and_right}
 use Rattle.txn_laws.proofs.WriteOuts.{spelled_length}
 
@@ -310,12 +315,48 @@ module _ (own : ℕ → Bool) (list : List Entry) (content : Content) (left : Bl
         by_block x known claimed none true is = subst (λ (y : Block). StandsAt content (seen after) y) (sym (same_block-is x b is)) (stands_written sized)
         by_block x known claimed none false other = stays_there after between_after x known claimed (and_not (left x) (sym (ap (λ (v : Bool). left x && not v) other) ∙ none)) other
 
+-- ---- the log's pages
+
+log_kept : (place : LogPlace) (found : List Block) (b : Block) (new : List (List ℕ)) (disk now : Disk) → is_known (is_own place found) b ≡ true → length new ≡ sectors b.kind → IsBetween disk (put b.first new disk) now → AreAlike place 0 place.pages disk now
+log_kept place found b new disk now known sized between =
+    kept_elsewhere place 0 place.pages b.first new disk now (λ k i low lt few. apart k i lt few (is_within b.first (length new) (page_sector place k + i)) refl) between
+  where
+    apart : (k i : ℕ) → k < place.pages → i < 8 → (v : Bool) → is_within b.first (length new) (page_sector place k + i) ≡ v → is_within b.first (length new) (page_sector place k + i) ≡ false
+    apart k i lt few false is = is
+    apart k i lt few true is =
+        let inside : is_within b.first (sectors b.kind) (page_sector place k + i) ≡ true = ap (λ (c : ℕ). is_within b.first c (page_sector place k + i)) (sym sized) ∙ is in
+        let own = page_is_own place found k (page_sector place k + i) lt (is_in (page_sector place k) 8 (page_sector place k + i) (omega arith) (omega (arith, few))) in
+        absurd (true≢false (sym own ∙ not_own (is_own place found) b (page_sector place k + i) known inside))
+
+log_settled : (place : LogPlace) (disk : Disk) → ((k : ℕ) → k < place.pages → IsStill place disk k) → AreAlike place 0 place.pages disk (settled disk)
+log_settled place disk still = record {
+  durable = λ k i low lt few. ap (λ (vs : List (List ℕ)). newest vs (disk.durable (page_sector place k + i))) (still k lt i few);
+  written = λ k i low lt few. sym (still k lt i few);
+}
+
+log_read : (place : LogPlace) (disk : Disk) (at : SectorBytes) (k : ℕ) → IsStill place disk k → CanLeave disk at → raw_page place at k ≡ raw_page place (seen disk) k
+unfolding raw_page
+log_read place disk at k still can = raw_frame (seen disk) at (page_sector place k) 8 same
+  where
+    one : (s : ℕ) → disk.written s ≡ [] → (at s ≡ disk.durable s) ⊎ Contains (disk.written s) (at s) → at s ≡ seen disk s
+    one s none (inl is) = is ∙ sym (ap (λ (vs : List (List ℕ)). newest vs (disk.durable s)) none)
+    one s none (inr has) = let m = subst (λ (vs : List (List ℕ)). Contains vs (at s)) none has in absurd (omega (arith, m.1))
+
+    same : (s : ℕ) → page_sector place k ≤ s → s < page_sector place k + 8 → at s ≡ seen disk s
+    same s low high =
+        let i = s - page_sector place k in
+        let is : page_sector place k + i ≡ s = omega (arith, low) in
+        one s (ap (λ (n : ℕ). disk.written n) (sym is) ∙ still i (omega (arith, low, high))) (can s)
+
 pub mounts_go_on_law : MountsGoOn
 mounts_go_on_law = record {
   start = begins_mounting;
   written = λ own list content left disk b check h may small sized. mounting_written own list content left disk h b may check small sized;
   failed = λ own list content left disk now b check h may small between. mounting_failed own list content left disk h b may check small now between;
   synced = mounting_synced;
+  log_stays = log_kept;
+  log_synced = log_settled;
+  log_reads = log_read;
   elsewhere = λ own list content left disk now h same. mounting_elsewhere own list content left disk h now same;
   recovers = λ own list content left disk at h can whole. recovers_now own list content left disk h at can whole;
   ended = λ own list content left disk at h none still can. stands_ended own list content left disk h none still at can;

@@ -9,11 +9,14 @@ use Rattle.sector_device.specs.Disks.{Disk, IsBetween, IsSettled, IsSized, put, 
 use Rattle.sector_device.specs.Sectors.{sectors_of}
 use Rattle.log_model.specs.declared.entry.Entry.{Entry}
 use Rattle.log_model.specs.Logs.{IsLevel, is_shadowed, is_covered_whole, is_written_out, recovered}
+use Rattle.log_page.specs.declared.places.LogPlace.{LogPlace}
 use Rattle.store_model.specs.Logs.{has_update}
 use Rattle.store_model.specs.Geometry.{SectorBytes, Geometry, CanLeave}
 use Rattle.store_model.specs.Recovery.{Begins}
 use Rattle.store_model.specs.Volumes.{is_known, bytes_in, IsVolume, AreWhole, RecoversToContent}
+use Rattle.ring_laws.specs.PageBytes.{raw_page, IsStill, AreAlike}
 use Rattle.ring_laws.specs.StoreDisks.{disk_without}
+use Rattle.txn_model.specs.Values.{is_own}
 
 -- these sectors have the block as it is in the content, torn at most where it is torn there
 pub record StandsAt (content : Content) (at : SectorBytes) (b : Block) : Type 0 where
@@ -62,3 +65,8 @@ pub record MountsGoOn : Type 0 where
   -- once nothing is left and all is durable the content stands there, so that an empty list may be named; and it stands while that is written
   pub ended : (own : ℕ → Bool) (list : List Entry) (content : Content) (left : Block → Bool) (disk : Disk) (at : SectorBytes) → IsMounting own list content left disk → ((b : Block) → is_known own b ≡ true → left b ≡ false)
       → IsSettled (disk_without own disk) → CanLeave disk at → (b : Block) → is_known own b ≡ true → is_shadowed list b ≡ false → StandsAt content at b
+  -- the log's pages stay: on the disk, by a write of a known block and by a sync, where nothing of them was unsynced at first; and in whatever a crash leaves
+  pub log_stays : (place : LogPlace) (found : List Block) (b : Block) (new : List (List ℕ)) (disk now : Disk) → is_known (is_own place found) b ≡ true → length new ≡ sectors b.kind → IsBetween disk (put b.first new disk) now
+      → AreAlike place 0 place.pages disk now
+  pub log_synced : (place : LogPlace) (disk : Disk) → ((k : ℕ) → k < place.pages → IsStill place disk k) → AreAlike place 0 place.pages disk (settled disk)
+  pub log_reads : (place : LogPlace) (disk : Disk) (at : SectorBytes) (k : ℕ) → IsStill place disk k → CanLeave disk at → raw_page place at k ≡ raw_page place (seen disk) k
