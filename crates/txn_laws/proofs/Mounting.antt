@@ -36,8 +36,10 @@ use Rattle.ring_laws.specs.StoreDisks.{disk_without, sectors_without}
 use Rattle.ring_laws.specs.PageBytes.{page_sector, raw_page, IsStill, AreAlike}
 use Rattle.ring_laws.proofs.LogSectors.{kept_elsewhere}
 use Rattle.ring_laws.proofs.SeenDisks.{not_own, without_left, without_content, without_seen, without_recovered, without_whole, without_bears, without_synced, without_failed}
-use Rattle.txn_laws.specs.Mounting.{StandsAt, IsMounting, MayPutBack, MountsGoOn, put_back}
-use Rattle.txn_model.specs.Values.{is_own}
+use Rattle.txn_laws.specs.Mounting.{StandsAt, IsMounting, HasMounted, MayPutBack, MountsGoOn, put_back}
+use Rattle.txn_model.specs.Values.{StoreFacts, is_own, own_of}
+use Rattle.txn_laws.specs.Windows.{HasStart}
+use Rattle.sector_device.specs.Moments.{Changes}
 use Rattle.log_page.specs.declared.places.LogPlace.{LogPlace}
 use Rattle.txn_laws.proofs.Changes.{seen_whole}
 use Rattle.txn_laws.proofs.PageWrites.{page_is_own}
@@ -348,12 +350,27 @@ log_read place disk at k still can = raw_frame (seen disk) at (page_sector place
         let is : page_sector place k + i ≡ s = omega (arith, low) in
         one s (ap (λ (n : ℕ). disk.written n) (sym is) ∙ still i (omega (arith, low, high))) (can s)
 
+-- ---- a store begins
+
+mounted_shows : (changes : Changes) (f : StoreFacts) (list : List Entry) (content : Content) (left : Block → Bool) (disk : Disk) → HasStart changes f (content_of (seen disk)) → IsMounting (own_of f) list content left disk
+    → ((b : Block) → is_known (own_of f) b ≡ true → left b ≡ false) → HasMounted changes f list content
+mounted_shows changes f list content left disk start h none = record {
+  window = start.window;
+  has = start.has;
+  closed = start.closed;
+  none = start.none;
+  present = λ b known claimed.
+      (let y = h.stands b known claimed (none b known) in
+      (ap (λ (body : Body). body.bytes) (start.present b) ∙ y.bytes, λ torn. y.torn (sym (ap (λ (body : Body). body.torn) (start.present b)) ∙ torn)));
+}
+
 pub mounts_go_on_law : MountsGoOn
 mounts_go_on_law = record {
   start = begins_mounting;
   written = λ own list content left disk b check h may small sized. mounting_written own list content left disk h b may check small sized;
   failed = λ own list content left disk now b check h may small between. mounting_failed own list content left disk h b may check small now between;
   synced = mounting_synced;
+  mounted = mounted_shows;
   log_stays = log_kept;
   log_synced = log_settled;
   log_reads = log_read;

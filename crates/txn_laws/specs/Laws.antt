@@ -59,8 +59,8 @@ pub record StoresStart : Type 0 where
       → Stands (record { place = place; lap = lap }) log r q [] fields disk → q.begun ≡ false → fields q.sure ≡ Some own → own.oldest ≡ lsn_of_page (record { place = place; lap = lap }) r.oldest
       → IsSettled disk → IsSized disk → HasStart changes (first_facts place log found) (content_of (seen disk))
 
--- The open transaction may change the block in this way, where this is its present body: the bytes fit, the body after them has a spelling, no rival of the block was
--- changed by the transaction, and the log has room.
+-- The open transaction may change the block in this way, where this is its present body: the bytes fit, the body after them has a spelling, no rival of the
+-- block was changed by the transaction, and the log has room.
 pub record MayChangeBlock (f : StoreFacts) (c : Block) (at : ℕ) (new : List ℕ) (present : Body) : Type 0 where
   pub opened : f.is_open ≡ true
   pub known : is_known (own_of f) c ≡ true
@@ -154,8 +154,8 @@ pub record DeviceSteps {D : Type 0} (gives : D → Option (List (List ℕ))) (ch
   pub again_fails : (count begun : ℕ) (f : StoreFacts) (b : Block) (x : Body) (bytes : List ℕ) (old new : D) → StandsThere (gives old) f b x bytes → SeesDisk (gives old) (changes old).disk → IfSome (changes new).disk IsSized
       → moment old ≤ begun → (fault : Failed) → SendsAgain gives changes moment begun b bytes (Err fault) old new → Simulates count (moment old) (changes old) (changes new) f f AfterWrite
 
--- The checkpoint that noted this page may end by a restart page, which can be made: one that was sent already names the same page, there is a lap for the least entry, and the open count isn't
--- at its type's end.
+-- The checkpoint that noted this page may end by a restart page, which can be made: one that was sent already names the same page, there is a lap for the
+-- least entry, and the open count isn't at its type's end.
 pub record MayEndCheckpoint (f : StoreFacts) (page : ℕ) : Type 0 where
   pub may : MayNameNoted f page
   pub again : IfSome f.log.sent (λ x. x.page.oldest ≡ front_lsn f.log page)

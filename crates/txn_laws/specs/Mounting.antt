@@ -13,18 +13,20 @@ use Rattle.log_page.specs.declared.places.LogPlace.{LogPlace}
 use Rattle.store_model.specs.Logs.{has_update}
 use Rattle.store_model.specs.Geometry.{SectorBytes, Geometry, CanLeave}
 use Rattle.store_model.specs.Recovery.{Begins}
-use Rattle.store_model.specs.Volumes.{is_known, bytes_in, IsVolume, AreWhole, RecoversToContent}
+use Rattle.store_model.specs.Volumes.{is_known, bytes_in, IsVolume, AreWhole, ContentWindow, RecoversToContent}
 use Rattle.ring_laws.specs.PageBytes.{raw_page, IsStill, AreAlike}
 use Rattle.ring_laws.specs.StoreDisks.{disk_without}
-use Rattle.txn_model.specs.Values.{is_own}
+use Rattle.txn_model.specs.Values.{StoreFacts, is_own, own_of}
+use Rattle.txn_laws.specs.Windows.{HasStart, HasWindow}
+use Rattle.sector_device.specs.Moments.{Changes}
 
 -- these sectors have the block as it is in the content, torn at most where it is torn there
 pub record StandsAt (content : Content) (at : SectorBytes) (b : Block) : Type 0 where
   pub bytes : (content_of at b).bytes ≡ (content b).bytes
   pub torn : (content_of at b).torn ≡ true → (content b).torn ≡ true
 
--- A recovery goes on: whatever a crash may leave of this disk recovers by the list to the content; and a read gives each known block that the list doesn't shadow as it is
--- there, but for those that are left to be written.
+-- A recovery goes on: whatever a crash may leave of this disk recovers by the list to the content; and a read gives each known block that the list doesn't
+-- shadow as it is there, but for those that are left to be written.
 pub record IsMounting (own : ℕ → Bool) (list : List Entry) (content : Content) (left : Block → Bool) (disk : Disk) : Type 0 where
   pub geometry : Geometry
   pub volume : IsVolume own geometry
@@ -33,8 +35,8 @@ pub record IsMounting (own : ℕ → Bool) (list : List Entry) (content : Conten
   pub begins : Begins geometry list (disk_without own disk) (bytes_in content) (λ b. (content b).torn)
   pub stands : (b : Block) → is_known own b ≡ true → is_shadowed list b ≡ false → left b ≡ false → StandsAt content (seen disk) b
 
--- A block that is left may be written: it is known and has an update in the list, which doesn't shadow it; the list covers it whole, or it is a single sector; and its bytes have
--- a spelling.
+-- A block that is left may be written: it is known and has an update in the list, which doesn't shadow it; the list covers it whole, or it is a single
+-- sector; and its bytes have a spelling.
 pub record MayPutBack (own : ℕ → Bool) (list : List Entry) (content : Content) (left : Block → Bool) (b : Block) : Type 0 where
   pub waits : left b ≡ true
   pub known : is_known own b ≡ true
@@ -46,6 +48,15 @@ pub record MayPutBack (own : ℕ → Bool) (list : List Entry) (content : Conten
 -- the disk after a write of the block as it is in the content, under this check word
 abbrev pub put_back : Content → Block → ℕ → Disk → Disk
 put_back content b check disk = put b.first (sectors_of (spelled b.kind check (content b).bytes)) disk
+
+-- The store has a window with no transaction open and no commit that isn't durable, whose present content is this one on the known blocks that the list
+-- doesn't shadow, torn at most where that is.
+pub record HasMounted (changes : Changes) (f : StoreFacts) (list : List Entry) (content : Content) : Type 0 where
+  pub window : ContentWindow
+  pub has : HasWindow changes f window
+  pub closed : window.is_open ≡ false
+  pub none : window.waiting ≡ 0
+  pub present : (b : Block) → is_known (own_of f) b ≡ true → is_shadowed list b ≡ false → ((window.present b).bytes ≡ (content b).bytes) × ((window.present b).torn ≡ true → (content b).torn ≡ true)
 
 -- Recovery of a device.
 pub record MountsGoOn : Type 0 where
@@ -70,3 +81,6 @@ pub record MountsGoOn : Type 0 where
       → AreAlike place 0 place.pages disk now
   pub log_synced : (place : LogPlace) (disk : Disk) → ((k : ℕ) → k < place.pages → IsStill place disk k) → AreAlike place 0 place.pages disk (settled disk)
   pub log_reads : (place : LogPlace) (disk : Disk) (at : SectorBytes) (k : ℕ) → IsStill place disk k → CanLeave disk at → raw_page place at k ≡ raw_page place (seen disk) k
+  -- so a store that begins on the disk then shows the content that was recovered
+  pub mounted : (changes : Changes) (f : StoreFacts) (list : List Entry) (content : Content) (left : Block → Bool) (disk : Disk) → HasStart changes f (content_of (seen disk)) → IsMounting (own_of f) list content left disk
+      → ((b : Block) → is_known (own_of f) b ≡ true → left b ≡ false) → HasMounted changes f list content

@@ -57,8 +57,8 @@ pub fn next_steps_may_be_taken()
 {}
 
 /// Law: recovery of a device by the entries of its log leaves, write by write, images that recover to
-/// the same content by the same entries, on known blocks that these don't shadow; and once all is
-/// written and synced, that content stands there.
+/// the same content by the same entries, on known blocks that these don't shadow. Once all is written
+/// and synced, that content stands there, and a store that begins there shows it.
 pub fn mounts_go_on()
     ensures { MountsGoOn }
 {}
