@@ -19,3 +19,4 @@ pub mod Openings
 pub mod Naming
 pub mod Choosing
 pub mod Mounting
+pub mod Counting

@@ -28,10 +28,11 @@ use Rattle.area_laws.specs.Standing.{Stands}
 use Rattle.area_laws.specs.Laws.{SendsNext, SendsRestart, MayName}
 use Rattle.txn_model.specs.Values.{StoreFacts, own_of}
 use Rattle.txn_model.specs.Pieces.{next_entry}
-use Rattle.txn_model.specs.Told.{FactsTold, KeepsSteps, MayTakeStep}
+use Rattle.txn_model.specs.Told.{FactsTold, AreDirty, KeepsMarked, KeepsSteps, MayTakeStep}
 use Rattle.flush_policy.specs.declared.facts.Facts.{Facts}
 use Rattle.flush_policy.specs.declared.facts.StoreStep.{StoreStep}
 use Rattle.flush_policy.specs.Choice.{next_step}
+use Rattle.flush_policy.specs.Steps.{CanBe}
 use Rattle.txn_model.specs.Calls.{first_facts, begun_facts, committed_facts, given_up_facts, change_acts, changed_facts, sealed_facts, noted_facts, written_facts, sent_facts, front_lsn, MayNameNoted, named_facts, naming_facts, is_buried, synced_facts, is_ready, written_out_facts, sent_out_facts, again_facts}
 use Rattle.txn_laws.specs.Standing.{StandsBehind}
 use Rattle.txn_laws.specs.Appending.{MayAppend, MayAppendAll}
@@ -183,3 +184,7 @@ pub record CheckpointSteps {D : Type 0} (gives : D → Option (List (List ℕ)))
 -- The next step by what a store tells may be taken, where no transaction is open.
 abbrev pub NextStepsMayBeTaken : Type 0
 NextStepsMayBeTaken = (f : StoreFacts) (told : Facts) (step : StoreStep) → KeepsSteps f → FactsTold f told → f.is_open ≡ false → next_step told ≡ Some step → MayTakeStep f step
+
+-- What a store tells can be, with as many dirty blocks as it has, where no transaction is open. So where there is no next step, nothing is left to do.
+abbrev pub ToldCanBe : Type 0
+ToldCanBe = (f : StoreFacts) (told : Facts) (dirty : List Block) → KeepsMarked f → FactsTold f told → AreDirty f dirty → f.is_open ≡ false → CanBe (length dirty) told
