@@ -30,12 +30,36 @@ const WRITES_OUT: Option<StoreStep> = Some(StoreStep::WriteOut(SECTOR));
 
 static ROWS: [Row; 20] = [
     // All that can be left to do at once, and less each time.
-    Row(&[Filling, Unsynced, Ready, Begun, Fresh], [3, 2, 90, 124], Some(StoreStep::WritePage)),
-    Row(&[Filling, Unsynced, Ready, Begun, Fresh], [0, 2, 90, 124], WRITES_OUT),
-    Row(&[Filling, Unsynced, Begun, Fresh], [0, 2, 90, 124], Some(StoreStep::SyncDevice)),
-    Row(&[Filling, Begun, Fresh], [0, 2, 90, 124], Some(StoreStep::SealPage)),
-    Row(&[Filling, Begun, Fresh], [0, 0, 90, 124], Some(StoreStep::WriteRestart)),
-    Row(&[Filling, Fresh], [0, 0, 90, 124], Some(StoreStep::BeginCheckpoint)),
+    Row(
+        &[Filling, Unsynced, Ready, Begun, Fresh],
+        [3, 2, 90, 124],
+        Some(StoreStep::WritePage),
+    ),
+    Row(
+        &[Filling, Unsynced, Ready, Begun, Fresh],
+        [0, 2, 90, 124],
+        WRITES_OUT,
+    ),
+    Row(
+        &[Filling, Unsynced, Begun, Fresh],
+        [0, 2, 90, 124],
+        Some(StoreStep::SyncDevice),
+    ),
+    Row(
+        &[Filling, Begun, Fresh],
+        [0, 2, 90, 124],
+        Some(StoreStep::SealPage),
+    ),
+    Row(
+        &[Filling, Begun, Fresh],
+        [0, 0, 90, 124],
+        Some(StoreStep::WriteRestart),
+    ),
+    Row(
+        &[Filling, Fresh],
+        [0, 0, 90, 124],
+        Some(StoreStep::BeginCheckpoint),
+    ),
     Row(&[Filling], [0, 0, 90, 124], Some(StoreStep::SealPage)),
     Row(&[], [0, 0, 90, 124], None),
     // Each thing alone.
@@ -48,10 +72,26 @@ static ROWS: [Row; 20] = [
     Row(&[Filling], [0, 0, 1, 124], Some(StoreStep::SealPage)),
     Row(&[Fresh], [0, 0, 1, 124], Some(StoreStep::BeginCheckpoint)),
     // Half of the ring: 61 of 124 pages, 62, and all that a number can say.
-    Row(&[Filling, Fresh], [0, 0, 61, 124], Some(StoreStep::SealPage)),
-    Row(&[Filling, Fresh], [0, 0, 62, 124], Some(StoreStep::BeginCheckpoint)),
-    Row(&[Filling, Fresh], [0, 0, u64::MAX, 124], Some(StoreStep::BeginCheckpoint)),
-    Row(&[Filling, Fresh], [0, 0, 62, u64::MAX], Some(StoreStep::SealPage)),
+    Row(
+        &[Filling, Fresh],
+        [0, 0, 61, 124],
+        Some(StoreStep::SealPage),
+    ),
+    Row(
+        &[Filling, Fresh],
+        [0, 0, 62, 124],
+        Some(StoreStep::BeginCheckpoint),
+    ),
+    Row(
+        &[Filling, Fresh],
+        [0, 0, u64::MAX, 124],
+        Some(StoreStep::BeginCheckpoint),
+    ),
+    Row(
+        &[Filling, Fresh],
+        [0, 0, 62, u64::MAX],
+        Some(StoreStep::SealPage),
+    ),
 ];
 
 fn facts_of(row: &Row) -> Facts {
