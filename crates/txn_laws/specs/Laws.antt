@@ -25,16 +25,17 @@ use Rattle.log_page.specs.Places.{lap_of, sequence_bits}
 use Rattle.log_page.specs.LiveLogs.{said_lsn}
 use Rattle.ring_laws.specs.RestartPages.{RestartFields}
 use Rattle.area_laws.specs.Standing.{Stands}
-use Rattle.area_laws.specs.Laws.{SendsNext, SendsRestart, MayName}
-use Rattle.txn_model.specs.Values.{StoreFacts, own_of}
-use Rattle.txn_model.specs.Pieces.{next_entry}
-use Rattle.txn_model.specs.Told.{FactsTold, AreDirty, KeepsMarked, KeepsSteps, MayTakeStep}
 use Rattle.flush_policy.specs.declared.facts.Facts.{Facts}
 use Rattle.flush_policy.specs.declared.facts.StoreStep.{StoreStep}
 use Rattle.flush_policy.specs.Choice.{next_step}
 use Rattle.flush_policy.specs.Steps.{CanBe}
-use Rattle.txn_model.specs.Calls.{first_facts, begun_facts, committed_facts, given_up_facts, change_acts, changed_facts, sealed_facts, noted_facts, written_facts, sent_facts, front_lsn, MayNameNoted, named_facts, naming_facts, is_buried, synced_facts, is_ready, written_out_facts, sent_out_facts, again_facts}
+use Rattle.txn_model.specs.Calls.{front_lsn, MayNameNoted, named_facts, naming_facts}
+use Rattle.txn_model.specs.Told.{FactsTold, AreDirty, KeepsMarked, KeepsSteps, MayTakeStep}
 use Rattle.txn_laws.specs.Standing.{StandsBehind}
+use Rattle.area_laws.specs.Laws.{SendsNext, SendsRestart, MayName}
+use Rattle.txn_model.specs.Values.{StoreFacts, own_of}
+use Rattle.txn_model.specs.Pieces.{next_entry}
+use Rattle.txn_model.specs.Calls.{first_facts, begun_facts, committed_facts, given_up_facts, change_acts, changed_facts, sealed_facts, noted_facts, written_facts, sent_facts, is_buried, synced_facts, is_ready, written_out_facts, sent_out_facts, again_facts}
 use Rattle.txn_laws.specs.Appending.{MayAppend, MayAppendAll}
 use Rattle.txn_laws.specs.Windows.{HasMachine, HasWindow, HasStart, IsShown, RecoversWithin, Simulates, AfterBegin, AfterChange, AfterCommit, AfterGiveUp, AfterWrite, MovesTo}
 
