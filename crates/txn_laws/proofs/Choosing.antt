@@ -35,7 +35,7 @@ is_not : (v : Bool) → not v ≡ true → v ≡ false
 is_not true e = absurd (true≢false (sym e))
 is_not false e = refl
 
-first_of : (a b c d : Bool) → (a && b && c && d) ≡ true → a ≡ true
+pub first_of : (a b c d : Bool) → (a && b && c && d) ≡ true → a ≡ true
 first_of a b c d e = and_left a b (and_left (a && b) c (and_left (a && b && c) d e))
 
 pub next_may_be_taken : (f : StoreFacts) (told : Facts) (step : StoreStep) → KeepsSteps f → FactsTold f told → f.is_open ≡ false → next_step told ≡ Some step → MayTakeStep f step

@@ -18,3 +18,5 @@ pub mod Noting
 pub mod Openings
 pub mod Naming
 pub mod Choosing
+pub mod Mounting
+pub mod Counting

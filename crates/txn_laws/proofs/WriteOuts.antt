@@ -58,7 +58,7 @@ not_is : (v : Bool) → not v ≡ true → v ≡ false
 not_is true is = absurd (true≢false (sym is))
 not_is false is = refl
 
-spelled_length : (kind : BlockKind) (check : ℕ) (bytes : List ℕ) → length (spelled kind check bytes) ≡ length bytes
+pub spelled_length : (kind : BlockKind) (check : ℕ) (bytes : List ℕ) → length (spelled kind check bytes) ≡ length bytes
 unfolding spelled
 spelled_length kind check bytes = go (is_sequenced kind bytes)
   where

@@ -25,15 +25,17 @@ use Rattle.log_page.specs.Places.{lap_of, sequence_bits}
 use Rattle.log_page.specs.LiveLogs.{said_lsn}
 use Rattle.ring_laws.specs.RestartPages.{RestartFields}
 use Rattle.area_laws.specs.Standing.{Stands}
-use Rattle.area_laws.specs.Laws.{SendsNext, SendsRestart, MayName}
-use Rattle.txn_model.specs.Values.{StoreFacts, own_of}
-use Rattle.txn_model.specs.Pieces.{next_entry}
-use Rattle.txn_model.specs.Told.{FactsTold, KeepsSteps, MayTakeStep}
 use Rattle.flush_policy.specs.declared.facts.Facts.{Facts}
 use Rattle.flush_policy.specs.declared.facts.StoreStep.{StoreStep}
 use Rattle.flush_policy.specs.Choice.{next_step}
-use Rattle.txn_model.specs.Calls.{first_facts, begun_facts, committed_facts, given_up_facts, change_acts, changed_facts, sealed_facts, noted_facts, written_facts, sent_facts, front_lsn, MayNameNoted, named_facts, naming_facts, is_buried, synced_facts, is_ready, written_out_facts, sent_out_facts, again_facts}
+use Rattle.flush_policy.specs.Steps.{CanBe}
+use Rattle.txn_model.specs.Calls.{front_lsn, MayNameNoted, named_facts, naming_facts}
+use Rattle.txn_model.specs.Told.{FactsTold, AreDirty, KeepsMarked, KeepsSteps, MayTakeStep}
 use Rattle.txn_laws.specs.Standing.{StandsBehind}
+use Rattle.area_laws.specs.Laws.{SendsNext, SendsRestart, MayName}
+use Rattle.txn_model.specs.Values.{StoreFacts, own_of}
+use Rattle.txn_model.specs.Pieces.{next_entry}
+use Rattle.txn_model.specs.Calls.{first_facts, begun_facts, committed_facts, given_up_facts, change_acts, changed_facts, sealed_facts, noted_facts, written_facts, sent_facts, is_buried, synced_facts, is_ready, written_out_facts, sent_out_facts, again_facts}
 use Rattle.txn_model.specs.Appending.{MayAppend, MayAppendAll}
 use Rattle.txn_laws.specs.Windows.{HasMachine, HasWindow, HasStart, IsShown, RecoversWithin, Simulates, AfterBegin, AfterChange, AfterCommit, AfterGiveUp, AfterWrite, MovesTo}
 
@@ -59,8 +61,8 @@ pub record StoresStart : Type 0 where
       → Stands (record { place = place; lap = lap }) log r q [] fields disk → q.begun ≡ false → fields q.sure ≡ Some own → own.oldest ≡ lsn_of_page (record { place = place; lap = lap }) r.oldest
       → IsSettled disk → IsSized disk → HasStart changes (first_facts place log found) (content_of (seen disk))
 
--- The open transaction may change the block in this way, where this is its present body: the bytes fit, the body after them has a spelling, no rival of the block was
--- changed by the transaction, and the log has room.
+-- The open transaction may change the block in this way, where this is its present body: the bytes fit, the body after them has a spelling, no rival of the
+-- block was changed by the transaction, and the log has room.
 pub record MayChangeBlock (f : StoreFacts) (c : Block) (at : ℕ) (new : List ℕ) (present : Body) : Type 0 where
   pub opened : f.is_open ≡ true
   pub known : is_known (own_of f) c ≡ true
@@ -154,8 +156,8 @@ pub record DeviceSteps {D : Type 0} (gives : D → Option (List (List ℕ))) (ch
   pub again_fails : (count begun : ℕ) (f : StoreFacts) (b : Block) (x : Body) (bytes : List ℕ) (old new : D) → StandsThere (gives old) f b x bytes → SeesDisk (gives old) (changes old).disk → IfSome (changes new).disk IsSized
       → moment old ≤ begun → (fault : Failed) → SendsAgain gives changes moment begun b bytes (Err fault) old new → Simulates count (moment old) (changes old) (changes new) f f AfterWrite
 
--- The checkpoint that noted this page may end by a restart page, which can be made: one that was sent already names the same page, there is a lap for the least entry, and the open count isn't
--- at its type's end.
+-- The checkpoint that noted this page may end by a restart page, which can be made: one that was sent already names the same page, there is a lap for the
+-- least entry, and the open count isn't at its type's end.
 pub record MayEndCheckpoint (f : StoreFacts) (page : ℕ) : Type 0 where
   pub may : MayNameNoted f page
   pub again : IfSome f.log.sent (λ x. x.page.oldest ≡ front_lsn f.log page)
@@ -183,3 +185,7 @@ pub record CheckpointSteps {D : Type 0} (gives : D → Option (List (List ℕ)))
 -- The next step by what a store tells may be taken, where no transaction is open.
 abbrev pub NextStepsMayBeTaken : Type 0
 NextStepsMayBeTaken = (f : StoreFacts) (told : Facts) (step : StoreStep) → KeepsSteps f → FactsTold f told → f.is_open ≡ false → next_step told ≡ Some step → MayTakeStep f step
+
+-- What a store tells can be, with as many dirty blocks as it has, where no transaction is open. So where there is no next step, nothing is left to do.
+abbrev pub ToldCanBe : Type 0
+ToldCanBe = (f : StoreFacts) (told : Facts) (dirty : List Block) → KeepsMarked f → FactsTold f told → AreDirty f dirty → f.is_open ≡ false → CanBe (length dirty) told

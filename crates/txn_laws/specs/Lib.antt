@@ -2,3 +2,4 @@ pub mod Standing
 pub mod Windows
 pub mod Following
 pub mod Laws
+pub mod Mounting

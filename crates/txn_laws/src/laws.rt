@@ -1,10 +1,12 @@
 ghost use Rattle.txn_laws.specs.Following.{WindowsFollow};
+ghost use Rattle.txn_laws.specs.Mounting.{MountsGoOn};
 ghost use Rattle.txn_laws.specs.Laws.{
   CheckpointSteps,
   DeviceSteps,
   MemoryCalls,
   NextStepsMayBeTaken,
   StoresStart,
+  ToldCanBe,
   WindowsTell,
 };
 
@@ -49,8 +51,21 @@ pub fn windows_follow()
     ensures { WindowsFollow }
 {}
 
-/// Law: the next step by what a store tells of itself may be taken where no transaction is open: the
-/// laws of its calls ask for no more.
+/// Law: the next step by what a store tells of itself may be taken where no transaction is open:
+/// the laws of its calls ask for no more.
 pub fn next_steps_may_be_taken()
     ensures { NextStepsMayBeTaken }
+{}
+
+/// Law: recovery of a device by the entries of its log leaves, write by write, images that recover
+/// to the same content by the same entries, on known blocks that these don't shadow. Once all is
+/// written and synced, that content stands there, and a store that begins there shows it.
+pub fn mounts_go_on()
+    ensures { MountsGoOn }
+{}
+
+/// Law: what a store tells of itself is such that there is no next step exactly where nothing is
+/// left to do, where no transaction is open.
+pub fn told_can_be()
+    ensures { ToldCanBe }
 {}

@@ -127,8 +127,8 @@ sent_facts check f = record f { log = record f.log { check = Some check } }
 abbrev pub front_lsn : LogAreaOf → ℕ → ℕ
 front_lsn log page = number_lsn log page 0x40
 
--- A checkpoint that noted this page may end by a restart page: nothing that it noted is still to be written out or synced, the pages before the noted one are durable, and no restart page was
--- written since the last sync.
+-- A checkpoint that noted this page may end by a restart page: nothing that it noted is still to be written out or synced, the pages before the noted one are
+-- durable, and no restart page was written since the last sync.
 pub record MayNameNoted (f : StoreFacts) (page : ℕ) : Type 0 where
   pub noted : f.noted ≡ Some page
   pub paid : (b : Block) → ((f.mark b).owed ≡ false) × ((f.mark b).due ≡ false)

@@ -49,6 +49,26 @@ pub record FactsTold (f : StoreFacts) (told : Facts) : Type 0 where
   pub pages : told.pages ≡ ring_size f.log
   pub next : told.next ≡ next_lsn f.log 0x58
 
+-- the blocks that are dirty, each once
+abbrev pub AreDirty : StoreFacts → List Block → Type 0
+AreDirty f blocks = (b : Block) → count_by (same_block b) blocks ≡ (if (f.mark b).dirty then 1 else 0)
+
+-- the pages of the log end before this one
+abbrev pub pages_end : StoreFacts → ℕ
+pages_end f = f.log.sealed + (if is_filling f.log then 1 else 0)
+
+-- What is always so of the marks of a store. What a checkpoint owes is dirty or dead, and what is due was written since the last sync; commits are among
+-- those that were counted; updates stand on pages of the log, and so does what killed a dead body, which isn't durable.
+pub record KeepsMarked (f : StoreFacts) : Type 0 where
+  pub owed : (b : Block) → (f.mark b).owed ≡ true → ((f.mark b).dirty || (f.mark b).dead) ≡ true
+  pub due : (b : Block) → (f.mark b).due ≡ true → (f.mark b).wet ≡ true
+  pub commit : (b : Block) → (f.mark b).commit ≤ f.commits
+  pub until : (b : Block) → (f.mark b).until ≤ pages_end f
+  pub killed : (b : Block) → (f.mark b).dead ≡ true → (f.log.synced < (f.mark b).killed) × ((f.mark b).killed ≤ pages_end f)
+  -- where no transaction is open none changed a block, and where all pages are durable all commits are
+  pub closed : f.is_open ≡ false → (b : Block) → is_some (f.before b) ≡ false
+  pub all : is_filling f.log ≡ false → f.log.sealed ≤ f.log.synced → f.durable ≡ f.commits
+
 -- What is always so of a store: each block that is dirty has a body, and a page that a checkpoint noted is sealed.
 pub record KeepsSteps (f : StoreFacts) : Type 0 where
   pub kept : (b : Block) → (f.mark b).dirty ≡ true → is_some (f.body b) ≡ true
