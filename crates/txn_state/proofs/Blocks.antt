@@ -58,6 +58,7 @@ moved device body now mark marks before later k at clear fewer size size_before 
       | inl s ↦ sym s.dirty_is ∙ e
       | inr l ↦ clash (marks b).dirty e l.clean
     ]
+
     cleared : (b : Block) → (mark b).dirty ≡ false → (marks b).dirty ≡ false
     cleared b e = elim (at b) [
       | inl s ↦ s.dirty_is ∙ e
@@ -101,6 +102,7 @@ module _ (device : ℕ) (body : Block → Option Body) (mark : Block → Mark) (
       same_dirty : (t : Bool) (m : Mark) → (cond t (record m { commit = n }) m).dirty ≡ m.dirty
       same_dirty true m = refl
       same_dirty false m = refl
+
       same_dead : (t : Bool) (m : Mark) → (cond t (record m { commit = n }) m).dead ≡ m.dead
       same_dead true m = refl
       same_dead false m = refl

@@ -84,10 +84,13 @@ marks_changed mark kept own now c until next grid clear same own_is now_is is =
   where
     first : Block → Mark
     first b = cond (same_block b c) (changed_mark until (mark b)) (mark b)
+
     own_mark : own ≡ first
     own_mark = own_is ∙ ap (λ (g : Block → Mark). (λ (b : Block). cond (same_block b c) (changed_mark until (g b)) (g b))) same
+
     apart : (b : Block) → is_in_grid b ≡ false → same_block b c ≡ false
     apart b e = unless (same_block b c) (λ own_block. sym grid ∙ ap is_in_grid (sym (same_block-is b c own_block)) ∙ e)
+
     off : (b : Block) → is_in_grid b ≡ false → first b ≡ no_mark
     off b e = ap (λ (t : Bool). cond t (changed_mark until (mark b)) (mark b)) (apart b e) ∙ clear b e
 

@@ -60,7 +60,15 @@ impl StoreState {
             None => present.bytes.as_slice(),
         };
         let imaged = self.mark(block).imaged;
-        update_acts(alloc, imaged, block, at, new, before, present.bytes.as_slice())
+        update_acts(
+            alloc,
+            imaged,
+            block,
+            at,
+            new,
+            before,
+            present.bytes.as_slice(),
+        )
     }
 
     // The change, or want of memory, and then the store's facts are as they were.
