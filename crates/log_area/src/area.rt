@@ -99,8 +99,8 @@ impl LogArea {
         self.sectors
     }
 
-    // The pages of the ring.
-    pub(crate) fn size(&self) -> u64
+    /// The pages of the ring.
+    pub fn size(&self) -> u64
         ensures value { result ≡ ring_size self.now }
         ensures some { 0 < result }
         ensures small { result < 2 ^ 52 }
@@ -108,8 +108,9 @@ impl LogArea {
         self.pages - 4
     }
 
-    // The place in the ring of a page.
-    pub(crate) fn slot(&self, number: u64) -> usize
+    /// The place in the ring of the page with this number. Pages are numbered from 0 on in the order
+    /// in which a session fills them.
+    pub fn slot(&self, number: u64) -> usize
         ensures value { result ≡ place_at self.now number }
         ensures inside { result < length self.now.ring }
     {
@@ -128,6 +129,35 @@ impl LogArea {
         ensures value { result ≡ self.now.sealed - self.now.done }
     {
         self.sealed - self.done
+    }
+
+    /// The offset of the first free byte of the page that is filled, 0x40 where it has no entry.
+    pub fn free_at(&self) -> usize
+        ensures value { result ≡ self.now.free }
+        ensures small { result ≤ 4096 }
+    {
+        self.free
+    }
+
+    /// The number of the page that is filled: so many pages were sealed.
+    pub fn filled_page(&self) -> u64
+        ensures value { result ≡ self.now.sealed }
+    {
+        self.sealed
+    }
+
+    /// How many pages were written, and the write answered Ok.
+    pub fn written_pages(&self) -> u64
+        ensures value { result ≡ self.now.done }
+    {
+        self.done
+    }
+
+    /// How many pages a sync made durable.
+    pub fn durable_pages(&self) -> u64
+        ensures value { result ≡ self.now.synced }
+    {
+        self.synced
     }
 
     /// One more than the LSN of the last entry that a sync made durable, 0 before there is one.

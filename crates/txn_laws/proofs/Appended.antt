@@ -23,7 +23,7 @@ use Rattle.ring_laws.proofs.Numbering.{has_places}
 use Rattle.ring_laws.proofs.StoreEvents.{log_grows}
 use Rattle.area_laws.specs.Standing.{Stands, pages_with}
 use Rattle.area_laws.proofs.Joined.{appends}
-use Rattle.txn_laws.specs.Appending.{MayAppend}
+use Rattle.txn_model.specs.Appending.{MayAppend}
 use Rattle.txn_laws.specs.Standing.{IsKilled, TellsEnds}
 use Rattle.txn_laws.proofs.Growing.{Grows, grows_all, grows_some, grows_low, grows_high, grows_front, grows_last, grows_take, grows_take_all, grows_drop, all_dropped, placed, pages_grow, used_then}
 

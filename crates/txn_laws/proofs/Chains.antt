@@ -16,7 +16,7 @@ use Rattle.ring_laws.specs.RestartPages.{RestartFields}
 use Rattle.ring_laws.specs.StoreLogs.{HoldsLog}
 use Rattle.area_laws.specs.Standing.{Stands, pages_with}
 use Rattle.txn_model.specs.Pieces.{Piece, update_of_piece, next_entry, entries_of, log_with, ends_with}
-use Rattle.txn_laws.specs.Appending.{MayAppendAll}
+use Rattle.txn_model.specs.Appending.{MayAppendAll}
 use Rattle.txn_laws.specs.Standing.{IsKilled, TellsEnds}
 use Rattle.txn_laws.proofs.Growing.{Grows, grows_low, grows_all, pages_grow, placed}
 use Rattle.txn_laws.proofs.Appended.{still_some, on_page, still_killed, stands_more, holds_more, ends_more, number}

@@ -41,7 +41,7 @@ use Rattle.txn_model.specs.declared.mark.Mark.{Mark}
 use Rattle.txn_model.specs.Values.{StoreFacts, own_of}
 use Rattle.txn_model.specs.Pieces.{Piece, logged_pieces, update_of_piece, entries_of}
 use Rattle.txn_model.specs.Calls.{body_before, changed_mark, rival_mark, change_acts, changed_facts}
-use Rattle.txn_laws.specs.Appending.{MayAppendAll}
+use Rattle.txn_model.specs.Appending.{MayAppendAll}
 use Rattle.txn_laws.specs.Standing.{HasBytes, IsMarked, IsImaged, IsKilled, StandsBehind, session_of, numbers_of}
 use Rattle.txn_laws.specs.Windows.{Simulates, AfterChange}
 use Rattle.txn_laws.specs.Laws.{MayChangeBlock}

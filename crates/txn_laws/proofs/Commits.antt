@@ -26,7 +26,7 @@ use Rattle.txn_model.specs.declared.mark.Mark.{Mark}
 use Rattle.txn_model.specs.Values.{StoreFacts}
 use Rattle.txn_model.specs.Pieces.{next_entry}
 use Rattle.txn_model.specs.Calls.{committed_facts}
-use Rattle.txn_laws.specs.Appending.{MayAppend}
+use Rattle.txn_model.specs.Appending.{MayAppend}
 use Rattle.txn_laws.specs.Standing.{IsMarked, IsImaged, IsKilled, TellsEnds, StandsBehind, session_of}
 use Rattle.txn_laws.specs.Windows.{AfterCommit}
 use Rattle.txn_laws.proofs.Growing.{Grows, pages_grow, placed}

@@ -11,7 +11,7 @@ use Rattle.ring_laws.specs.Numbers.{LogSession}
 use Rattle.log_area.specs.Areas.{LogAreaOf, next_number, next_at, used_pages, appended}
 use Rattle.area_laws.specs.Standing.{StandsRing, pages_with}
 use Rattle.area_laws.proofs.Keeps.{IsPlaced, small_entry, is_placed, filling_then}
-use Rattle.txn_laws.specs.Appending.{MayAppend}
+use Rattle.txn_model.specs.Appending.{MayAppend}
 
 -- The entry begins a page behind the others, or stands behind those of the last one.
 pub data Grows (e : Entry) : List (List Entry) → List (List Entry) → Type 0 where

@@ -27,7 +27,7 @@ use Rattle.area_laws.specs.Laws.{SendsNext, SendsRestart, MayName}
 use Rattle.txn_model.specs.Values.{StoreFacts, own_of}
 use Rattle.txn_model.specs.Pieces.{next_entry}
 use Rattle.txn_model.specs.Calls.{first_facts, begun_facts, committed_facts, given_up_facts, change_acts, changed_facts, sealed_facts, noted_facts, written_facts, sent_facts, is_buried, synced_facts, is_ready, written_out_facts, sent_out_facts, again_facts}
-use Rattle.txn_laws.specs.Appending.{MayAppend, MayAppendAll}
+use Rattle.txn_model.specs.Appending.{MayAppend, MayAppendAll}
 use Rattle.txn_laws.specs.Windows.{HasMachine, HasWindow, HasStart, IsShown, RecoversWithin, Simulates, AfterBegin, AfterChange, AfterCommit, AfterGiveUp, AfterWrite, MovesTo}
 
 -- What a window says.

@@ -1,4 +1,3 @@
-pub mod Appending
 pub mod Standing
 pub mod Windows
 pub mod Following

@@ -1,0 +1,13 @@
+//! The entries of a transaction: those that a change logs, which are appended to the ring of a log
+//! one behind the other, and the pages that changes will take.
+//!
+//! The contract: the entries are exactly those of the definitions, and the ring and the counts of
+//! commits by its places are what the definitions make of them. Memory is taken before the first
+//! entry is appended.
+#![tactic(auto)]
+
+mod acts;
+mod appending;
+
+pub use acts::update_acts;
+pub use appending::{append_acts, append_commit};

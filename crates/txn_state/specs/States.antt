@@ -1,0 +1,101 @@
+-- What a store of blocks holds in memory, and what of it is always so.
+use Rattle.std.specs.Prelude.{◌≡◌, ℕ, ◌+◌, ◌*◌, ◌^◌, ◌<◌, ◌≤◌, ◌||◌, Bool, true, false, List, length, Option, None, IfSome, is_some}
+use Rattle.disk_model.specs.declared.block.Block.{Block}
+use Rattle.disk_model.specs.declared.block.Body.{Body}
+use Rattle.disk_model.specs.Sectors.{sectors, are_rivals}
+use Rattle.log_model.specs.Logs.{is_in_grid}
+use Rattle.log_page.specs.declared.places.LogPlace.{LogPlace}
+use Rattle.log_area.specs.Areas.{LogAreaOf, ring_size}
+use Rattle.store_pools.specs.declared.kept.KeptBody.{KeptBody}
+use Rattle.store_pools.specs.Pools.{bodies_of, marks_of}
+use Rattle.txn_model.specs.declared.mark.Mark.{Mark}
+use Rattle.txn_model.specs.Values.{no_mark, StoreFacts}
+use Rattle.txn_model.specs.Calls.{change_acts}
+use Rattle.txn_model.specs.Appending.{MayAppendAll}
+
+-- What a store holds: its fields, with lists for its pools.
+pub record StateOf : Type 0 where
+  pub place : LogPlace
+  pub log : LogAreaOf
+  pub found : List Block
+  pub bodies : List (Block × KeptBody)
+  pub marks : List (Block × Mark)
+  pub before : List (Block × KeptBody)
+  pub is_open : Bool
+  pub tx : ℕ
+  pub last : ℕ
+  pub commits : ℕ
+  pub durable : ℕ
+  pub ends : List ℕ
+  pub noted : Option ℕ
+
+-- the state of these fields
+abbrev pub state_of : (place : LogPlace) (log : LogAreaOf) (found : List Block) (bodies : List (Block × KeptBody)) (marks : List (Block × Mark)) (before : List (Block × KeptBody)) (is_open : Bool) (tx last commits durable : ℕ) (ends : List ℕ) (noted : Option ℕ) → StateOf
+state_of place log found bodies marks before is_open tx last commits durable ends noted = record {
+  place = place;
+  log = log;
+  found = found;
+  bodies = bodies;
+  marks = marks;
+  before = before;
+  is_open = is_open;
+  tx = tx;
+  last = last;
+  commits = commits;
+  durable = durable;
+  ends = ends;
+  noted = noted;
+}
+
+-- the facts of a store, by blocks
+abbrev pub facts_of : StateOf → StoreFacts
+facts_of s = record {
+  place = s.place;
+  log = s.log;
+  found = s.found;
+  body = bodies_of s.bodies;
+  mark = marks_of s.marks;
+  before = bodies_of s.before;
+  is_open = s.is_open;
+  tx = s.tx;
+  last = s.last;
+  commits = s.commits;
+  durable = s.durable;
+  ends = s.ends;
+  noted = s.noted;
+}
+
+-- the body has as many bytes as its block
+abbrev pub HasSize : Block → Body → Type 0
+HasSize b x = length x.bytes ≡ 512 * sectors b.kind
+
+-- What is always so of a store. Blocks that have marks or bodies are in the grid, and those that have bodies on the device.
+pub record IsStore (f : StoreFacts) : Type 0 where
+  pub pages : f.log.pages ≡ f.place.pages
+  pub sectors : f.log.sectors ≡ f.place.device
+  pub kept : (b : Block) → is_some (f.body b) ≡ ((f.mark b).dirty || (f.mark b).dead)
+  pub apart : (b : Block) → (f.mark b).dead ≡ true → (f.mark b).dirty ≡ false
+  pub lone : (b c : Block) → are_rivals b c ≡ true → (f.mark b).dirty ≡ true → (f.mark c).dirty ≡ false
+  pub changed : (b : Block) → is_some (f.before b) ≡ true → (f.mark b).dirty ≡ true
+  pub marked : (b : Block) → is_in_grid b ≡ false → f.mark b ≡ no_mark
+  pub inside : (b : Block) → is_some (f.body b) ≡ true → b.first + sectors b.kind ≤ f.place.device
+  pub sized : (b : Block) → IfSome (f.body b) (HasSize b)
+  pub sized_before : (b : Block) → IfSome (f.before b) (HasSize b)
+  pub counted : length f.ends ≡ ring_size f.log
+  pub numbered : f.tx ≤ 2 ^ 32
+  pub open : f.is_open ≡ true → f.tx < 2 ^ 32
+  pub some : 1 ≤ f.tx
+  pub committed : f.commits < f.tx
+  pub noted : IfSome f.noted (λ n. (f.log.oldest ≤ n) × (n ≤ f.log.sealed))
+
+-- The open transaction may change the block in this way, where this is its present body: the block is in the grid and on the device, the bytes fit, no rival of the block
+-- was changed by the transaction, and the log has room.
+pub record MayChange (f : StoreFacts) (c : Block) (at : ℕ) (new : List ℕ) (present : Body) : Type 0 where
+  pub opened : f.is_open ≡ true
+  pub grid : is_in_grid c ≡ true
+  pub inside : c.first + sectors c.kind ≤ f.place.device
+  pub some : 0 < length new
+  pub fits : at + length new ≤ 512 * sectors c.kind
+  pub sized : HasSize c present
+  pub alone : (x : Block) → are_rivals c x ≡ true → f.before x ≡ None
+  pub room : MayAppendAll f.log f.tx f.last (change_acts f c at new present)

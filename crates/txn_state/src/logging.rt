@@ -1,0 +1,93 @@
+//! The log's steps.
+ghost use Rattle.std.specs.Prelude.{◌≡◌, ◌<◌, ◌≤◌, OnOk, OnErr};
+ghost use Rattle.fixup_record.specs.Protecting.{protected_bytes};
+ghost use Rattle.host_base.specs.Causes.{FailsByCause};
+ghost use Rattle.log_area.specs.Areas.{page_sector, held_page, made_page};
+ghost use Rattle.log_area.specs.Calls.{IsSentOrNot};
+ghost use Rattle.sector_device.specs.Moments.{moment_after, Syncs};
+ghost use Rattle.txn_model.specs.Calls.{sealed_facts, noted_facts, written_facts, durable_after, synced_facts};
+ghost use Rattle.txn_state.specs.States.{facts_of};
+
+use crate::noting::note;
+use crate::state::StoreState;
+use host_base::Failed;
+use sector_device::Device;
+use store_pools::settle;
+
+impl StoreState {
+    /// Seals the page of the log that is filled, if it has an entry.
+    pub fn seal(&mut self)
+        ensures { facts_of self.new ≡ sealed_facts (facts_of self.old) }
+    {
+        self.log.seal();
+    }
+
+    /// Begins a checkpoint: the page that is filled is sealed, the next one is noted, and with it
+    /// the blocks that are dirty, dead, or written since the last sync. It takes no memory, and
+    /// time linear in the marks.
+    pub fn begin_checkpoint(&mut self)
+        ensures { facts_of self.new ≡ noted_facts (facts_of self.old) }
+    {
+        self.log.seal();
+        self.noted = Some(self.log.filled_page());
+        note(&mut self.marks);
+    }
+
+    /// Writes the oldest sealed page of the log that wasn't written, after a read of its place
+    /// where it has no check word yet; a call after one that failed behind that writes the same
+    /// bytes.
+    ///
+    /// The error is a failure of the device: then the page is still to be written, and any of its
+    /// sectors may stand. At most two calls of the device.
+    pub fn write_page<D: Device>(&mut self, device: &mut D) -> Result<(), Failed>
+        requires some { self.old.log.done < self.old.log.sealed }
+        requires within { self.old.place.device ≤ D.sector_count device.old }
+        ensures ok { OnOk result (facts_of self.new ≡ written_facts (facts_of self.old)) }
+        ensures err { OnErr result (self.new ≡ record self.old { log = record self.old.log { check = self.new.log.check } }) }
+        ensures sent { IsSentOrNot D.gives D.changes_of D.moment_of self.old.log.check self.new.log.check (page_sector self.old.log self.old.log.done) (protected_bytes (made_page (held_page self.old.log self.old.log.done))) result device.old device.new }
+        ensures sectors { D.sector_count device.new ≡ D.sector_count device.old }
+        ensures cause { FailsByCause (D.fault_count device.old) (D.fault_count device.new) (D.moment_of device.new) result }
+    {
+        self.log.write_next(device)
+    }
+
+    // How many commits are known durable once what was written of the log is.
+    fn durable_after(&self) -> u64
+        ensures { result ≡ durable_after self.now.log self.now.ends self.now.durable }
+    {
+        let done = self.log.written_pages();
+        if self.log.durable_pages() == done {
+            return self.durable;
+        }
+        self.ends[self.log.slot(done - 1)]
+    }
+
+    /// Makes durable what was written. Dead bodies leave whose rivals' changes are durable by then,
+    /// and a checkpoint has ended whose restart page was written. It takes no memory, and time
+    /// near-linear in the marks and bodies.
+    ///
+    /// The error is a failure of the device; then nothing changes. One call of the device.
+    pub fn sync<D: Device>(&mut self, device: &mut D) -> Result<(), Failed>
+        ensures ok { OnOk result (facts_of self.new ≡ synced_facts (facts_of self.old)) }
+        ensures err { OnErr result (self.new ≡ self.old) }
+        ensures gives { D.gives device.new ≡ D.gives device.old }
+        ensures changes { Syncs (D.moment_of device.old) result (D.changes_of device.old) (D.changes_of device.new) }
+        ensures moment { D.moment_of device.new ≡ moment_after (D.moment_of device.old) }
+        ensures sectors { D.sector_count device.new ≡ D.sector_count device.old }
+        ensures cause { FailsByCause (D.fault_count device.old) (D.fault_count device.new) (D.moment_of device.new) result }
+    {
+        let durable = self.durable_after();
+        let ends_checkpoint = self.log.awaits_sync();
+        self.log.sync(device)?;
+        self.durable = durable;
+        if ends_checkpoint {
+            self.noted = None;
+        }
+        settle(
+            &mut self.bodies,
+            &mut self.marks,
+            self.log.durable_pages(),
+        );
+        Ok(())
+    }
+}
