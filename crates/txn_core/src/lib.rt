@@ -1,2 +1,13 @@
-//! A store of blocks over a device: transactions, and the steps that make them durable.
+//! A store of blocks over a device: transactions, and the steps that make them durable and write
+//! their blocks out.
+//!
+//! The contract: each call is an event of the pure machine behind the store, so that whatever a
+//! crash may leave at any moment recovers to a content of the store's window; and each failure has
+//! its cause.
 #![tactic(auto)]
+
+mod steps;
+mod store;
+mod transactions;
+
+pub use store::Store;

@@ -1,4 +1,4 @@
--- What each call that reaches the device does to a store's window.
+-- What each call does to a store's window.
 use Rattle.std.proofs.Common.{◌≡◌, ◌⊎◌, subst, ℕ, ◌+◌, ◌-◌, ◌*◌, ◌%◌, ◌^◌, ◌<◌, ◌≤◌, Bool, true, false, cond, ◌||◌, nat_eq, List, length, Option, Some, None, Result, Ok, Err, refl, sym, ap, ◌∙◌, inl, inr, arith}
 use Rattle.std.specs.Prelude.{IfSome, OnOk, OnErr, is_some}
 use Rattle.std.specs.Option.{option_map}
@@ -15,9 +15,14 @@ use Rattle.log_area.specs.Areas.{page_sector, held_page, made_page, IsWord}
 use Rattle.log_area.specs.Calls.{IsAsked, SentOrAsked, IsSentOrNot, sending_moment}
 use Rattle.store_model.specs.Volumes.{ContentWindow, sectors_from}
 use Rattle.txn_model.specs.Values.{StoreFacts}
-use Rattle.txn_model.specs.Calls.{is_ready, written_out_facts, sent_out_facts, again_facts}
-use Rattle.txn_laws.specs.Windows.{HasMachine, Simulates, AfterWrite, MovesTo}
-use Rattle.txn_laws.proofs.Telling.{by_read, sync_fails}
+use Rattle.log_model.specs.declared.entry.Act.TheVariants.{Commit}
+use Rattle.txn_model.specs.Pieces.{next_entry}
+use Rattle.txn_model.specs.Appending.{MayAppend}
+use Rattle.txn_model.specs.Calls.{begun_facts, committed_facts, given_up_facts, sealed_facts, is_ready, written_out_facts, sent_out_facts, again_facts}
+use Rattle.txn_laws.specs.Windows.{HasMachine, Simulates, AfterBegin, AfterCommit, AfterGiveUp, AfterWrite, MovesTo}
+use Rattle.txn_laws.proofs.Telling.{in_memory, by_read, sync_fails}
+use Rattle.txn_laws.proofs.Memory.{begins, seals_page, gives_up}
+use Rattle.txn_laws.proofs.Commits.{commits_now}
 use Rattle.txn_laws.proofs.PageWrites.{page_goes_out, page_goes_badly}
 use Rattle.txn_laws.proofs.Syncs.{is_synced}
 use Rattle.txn_laws.proofs.WriteOuts.{is_written_out, is_not_written_out}
@@ -28,6 +33,20 @@ use Rattle.device_blocks.specs.Words.{stood_check, next_word, known_word, IsFitW
 use Rattle.device_blocks.specs.Calls.{IsNextOf, IsPut, IsPutNow, PutOrAsked, IsPutOrNot, IsPutAgain, IsPutAgainOrNot}
 use Rattle.device_blocks.proofs.Pieces.{raw_sector}
 use Rattle.txn_core.specs.Calls.{page_facts, sync_facts, AfterSync, failed_out_facts, out_facts, WritesOut}
+
+-- ---- calls in memory
+
+pub begin_step : (count moment : ℕ) (changes : Changes) (f : StoreFacts) → f.is_open ≡ false → Simulates count moment changes changes f (begun_facts f) AfterBegin
+begin_step count moment changes f closed = in_memory count moment changes f _ _ refl refl (λ disk m is h. begins f disk m closed h)
+
+pub commit_step : (count moment : ℕ) (changes : Changes) (f : StoreFacts) → f.is_open ≡ true → MayAppend f.log (next_entry f.log f.tx f.last Commit) → Simulates count moment changes changes f (committed_facts f) AfterCommit
+commit_step count moment changes f opened may = in_memory count moment changes f _ _ refl refl (λ disk m is h. commits_now f disk m opened may h)
+
+pub give_up_step : (count moment : ℕ) (changes : Changes) (f : StoreFacts) → f.is_open ≡ true → Simulates count moment changes changes f (given_up_facts f) AfterGiveUp
+give_up_step count moment changes f opened = in_memory count moment changes f _ _ refl refl (λ disk m is h. gives_up f disk m opened h)
+
+pub seal_step : (count moment : ℕ) (changes : Changes) (f : StoreFacts) → Simulates count moment changes changes f (sealed_facts f) AfterWrite
+seal_step count moment changes f = in_memory count moment changes f _ _ refl refl (λ disk m is h. seals_page f disk m h)
 
 -- ---- pages of the log
 
