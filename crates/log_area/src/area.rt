@@ -142,6 +142,7 @@ impl LogArea {
     /// The number of the page that is filled: so many pages were sealed.
     pub fn filled_page(&self) -> u64
         ensures value { result ≡ self.now.sealed }
+        ensures small { result + 1 < 2 ^ 64 }
     {
         self.sealed
     }

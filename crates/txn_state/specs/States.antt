@@ -69,24 +69,37 @@ facts_of s = record {
 abbrev pub HasSize : Block → Body → Type 0
 HasSize b x = length x.bytes ≡ 512 * sectors b.kind
 
--- What is always so of a store. Blocks that have marks or bodies are in the grid, and those that have bodies on the device.
+-- What is always so of the bodies and marks of a store: a block has a body exactly where it is dirty or dead, one of two rivals at most is dirty, and what the open
+-- transaction changed is dirty. Blocks that have marks are in the grid, and those that have bodies on the device.
+pub record KeepsBlocks (device : ℕ) (body : Block → Option Body) (mark : Block → Mark) (before : Block → Option Body) : Type 0 where
+  pub kept : (b : Block) → is_some (body b) ≡ ((mark b).dirty || (mark b).dead)
+  pub apart : (b : Block) → (mark b).dead ≡ true → (mark b).dirty ≡ false
+  pub lone : (b c : Block) → are_rivals b c ≡ true → (mark b).dirty ≡ true → (mark c).dirty ≡ false
+  pub changed : (b : Block) → is_some (before b) ≡ true → (mark b).dirty ≡ true
+  pub marked : (b : Block) → is_in_grid b ≡ false → mark b ≡ no_mark
+  pub inside : (b : Block) → is_some (body b) ≡ true → b.first + sectors b.kind ≤ device
+  pub sized : (b : Block) → IfSome (body b) (HasSize b)
+  pub sized_before : (b : Block) → IfSome (before b) (HasSize b)
+
+-- Of its log: it lies where the place says, its places are counted, and a page that is noted was sealed before.
+pub record KeepsLog (place : LogPlace) (log : LogAreaOf) (ends : List ℕ) (noted : Option ℕ) : Type 0 where
+  pub pages_are : log.pages ≡ place.pages
+  pub sectors_are : log.sectors ≡ place.device
+  pub counted : length ends ≡ ring_size log
+  pub noted_page : IfSome noted (λ n. n ≤ log.sealed)
+
+-- Of its numbers: there are fewer than 2^32 transactions, and no more commits than those that ended.
+pub record KeepsNumbers (is_open : Bool) (tx commits : ℕ) : Type 0 where
+  pub some : 1 ≤ tx
+  pub numbered : tx ≤ 2 ^ 32
+  pub opened : is_open ≡ true → tx < 2 ^ 32
+  pub committed : commits < tx
+
+-- What is always so of a store.
 pub record IsStore (f : StoreFacts) : Type 0 where
-  pub pages : f.log.pages ≡ f.place.pages
-  pub sectors : f.log.sectors ≡ f.place.device
-  pub kept : (b : Block) → is_some (f.body b) ≡ ((f.mark b).dirty || (f.mark b).dead)
-  pub apart : (b : Block) → (f.mark b).dead ≡ true → (f.mark b).dirty ≡ false
-  pub lone : (b c : Block) → are_rivals b c ≡ true → (f.mark b).dirty ≡ true → (f.mark c).dirty ≡ false
-  pub changed : (b : Block) → is_some (f.before b) ≡ true → (f.mark b).dirty ≡ true
-  pub marked : (b : Block) → is_in_grid b ≡ false → f.mark b ≡ no_mark
-  pub inside : (b : Block) → is_some (f.body b) ≡ true → b.first + sectors b.kind ≤ f.place.device
-  pub sized : (b : Block) → IfSome (f.body b) (HasSize b)
-  pub sized_before : (b : Block) → IfSome (f.before b) (HasSize b)
-  pub counted : length f.ends ≡ ring_size f.log
-  pub numbered : f.tx ≤ 2 ^ 32
-  pub open : f.is_open ≡ true → f.tx < 2 ^ 32
-  pub some : 1 ≤ f.tx
-  pub committed : f.commits < f.tx
-  pub noted : IfSome f.noted (λ n. (f.log.oldest ≤ n) × (n ≤ f.log.sealed))
+  pub blocks : KeepsBlocks f.place.device f.body f.mark f.before
+  pub on_log : KeepsLog f.place f.log f.ends f.noted
+  pub numbers : KeepsNumbers f.is_open f.tx f.commits
 
 -- The open transaction may change the block in this way, where this is its present body: the block is in the grid and on the device, the bytes fit, no rival of the block
 -- was changed by the transaction, and the log has room.

@@ -1,5 +1,5 @@
 //! Bodies that a change keeps.
-ghost use Rattle.std.specs.Prelude.{◌≡◌, ◌+◌, ◌≤◌, Bool, false, IfOk, OnOk, OnErr, IsSome, length, unwrap_or, if◌then◌else◌};
+ghost use Rattle.std.specs.Prelude.{◌≡◌, ◌+◌, ◌≤◌, true, false, None, IfOk, OnOk, OnErr, IsSome, length, unwrap_or};
 ghost use Rattle.disk_model.specs.Bytes.{written};
 ghost use Rattle.block_pool.specs.Pools.{held};
 ghost use Rattle.store_pools.specs.Pools.{body_of_kept, bodies_of, marks_of};
@@ -38,7 +38,8 @@ fn keep_first(
     present: KeptBody,
 ) -> Result<bool, AllocError>
     ensures kept { OnOk result (bodies_of before.new ≡ put_at block (unwrap_or (bodies_of before.old block) (body_of_kept present)) (bodies_of before.old)) }
-    ensures first { IfOk result (λ first. if first then (held before.old block ≡ None) else (before.new ≡ before.old)) }
+    ensures first { IfOk result (λ first. first ≡ true → held before.old block ≡ None) }
+    ensures again { IfOk result (λ first. first ≡ false → before.new ≡ before.old) }
     ensures err { OnErr result (before.new ≡ before.old) }
 {
     if before.get(block).is_some() {

@@ -59,7 +59,7 @@ impl StoreState {
         if self.log.durable_pages() == done {
             return self.durable;
         }
-        self.ends[self.log.slot(done - 1)]
+        self.ends[self.log.slot(done.saturating_sub(1))]
     }
 
     /// Makes durable what was written. Dead bodies leave whose rivals' changes are durable by then,

@@ -1,5 +1,5 @@
 //! The rivals of a block.
-ghost use Rattle.std.specs.Prelude.{◌≡◌, ◌<◌, ◌≤◌, ◌+◌, ◌^◌, true, ◌∷◌, [], ◌++◌, None, get_or, length, map, if◌then◌else◌};
+ghost use Rattle.std.specs.Prelude.{◌≡◌, ◌<◌, ◌≤◌, ◌+◌, ◌/◌, ◌%◌, ◌^◌, true, ◌∷◌, [], ◌++◌, None, get_or, length, map, if◌then◌else◌};
 ghost use Rattle.std.specs.List.{list_any, range_with_len};
 ghost use Rattle.disk_model.specs.declared.block.Block.{Block as BlockOf};
 ghost use Rattle.disk_model.specs.Sectors.{same_block};

@@ -3,7 +3,7 @@ ghost use Rattle.std.specs.Prelude.{◌≡◌, IfOk, is_some};
 ghost use Rattle.std.specs.Option.{option_copied, option_map};
 ghost use Rattle.store_pools.specs.Pools.{body_of_kept};
 ghost use Rattle.txn_model.specs.Calls.{first_facts, is_ready};
-ghost use Rattle.txn_state.specs.States.{facts_of};
+ghost use Rattle.txn_state.specs.States.{facts_of, IsStore};
 
 use crate::marks::mark_of;
 use block_pool::Pool;
@@ -71,6 +71,13 @@ impl StoreState {
             ends,
             noted: None,
         })
+    }
+
+    /// Law: what is always so of a store.
+    pub fn is_kept(&self)
+        ensures { IsStore (facts_of self.now) }
+    {
+        let _ = &self.commits;
     }
 
     /// Where the log lies.
