@@ -58,7 +58,7 @@ sealed_named a = go (is_filling a)
 -- a give-up brings back bodies of blocks that have one
 pub given_up_worded : (f : StoreFacts) (words : List (Block × CheckWord)) → IsStore f → ((b : Block) → is_some (f.body b) ≡ true → is_some (held words b) ≡ true)
     → (b : Block) → is_some ((given_up_facts f).body b) ≡ true → is_some (held words b) ≡ true
-given_up_worded f words store worded b is = worded b (by_before (f.before b) (f.body b) (λ h. store.kept b ∙ ap (λ (v : Bool). v || (f.mark b).dead) (store.changed b h)) is)
+given_up_worded f words store worded b is = worded b (by_before (f.before b) (f.body b) (λ h. store.blocks.kept b ∙ ap (λ (v : Bool). v || (f.mark b).dead) (store.blocks.changed b h)) is)
   where
     by_before : (o p : Option Body) → (is_some o ≡ true → is_some p ≡ true) → is_some (option_or o p) ≡ true → is_some p ≡ true
     by_before (Some x) p has is = has refl

@@ -6,8 +6,10 @@
 //! its cause.
 #![tactic(auto)]
 
+mod changing;
 mod steps;
 mod store;
 mod transactions;
+mod writing;
 
 pub use store::Store;

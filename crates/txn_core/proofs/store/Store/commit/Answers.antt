@@ -8,7 +8,7 @@ use Rattle.txn_laws.specs.Windows.{AfterCommit}
 use Rattle.txn_core.specs.Seen.{Seen}
 use Rattle.txn_core.proofs.Calling.{commit_step}
 use Rattle.txn_core.proofs.Keeping.{step_of, stands_after, sealed_named, given_up_worded}
-use Rattle.txn_core.proofs.transactions.Store.commit.Goals as goal
+use Rattle.txn_core.proofs.store.Store.commit.Goals as goal
 
 pub returns-clause-step : goal.returns-clause-step
 returns-clause-step g c =

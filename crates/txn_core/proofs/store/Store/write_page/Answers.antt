@@ -8,17 +8,7 @@ use Rattle.txn_core.specs.Calls.{page_facts}
 use Rattle.txn_core.specs.Seen.{Seen}
 use Rattle.txn_core.proofs.Calling.{page_step}
 use Rattle.txn_core.proofs.Keeping.{step_of, facts_seen, stands_after, page_result, page_named, page_worded}
-use Rattle.txn_core.proofs.steps.Store.write_page.Goals as goal
-
-pub returns-clause-facts : goal.returns-clause-facts
-returns-clause-facts g c =
-    facts_seen (page_facts c.write_page.result c.write_page.new.self.log.check) (record { device = c.self.inside.device; state = c.self.inside.state; words = c.self.inside.words }) c.args.self.now c.write_page.new.self c.self.view_is
-    (page_result c.write_page.result c.self.inside.state c.write_page.new.self c.write_page.ensures.ok c.write_page.ensures.err)
-
-pub returns-clause-sent : goal.returns-clause-sent
-returns-clause-sent g c =
-    subst (λ (s : Seen _). IsSentOrNot g.D.Device.gives g.D.Device.changes_of g.D.Device.moment_of s.state.log.check c.write_page.new.self.log.check (page_sector s.state.log s.state.log.done) (protected_bytes (made_page (held_page s.state.log s.state.log.done))) c.write_page.result s.device c.write_page.new.device)
-    c.self.view_is c.write_page.ensures.sent
+use Rattle.txn_core.proofs.store.Store.write_page.Goals as goal
 
 pub returns-clause-step : goal.returns-clause-step
 returns-clause-step g c =

@@ -4,12 +4,7 @@ use Rattle.txn_core.specs.Calls.{sync_facts, AfterSync}
 use Rattle.txn_core.specs.Seen.{Seen}
 use Rattle.txn_core.proofs.Calling.{sync_step}
 use Rattle.txn_core.proofs.Keeping.{step_of, facts_seen, stands_after, sync_result, sync_named, sync_worded}
-use Rattle.txn_core.proofs.steps.Store.sync_device.Goals as goal
-
-pub returns-clause-facts : goal.returns-clause-facts
-returns-clause-facts g c =
-    facts_seen (sync_facts c.sync.result) (record { device = c.self.inside.device; state = c.self.inside.state; words = c.self.inside.words }) c.args.self.now c.sync.new.self c.self.view_is
-    (sync_result c.sync.result c.self.inside.state c.sync.new.self c.sync.ensures.ok c.sync.ensures.err)
+use Rattle.txn_core.proofs.store.Store.sync_device.Goals as goal
 
 pub returns-clause-step : goal.returns-clause-step
 returns-clause-step g c =
