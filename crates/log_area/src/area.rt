@@ -113,6 +113,7 @@ impl LogArea {
     pub fn slot(&self, number: u64) -> usize
         ensures value { result ≡ place_at self.now number }
         ensures inside { result < length self.now.ring }
+        ensures below { result < ring_size self.now }
     {
         (number % (self.pages - 4)) as usize
     }

@@ -13,7 +13,7 @@ use std::alloc::{AllocError, Global};
 /// The most bytes of one update.
 pub const MOST: usize = 1900;
 
-/// An update takes at most so many pieces.
+/// So many pieces have all bytes of any block.
 pub const PIECES: usize = 3;
 
 fn kind_number(kind: BlockKind) -> u16
@@ -76,7 +76,7 @@ fn cut_acts(
     let mut left = len;
     'pieces: for _ in 0..PIECES {
         if left > 0 {
-            let count = left.min(MOST);
+            let count = MOST.min(left);
             acts.push(piece_act(alloc, block, before, after, from, count)?)?;
             from += count;
             left -= count;

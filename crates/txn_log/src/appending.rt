@@ -1,5 +1,5 @@
 //! Entries of a transaction that are appended to the ring.
-ghost use Rattle.std.specs.Prelude.{◌≡◌, ◌∷◌, [], length, slice_set};
+ghost use Rattle.std.specs.Prelude.{◌≡◌, ◌<◌, ◌∷◌, [], length, slice_set};
 ghost use Rattle.log_model.specs.declared.entry.Act.TheVariants.{Commit};
 ghost use Rattle.log_area.specs.Areas.{ring_size, place_at, appended};
 ghost use Rattle.txn_model.specs.Pieces.{next_entry, log_with, last_of, ends_with};
@@ -7,6 +7,14 @@ ghost use Rattle.txn_model.specs.Appending.{MayAppend, MayAppendAll};
 
 use log_area::{Entry, LogArea};
 use log_model::Act;
+
+// Tells a place so many commits.
+fn tell(ends: &mut [u64], slot: usize, commits: u64)
+    requires { slot < length ends.old }
+    ensures { ends.new ≡ slice_set ends.old slot commits }
+{
+    ends[slot] = commits;
+}
 
 // Appends an entry, and tells the place of its page so many commits.
 fn append_act(
@@ -34,7 +42,7 @@ fn append_act(
     entry.lsn = lsn;
     let _ = area.append(&entry);
     let slot = area.slot(area.filled_page());
-    ends[slot] = commits;
+    tell(ends, slot, commits);
     lsn
 }
 

@@ -8,6 +8,10 @@
 
 mod acts;
 mod appending;
+mod counting;
+mod rivals;
 
 pub use acts::update_acts;
 pub use appending::{append_acts, append_commit};
+pub use counting::pages_for;
+pub use rivals::{rival, rival_count};

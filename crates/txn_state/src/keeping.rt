@@ -42,11 +42,13 @@ fn keep_first(
     ensures again { IfOk result (λ first. first ≡ false → before.new ≡ before.old) }
     ensures err { OnErr result (before.new ≡ before.old) }
 {
-    if before.get(block).is_some() {
-        return Ok(false);
+    match before.get(block) {
+        Some(_) => Ok(false),
+        None => {
+            before.put(block, present)?;
+            Ok(true)
+        }
     }
-    before.put(block, present)?;
-    Ok(true)
 }
 
 /// Keeps what a change makes of a block, `changed`, and what it was before the transaction, which is

@@ -39,10 +39,10 @@ pub fn mark_block(marks: &mut Pool<Mark>, block: Block) -> Result<(), AllocError
     ensures same { marks_of marks.new ≡ marks_of marks.old }
     ensures some { OnOk result (IsSome (held marks.new block)) }
 {
-    if marks.get(block).is_some() {
-        return Ok(());
+    match marks.get(block) {
+        Some(_) => Ok(()),
+        None => marks.put(block, NO_MARK),
     }
-    marks.put(block, NO_MARK)
 }
 
 /// Makes this the mark of a block that has one.
@@ -58,8 +58,11 @@ pub fn turn_at<F: Turns<Mark>>(marks: &mut Pool<Mark>, block: Block, change: &F)
     requires clean { F.turned change.now no_mark ≡ no_mark }
     ensures { marks_of marks.new ≡ turned_at (F.turned change.now) block (marks_of marks.old) }
 {
-    if let Some(mark) = marks.get(block) {
-        let mark = change.turn(mark);
-        marks.replace(block, mark);
+    match marks.get(block) {
+        Some(mark) => {
+            let mark = change.turn(mark);
+            marks.replace(block, mark);
+        }
+        None => {}
     }
 }
