@@ -50,6 +50,9 @@ seal_step count moment changes f = in_memory count moment changes f _ _ refl ref
 
 -- ---- pages of the log
 
+abbrev failing : Failed → Result (Unit {0}) Failed
+failing fault = Err fault
+
 same_check : (f : StoreFacts) (now : Option ℕ) → now ≡ f.log.check → record f { log = record f.log { check = now } } ≡ f
 same_check f now e = ap (λ (o : Option ℕ). record f { log = record f.log { check = o } }) e
 
@@ -59,7 +62,7 @@ asked_step gives changes moment count f old new asked = by_read count (moment ol
 
 page_failed : {D : Type 0} (gives : D → Option (List (List ℕ))) (changes : D → Changes) (moment : D → ℕ) (count : ℕ) (f : StoreFacts) (fault : Failed) (now : Option ℕ) (old new : D)
     → SeesDisk (gives old) (changes old).disk → IfSome (changes new).disk IsSized → f.log.done < f.log.sealed
-    → SentOrAsked gives changes moment f.log.check (page_sector f.log f.log.done) (protected_bytes (made_page (held_page f.log f.log.done))) (Err {A = Unit {0}} fault) old new now
+    → SentOrAsked gives changes moment f.log.check (page_sector f.log f.log.done) (protected_bytes (made_page (held_page f.log f.log.done))) (failing fault) old new now
     → Simulates count (moment old) (changes old) (changes new) f (record f { log = record f.log { check = now } }) AfterWrite
 page_failed gives changes moment count f fault (Some word) old new sees sized lt sent = page_goes_badly gives changes moment count f word old new sees sized lt fault sent
 page_failed gives changes moment count f fault None old new sees sized lt asked =

@@ -116,9 +116,15 @@ some_of (Some x) is = (x, refl)
 
 -- ---- the steps
 
+abbrev went_well : Result (Unit {0}) Failed
+went_well = Ok tt
+
+abbrev failing : Failed → Result (Unit {0}) Failed
+failing fault = Err fault
+
 sent_whole : {D : Type 0} (gives : D → Option (List (List ℕ))) (changes : D → Changes) (moment : D → ℕ) (count : ℕ) (f : StoreFacts) (b : Block) (x : Body) (word : CheckWord) (check : ℕ) (old new : D)
     → f.body b ≡ Some x → is_ready f b ≡ true → has_spelling b.kind x.bytes ≡ true → SeesDisk (gives old) (changes old).disk → IfSome (changes new).disk IsSized → IsFitWord word
-    → IsPut gives changes moment word b x.bytes check (Ok {E = Failed} tt) old new → Simulates count (moment old) (changes old) (changes new) f (written_out_facts b f) (MovesTo (are_rivals b))
+    → IsPut gives changes moment word b x.bytes check went_well old new → Simulates count (moment old) (changes old) (changes new) f (written_out_facts b f) (MovesTo (are_rivals b))
 sent_whole gives changes moment count f b x word check old new kept ready spells sees sized fit put =
     by_word (word_small word (gives old) b check fit put.chosen)
   where
@@ -129,7 +135,7 @@ sent_whole gives changes moment count f b x word check old new kept ready spells
 
 sent_badly : {D : Type 0} (gives : D → Option (List (List ℕ))) (changes : D → Changes) (moment : D → ℕ) (count : ℕ) (f : StoreFacts) (b : Block) (x : Body) (word now : CheckWord) (fault : Failed) (old new : D)
     → f.body b ≡ Some x → is_ready f b ≡ true → has_spelling b.kind x.bytes ≡ true → IfSome (changes new).disk IsSized
-    → PutOrAsked gives changes moment word b x.bytes (Err {A = Unit {0}} fault) old new now → Simulates count (moment old) (changes old) (changes new) f (failed_out_facts now b f) (MovesTo (are_rivals b))
+    → PutOrAsked gives changes moment word b x.bytes (failing fault) old new now → Simulates count (moment old) (changes old) (changes new) f (failed_out_facts now b f) (MovesTo (are_rivals b))
 sent_badly gives changes moment count f b x word (Sent check) fault old new kept ready spells sized put =
     is_not_written_out gives changes moment count (sending_moment (known_word word) (moment old)) check f b x old new kept ready spells sized (sends_later (known_word word) (moment old)) fault put.sends
 sent_badly gives changes moment count f b x word Unread fault old new kept ready spells sized asked = asked_moves gives changes moment count f (are_rivals b) old new asked.1
@@ -153,7 +159,7 @@ again_step gives changes moment count n f b x (Ok tt) old new kept ready bare se
     (same_sectors b.first (sectors b.kind) n bytes (gives old) whole again.same) sized (after_later (moment old)) again.sends)
 again_step gives changes moment count n f b x (Err fault) old new kept ready bare sees sized whole put = by_call put.failed
   where
-    by_call : IsAsked gives changes moment old new ⊎ ((bytes : List ℕ) × IsPutAgain gives changes moment b bytes (Err {A = Unit {0}} fault) old new) → Simulates count (moment old) (changes old) (changes new) f f (MovesTo (are_rivals b))
+    by_call : IsAsked gives changes moment old new ⊎ ((bytes : List ℕ) × IsPutAgain gives changes moment b bytes (failing fault) old new) → Simulates count (moment old) (changes old) (changes new) f f (MovesTo (are_rivals b))
     by_call (inl asked) = asked_moves gives changes moment count f (are_rivals b) old new asked
     by_call (inr put) =
         loosely count (moment old) (changes old) (changes new) f f (are_rivals b)

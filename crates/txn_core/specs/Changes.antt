@@ -54,16 +54,16 @@ pub record MayChangeNow (gives : Option (List (List ℕ))) (f : StoreFacts) (c :
 -- The change of the present body was made; or the transaction was given up.
 abbrev pub HasChanged : Result (Unit {0}) ViewFault → Option (List (List ℕ)) → (f g : StoreFacts) → Block → ℕ → List ℕ → Type 0
 HasChanged (Ok u) gives f g c at new = (x : Body) × IsPresent gives f c x × (g ≡ changed_facts c at new x f)
-HasChanged (Err fault) gives f g c at new = g ≡ given_up_facts f
+HasChanged (Err e) gives f g c at new = g ≡ given_up_facts f
 
 -- and the window after either
 abbrev pub AfterChanging : Result (Unit {0}) ViewFault → Block → ℕ → List ℕ → ContentWindow → ContentWindow → Type 0
 AfterChanging (Ok u) c at new = AfterChange c at new
-AfterChanging (Err fault) c at new = AfterGiveUp
+AfterChanging (Err e) c at new = AfterGiveUp
 
 -- What a change made of the state and of the words, where this was asked for the present body.
 abbrev pub IsDone : Result Present ViewFault → Result (Unit {0}) ViewFault → Block → ℕ → List ℕ → (f g : StoreFacts) → (old new : List (Block × CheckWord)) → Type 0
 IsDone (Ok p) (Ok u) c at bytes f g old new = (g ≡ changed_facts c at bytes (body_of_kept p.body) f) × (new ≡ with_block c p.word old)
-IsDone (Ok p) (Err fault) c at bytes f g old new = (fault ≡ Memory) × (g ≡ given_up_facts f) × ((new ≡ old) ⊎ (new ≡ with_block c p.word old))
-IsDone (Err e) (Err fault) c at bytes f g old new = (fault ≡ e) × (g ≡ given_up_facts f) × (new ≡ old)
-IsDone (Err e) (Ok u) c at bytes f g old new = ⊥
+IsDone (Ok p) (Err e) c at bytes f g old new = (e ≡ Memory) × (g ≡ given_up_facts f) × ((new ≡ old) ⊎ (new ≡ with_block c p.word old))
+IsDone (Err asked) (Err e) c at bytes f g old new = (e ≡ asked) × (g ≡ given_up_facts f) × (new ≡ old)
+IsDone (Err asked) (Ok u) c at bytes f g old new = ⊥

@@ -7,9 +7,11 @@
 #![tactic(auto)]
 
 mod changing;
+mod opening;
 mod steps;
 mod store;
 mod transactions;
 mod writing;
 
+pub use opening::open_log;
 pub use store::Store;

@@ -1,9 +1,16 @@
 //! A store on a device.
-ghost use Rattle.std.specs.Prelude.{◌≡◌};
+ghost use Rattle.std.specs.Prelude.{◌≡◌, ◌≤◌, None, Some};
+ghost use Rattle.disk_model.specs.Content.{content_of};
+ghost use Rattle.sector_device.specs.Disks.{Disk, seen};
+ghost use Rattle.txn_model.specs.Calls.{first_facts};
+ghost use Rattle.txn_state.specs.States.{facts_of};
+ghost use Rattle.txn_laws.specs.Windows.{HasStart};
+ghost use Rattle.txn_core.specs.Openings.{StartsThen};
 
 use block_pool::Pool;
 use device_blocks::CheckWord;
 use sector_device::Device;
+use std::alloc::Global;
 use std::marker::Model;
 use txn_state::StoreState;
 
@@ -27,6 +34,25 @@ impl<D: Device> Model for Store<D> {
 }
 
 impl<D: Device> Store<D> {
+    /// A store on a device, over a state at its start, whose log is the one of a session that was
+    /// opened there. It takes no memory.
+    pub fn on(alloc: Global, device: D, state: StoreState) -> Self
+        requires place { state.place.device ≤ D.sector_count device }
+        requires unnamed { state.log.named ≡ None }
+        requires first { facts_of state ≡ first_facts state.place state.log state.found }
+        requires starts { StartsThen D.changes_of state.place state.log device }
+        ensures device { result.device ≡ device }
+        ensures state { result.state ≡ state }
+        ensures starts { (disk : Disk) → (D.changes_of result.device).disk ≡ Some disk → HasStart (D.changes_of result.device) (facts_of result.state) (content_of (seen disk)) }
+    {
+        let words = Pool::new(alloc);
+        Store {
+            device,
+            state,
+            words,
+        }
+    }
+
     /// The device.
     pub fn device(&self) -> &D
         ensures { result.now ≡ self.now.device }
