@@ -208,13 +208,17 @@ module _ (device : ℕ) (body : Block → Option Body) (mark : Block → Mark) (
     own_free : (c : Block) → same_block c b ≡ true → is_some (before c) ≡ false
     own_free c e = ap (λ (x : Block). is_some (before x)) (same_block-is c b e) ∙ free
 
+    abbrev now_written : Block → Option Body
+    now_written c = cond (same_block c b || are_rivals b c) None (body c)
+
+    abbrev now_sent : Block → Option Body
+    now_sent c = cond (are_rivals b c) None (body c)
+
     pub written_out_blocks : KeepsBlocks device (λ c. cond (same_block c b || are_rivals b c) None (body c)) (written_out_marks b mark) before
     written_out_blocks =
-        moved device body now mark (written_out_marks b mark) before before k at (λ c off. off_is (written_at c) c (are_rivals b c) off) (λ c e. e) (λ c. cond_none c (same_block c b || are_rivals b c) (body c) (k.sized c)) k.sized_before
+        moved device body now_written mark (written_out_marks b mark) before before k at (λ c off. off_is (written_at c) c (are_rivals b c) off) (λ c e. e) (λ c. cond_none c (same_block c b || are_rivals b c) (body c) (k.sized c)) k.sized_before
       where
-        abbrev now : Block → Option Body
-        now c = cond (same_block c b || are_rivals b c) None (body c)
-        at : (c : Block) → StaysAt body now mark (written_out_marks b mark) c ⊎ LeavesAt now (written_out_marks b mark) before c
+        at : (c : Block) → StaysAt body now_written mark (written_out_marks b mark) c ⊎ LeavesAt now_written (written_out_marks b mark) before c
         at c = elim (cases_Bool (same_block c b)) [
           | inl e ↦ inr (record {
             gone = ap (λ (t : Bool). is_some (cond (t || are_rivals b c) None (body c))) e;
@@ -239,11 +243,9 @@ module _ (device : ℕ) (body : Block → Option Body) (mark : Block → Mark) (
 
     pub sent_out_blocks : KeepsBlocks device (λ c. cond (are_rivals b c) None (body c)) (sent_out_marks b mark) before
     sent_out_blocks =
-        moved device body now mark (sent_out_marks b mark) before before k at (λ c off. off_is (sent_at c) c (are_rivals b c) off) (λ c e. e) (λ c. cond_none c (are_rivals b c) (body c) (k.sized c)) k.sized_before
+        moved device body now_sent mark (sent_out_marks b mark) before before k at (λ c off. off_is (sent_at c) c (are_rivals b c) off) (λ c e. e) (λ c. cond_none c (are_rivals b c) (body c) (k.sized c)) k.sized_before
       where
-        abbrev now : Block → Option Body
-        now c = cond (are_rivals b c) None (body c)
-        at : (c : Block) → StaysAt body now mark (sent_out_marks b mark) c ⊎ LeavesAt now (sent_out_marks b mark) before c
+        at : (c : Block) → StaysAt body now_sent mark (sent_out_marks b mark) c ⊎ LeavesAt now_sent (sent_out_marks b mark) before c
         at c = elim (cases_Bool (same_block c b)) [
           | inl e ↦ inl (record {
             there = ap (λ (u : Bool). is_some (cond u None (body c))) (same_no_rival c b e);

@@ -1,6 +1,9 @@
-pub mod Bools
 pub mod Blocks
+pub mod Bools
 pub mod Changes
+pub mod Facts
+pub mod Marking
 pub mod OnLog
 pub mod Sharing
+pub mod Stores
 pub mod Turning

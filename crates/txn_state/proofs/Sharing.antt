@@ -110,12 +110,10 @@ joined_all P [] ys here there = there
 joined_all P (x ∷ xs) ys here there = (here.0, joined_all P xs ys here.1 there)
 
 all_rivals : (kind : BlockKind) (f : ℕ) → may_begin kind f ≡ true → AreEach (λ x. are_rivals (record { first = f; kind = kind }) x ≡ true) (rivals_of (record { first = f; kind = kind }))
-all_rivals Plain f grid = (both_lt f (2 * (f / 2) + 2) (2 * (f / 2)) (f + 1) (omega arith) (omega arith), both_lt f (8 * (f / 8) + 8) (8 * (f / 8)) (f + 1) (omega arith) (omega arith), tt)
+all_rivals Plain f grid = (both_lt f (2 * (f / 2) + 2) (2 * (f / 2)) (f + 1) (omega arith) (omega arith), (both_lt f (8 * (f / 8) + 8) (8 * (f / 8)) (f + 1) (omega arith) (omega arith), tt))
 all_rivals FileRec f grid = (
   both_lt f (f + 1) f (f + 2) (omega arith) (omega arith),
-  both_lt f (f + 1 + 1) (f + 1) (f + 2) (omega arith) (omega arith),
-  both_lt f (8 * (f / 8) + 8) (8 * (f / 8)) (f + 2) (omega arith) (omega arith),
-  tt,
+  (both_lt f (f + 1 + 1) (f + 1) (f + 2) (omega arith) (omega arith), (both_lt f (8 * (f / 8) + 8) (8 * (f / 8)) (f + 2) (omega arith) (omega arith), tt)),
 )
 all_rivals Index f grid =
     joined_all (λ x. are_rivals (record { first = f; kind = Index }) x ≡ true) (map plain_at (range_with_len f 8)) (map record_at (range_with_len (f / 2) 4)) (plains_meet f f 8 (omega arith) (omega arith))

@@ -95,8 +95,8 @@ impl StoreState {
             acts,
         );
         let until = self.log.filled_page() + 1;
-        turn_rivals(&mut self.marks, block, &Ousted { until });
         mark_changed(&mut self.marks, block, until);
+        turn_rivals(&mut self.marks, block, &Ousted { until });
         Ok(())
     }
 

@@ -1,5 +1,5 @@
 //! The log's steps.
-ghost use Rattle.std.specs.Prelude.{◌≡◌, ◌<◌, ◌≤◌, OnOk, OnErr};
+ghost use Rattle.std.specs.Prelude.{◌≡◌, ◌<◌, ◌≤◌, None, OnOk, OnErr, is_some, if◌then◌else◌};
 ghost use Rattle.fixup_record.specs.Protecting.{protected_bytes};
 ghost use Rattle.host_base.specs.Causes.{FailsByCause};
 ghost use Rattle.log_area.specs.Areas.{page_sector, held_page, made_page};
@@ -62,6 +62,16 @@ impl StoreState {
         self.ends[self.log.slot(done.saturating_sub(1))]
     }
 
+    // The page that is noted once what was written of the log is durable.
+    fn noted_after(&self) -> Option<u64>
+        ensures { result ≡ (if is_some self.now.log.named then None else self.now.noted) }
+    {
+        match self.log.awaits_sync() {
+            true => None,
+            false => self.noted,
+        }
+    }
+
     /// Makes durable what was written. Dead bodies leave whose rivals' changes are durable by then,
     /// and a checkpoint has ended whose restart page was written. It takes no memory, and time
     /// near-linear in the marks and bodies.
@@ -77,12 +87,10 @@ impl StoreState {
         ensures cause { FailsByCause (D.fault_count device.old) (D.fault_count device.new) (D.moment_of device.new) result }
     {
         let durable = self.durable_after();
-        let ends_checkpoint = self.log.awaits_sync();
+        let noted = self.noted_after();
         self.log.sync(device)?;
         self.durable = durable;
-        if ends_checkpoint {
-            self.noted = None;
-        }
+        self.noted = noted;
         settle(
             &mut self.bodies,
             &mut self.marks,

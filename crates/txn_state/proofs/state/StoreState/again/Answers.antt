@@ -1,0 +1,39 @@
+use Rattle.std.proofs.Common.{◌≡◌, ℕ, ◌+◌, suc, Bool, true, false, List, Some, None, length, refl, sym, ap, ap₂, subst, ◌∙◌}
+use Rattle.std.specs.Prelude.{◌||◌}
+use Rattle.disk_model.specs.declared.block.Body.{Body}
+use Rattle.log_model.specs.declared.entry.Act.{Act}
+use Rattle.log_area.specs.Areas.{LogAreaOf, ring_size}
+use Rattle.store_pools.specs.declared.kept.KeptBody.{KeptBody}
+use Rattle.store_pools.specs.Pools.{body_of_kept, bodies_of, marks_of}
+use Rattle.txn_model.specs.declared.mark.Mark.{Mark}
+use Rattle.txn_model.specs.Values.{put_at, take_at}
+use Rattle.txn_model.specs.Pieces.{ends_with, last_of, log_with}
+use Rattle.txn_model.specs.Calls.{again_facts}
+use Rattle.txn_state.specs.States.{StateOf, state_of, facts_of, IsStore, MayChange}
+use Rattle.txn_state.proofs.Facts.{same_facts, one_more, out_marks}
+use Rattle.txn_state.proofs.Turning.{taken_bodies}
+use Rattle.txn_state.proofs.Marking.{marks_changed, sent_of, written_of, still_marked, sent_marks, written_marks, sent_bodies, written_bodies}
+use Rattle.txn_state.proofs.Stores.{ready_parts, again_keeps}
+use Rattle.txn_state.proofs.state.StoreState.again.Goals as goal
+
+pub invariant_of-self : goal.invariant_of-self
+invariant_of-self c =
+    let a = c.self.inside in
+    let f = facts_of (state_of a.place a.log a.found.items a.bodies a.marks a.before a.is_open a.tx a.last a.commits a.durable a.ends.items a.noted) in
+    let dirty = subst (λ (s : StateOf). ((facts_of s).mark c.args.block).dirty ≡ true) (sym c.self.view_is) c.requires.dirty in
+    let free = subst (λ (s : StateOf). (facts_of s).before c.args.block ≡ None) (sym c.self.view_is) c.requires.free in
+    let bodies = ap bodies_of c.take.ensures.rest ∙ taken_bodies c.args.block a.bodies in
+    let made = c.written_mark-mark.ensures ∙ ap (λ (m : Mark). written_of m.owed m) c.mark_of-mark.ensures in
+    let marks = out_marks (λ (m : Mark). written_of m.owed m) c.args.block c.written_mark-mark.result (marks_of a.marks) (marks_of a.marks) (marks_of c.set_mark.new.marks) made c.set_mark.ensures in
+    subst IsStore (sym (same_facts _ _ _ _ _ _ _ _ _ _ _ _ _ _ _ _ _ _ _ _ _ _ _ refl bodies marks refl refl refl refl refl refl refl)) (again_keeps f c.args.block c.self.invariant dirty free)
+
+pub returns : goal.returns
+returns c =
+    let a = c.self.inside in
+    let f = facts_of (state_of a.place a.log a.found.items a.bodies a.marks a.before a.is_open a.tx a.last a.commits a.durable a.ends.items a.noted) in
+    let dirty = subst (λ (s : StateOf). ((facts_of s).mark c.args.block).dirty ≡ true) (sym c.self.view_is) c.requires.dirty in
+    let free = subst (λ (s : StateOf). (facts_of s).before c.args.block ≡ None) (sym c.self.view_is) c.requires.free in
+    let bodies = ap bodies_of c.take.ensures.rest ∙ taken_bodies c.args.block a.bodies in
+    let made = c.written_mark-mark.ensures ∙ ap (λ (m : Mark). written_of m.owed m) c.mark_of-mark.ensures in
+    let marks = out_marks (λ (m : Mark). written_of m.owed m) c.args.block c.written_mark-mark.result (marks_of a.marks) (marks_of a.marks) (marks_of c.set_mark.new.marks) made c.set_mark.ensures in
+    same_facts _ _ _ _ _ _ _ _ _ _ _ _ _ _ _ _ _ _ _ _ _ _ _ refl bodies marks refl refl refl refl refl refl refl ∙ ap (λ (s : StateOf). again_facts c.args.block (facts_of s)) c.self.view_is

@@ -1,0 +1,47 @@
+use Rattle.std.proofs.Common.{◌≡◌, ℕ, ◌+◌, suc, Bool, true, false, List, Some, length, refl, sym, ap, ap₂, subst, ◌∙◌}
+use Rattle.std.specs.Prelude.{◌||◌}
+use Rattle.disk_model.specs.declared.block.Body.{Body}
+use Rattle.log_model.specs.declared.entry.Act.{Act}
+use Rattle.log_area.specs.Areas.{LogAreaOf, ring_size}
+use Rattle.store_pools.specs.declared.kept.KeptBody.{KeptBody}
+use Rattle.store_pools.specs.Pools.{body_of_kept, bodies_of, marks_of}
+use Rattle.txn_model.specs.declared.mark.Mark.{Mark}
+use Rattle.txn_model.specs.Values.{put_at, take_at}
+use Rattle.txn_model.specs.Pieces.{ends_with, last_of, log_with}
+use Rattle.txn_model.specs.Calls.{is_ready, sent_out_facts}
+use Rattle.txn_state.specs.States.{StateOf, state_of, facts_of, IsStore, MayChange}
+use Rattle.txn_state.proofs.Facts.{same_facts, one_more, out_marks}
+use Rattle.txn_state.proofs.Turning.{taken_bodies}
+use Rattle.txn_state.proofs.Marking.{marks_changed, sent_of, written_of, still_marked, sent_marks, written_marks, sent_bodies, written_bodies}
+use Rattle.txn_state.proofs.Stores.{ready_parts, sent_out_keeps}
+use Rattle.txn_state.proofs.state.StoreState.sent_out.Goals as goal
+
+pub set_mark-requires : goal.set_mark-requires
+set_mark-requires c =
+    let a = c.self.inside in
+    let f = facts_of (state_of a.place a.log a.found.items a.bodies a.marks a.before a.is_open a.tx a.last a.commits a.durable a.ends.items a.noted) in
+    let ready = subst (λ (s : StateOf). is_ready (facts_of s) c.args.block ≡ true) (sym c.self.view_is) c.requires.ready in
+    let dirty = (ready_parts f c.args.block ready).0 in
+    record { some = still_marked f c.self.invariant c.args.block dirty c.turn_rivals.new.marks c.turn_rivals.ensures }
+
+pub invariant_of-self : goal.invariant_of-self
+invariant_of-self c =
+    let a = c.self.inside in
+    let f = facts_of (state_of a.place a.log a.found.items a.bodies a.marks a.before a.is_open a.tx a.last a.commits a.durable a.ends.items a.noted) in
+    let ready = subst (λ (s : StateOf). is_ready (facts_of s) c.args.block ≡ true) (sym c.self.view_is) c.requires.ready in
+    let dirty = (ready_parts f c.args.block ready).0 in
+    let made = c.sent_mark-mark.ensures ∙ ap₂ (λ (m : Mark) (n : Bool). sent_of n m) c.mark_of-mark.ensures c.is_noted.ensures in
+    let marks = sent_marks f c.self.invariant c.args.block dirty c.sent_mark-mark.result (marks_of c.turn_rivals.new.marks) (marks_of c.set_mark.new.marks) c.turn_rivals.ensures made c.set_mark.ensures in
+    let bodies = sent_bodies f c.self.invariant c.args.block dirty (bodies_of c.drop_rivals.new.bodies) c.drop_rivals.ensures in
+    subst IsStore (sym (same_facts _ _ _ _ _ _ _ _ _ _ _ _ _ _ _ _ _ _ _ _ _ _ _ refl bodies marks refl refl refl refl refl refl refl)) (sent_out_keeps f c.args.block c.self.invariant ready)
+
+pub returns : goal.returns
+returns c =
+    let a = c.self.inside in
+    let f = facts_of (state_of a.place a.log a.found.items a.bodies a.marks a.before a.is_open a.tx a.last a.commits a.durable a.ends.items a.noted) in
+    let ready = subst (λ (s : StateOf). is_ready (facts_of s) c.args.block ≡ true) (sym c.self.view_is) c.requires.ready in
+    let dirty = (ready_parts f c.args.block ready).0 in
+    let made = c.sent_mark-mark.ensures ∙ ap₂ (λ (m : Mark) (n : Bool). sent_of n m) c.mark_of-mark.ensures c.is_noted.ensures in
+    let marks = sent_marks f c.self.invariant c.args.block dirty c.sent_mark-mark.result (marks_of c.turn_rivals.new.marks) (marks_of c.set_mark.new.marks) c.turn_rivals.ensures made c.set_mark.ensures in
+    let bodies = sent_bodies f c.self.invariant c.args.block dirty (bodies_of c.drop_rivals.new.bodies) c.drop_rivals.ensures in
+    same_facts _ _ _ _ _ _ _ _ _ _ _ _ _ _ _ _ _ _ _ _ _ _ _ refl bodies marks refl refl refl refl refl refl refl ∙ ap (λ (s : StateOf). sent_out_facts c.args.block (facts_of s)) c.self.view_is

@@ -1,0 +1,51 @@
+use Rattle.std.proofs.Common.{◌≡◌, ℕ, ◌+◌, suc, Bool, true, false, cond, List, Option, Some, None, length, refl, sym, ap, ap₂, subst, ◌∙◌}
+use Rattle.std.specs.Prelude.{◌||◌, is_some}
+use Rattle.disk_model.specs.declared.block.Block.{Block}
+use Rattle.disk_model.specs.declared.block.Body.{Body}
+use Rattle.log_model.specs.declared.entry.Act.{Act}
+use Rattle.log_area.specs.Areas.{LogAreaOf, ring_size}
+use Rattle.store_pools.specs.declared.kept.KeptBody.{KeptBody}
+use Rattle.store_pools.specs.Pools.{body_of_kept, bodies_of, marks_of}
+use Rattle.txn_model.specs.declared.mark.Mark.{Mark}
+use Rattle.txn_model.specs.Values.{put_at, take_at}
+use Rattle.txn_model.specs.Pieces.{ends_with, last_of, log_with}
+use Rattle.txn_model.specs.Calls.{is_buried, synced_mark, durable_after, synced_facts}
+use Rattle.txn_state.specs.States.{StateOf, state_of, facts_of, IsStore, MayChange}
+use Rattle.txn_state.proofs.Facts.{same_facts, one_more, out_marks}
+use Rattle.txn_state.proofs.Turning.{taken_bodies}
+use Rattle.txn_state.proofs.Marking.{marks_changed, sent_of, written_of, still_marked, sent_marks, written_marks, sent_bodies, written_bodies}
+use Rattle.txn_state.proofs.Stores.{ready_parts, synced_keeps}
+use Rattle.txn_state.proofs.state.StoreState.sync.Goals as goal
+
+abbrev buried : ℕ → (Block → Mark) → (Block → Option Body) → Block → Option Body
+buried n mark body b = cond (is_buried n (mark b)) None (body b)
+
+abbrev settled : ℕ → (Block → Mark) → Block → Mark
+settled n mark b = synced_mark n (mark b)
+
+abbrev noted_then : Option ℕ → Option ℕ → Option ℕ
+noted_then named noted = cond (is_some named) None noted
+
+pub invariant_of-self-2 : goal.invariant_of-self-2
+invariant_of-self-2 g c =
+    let a = c.self.inside in
+    let f = facts_of (state_of a.place a.log a.found.items a.bodies a.marks a.before a.is_open a.tx a.last a.commits a.durable a.ends.items a.noted) in
+    let log = c.in_ok-sync.ensures.ok in
+    let pages = c.durable_pages.ensures.value ∙ ap (λ (l : LogAreaOf). l.synced) log in
+    let bodies = c.settle.ensures.bodies ∙ ap (λ (n : ℕ). buried n (marks_of a.marks) (bodies_of a.bodies)) pages in
+    let marks = c.settle.ensures.marks ∙ ap (λ (n : ℕ). settled n (marks_of a.marks)) pages in
+    let durable = c.durable_after-durable.ensures ∙ ap (λ (s : StateOf). durable_after s.log s.ends s.durable) (sym c.self.view_is) in
+    let noted = c.noted_after-noted.ensures ∙ ap (λ (s : StateOf). noted_then s.log.named s.noted) (sym c.self.view_is) in
+    subst IsStore (sym (same_facts _ _ _ _ _ _ _ _ _ _ _ _ _ _ _ _ _ _ _ _ _ _ _ log bodies marks refl refl refl refl durable refl noted)) (synced_keeps f c.self.invariant)
+
+pub returns-clause-ok : goal.returns-clause-ok
+returns-clause-ok g c =
+    let a = c.self.inside in
+    let f = facts_of (state_of a.place a.log a.found.items a.bodies a.marks a.before a.is_open a.tx a.last a.commits a.durable a.ends.items a.noted) in
+    let log = c.in_ok-sync.ensures.ok in
+    let pages = c.durable_pages.ensures.value ∙ ap (λ (l : LogAreaOf). l.synced) log in
+    let bodies = c.settle.ensures.bodies ∙ ap (λ (n : ℕ). buried n (marks_of a.marks) (bodies_of a.bodies)) pages in
+    let marks = c.settle.ensures.marks ∙ ap (λ (n : ℕ). settled n (marks_of a.marks)) pages in
+    let durable = c.durable_after-durable.ensures ∙ ap (λ (s : StateOf). durable_after s.log s.ends s.durable) (sym c.self.view_is) in
+    let noted = c.noted_after-noted.ensures ∙ ap (λ (s : StateOf). noted_then s.log.named s.noted) (sym c.self.view_is) in
+    same_facts _ _ _ _ _ _ _ _ _ _ _ _ _ _ _ _ _ _ _ _ _ _ _ log bodies marks refl refl refl refl durable refl noted ∙ ap (λ (s : StateOf). synced_facts (facts_of s)) c.self.view_is
