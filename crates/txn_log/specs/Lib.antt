@@ -1,2 +1,3 @@
 pub mod Counts
 pub mod Counting
+pub mod Laws

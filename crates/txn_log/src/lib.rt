@@ -9,9 +9,11 @@
 mod acts;
 mod appending;
 mod counting;
+mod laws;
 mod rivals;
 
 pub use acts::update_acts;
 pub use appending::{append_acts, append_commit};
 pub use counting::pages_for;
+pub use laws::pages_are_enough;
 pub use rivals::{rival, rival_count};

@@ -2,7 +2,7 @@
 use Rattle.std.proofs.Common.{◌≡◌, subst, ℕ, ◌+◌, ◌-◌, ◌*◌, ◌/◌, ◌%◌, ◌<◌, ◌≤◌, zero, suc, Bool, true, false, List, [], ◌∷◌, ◌++◌, map, refl, sym, ap, ◌∙◌, inl, inr, arith}
 use Rattle.std.specs.Prelude.{◌&&◌, ◌||◌, nat_lt}
 use Rattle.std.specs.List.{list_any, range_with_len}
-use Rattle.std.proofs.lemmas.Bool.{cases_Bool, cases_lt, eqb-true, ltb-true, lt-ltb}
+use Rattle.std.proofs.lemmas.Bool.{cases_lt, eqb-true, ltb-true, lt-ltb}
 use Rattle.std.proofs.lemmas.List.Folds.{list_any_at}
 use Rattle.std.proofs.lemmas.List.FromFn.{length-map-range_with_len, get_or-map-range_with_len}
 use Rattle.disk_model.specs.declared.block.Block.{Block}
@@ -16,7 +16,7 @@ use Rattle.std.proofs.lemmas.Bool.Decides.{nat_tests}
 use Rattle.block_pool.specs.Numbers.{block_number}
 use Rattle.block_pool.proofs.Ordering.{order_equal}
 use Rattle.txn_model.specs.Calls.{plain_at, record_at, index_at, rivals_of}
-use Rattle.txn_state.proofs.Bools.{true≢false, clash, and_left, and_right, both_ways}
+use Rattle.txn_state.proofs.Bools.{true≢false, and_left, and_right, both_ways}
 
 -- one of a few blocks passes the test
 first_of : (test : Block → Bool) (b c : Block) (bs : List Block) → c ≡ b → test c ≡ true → list_any test (b ∷ bs) ≡ true
