@@ -8,7 +8,7 @@ use Rattle.sector_device.specs.Moments.{Changes}
 use Rattle.log_page.specs.declared.places.LogPlace.{LogPlace}
 use Rattle.log_page.specs.Places.{lap_of, page_of, is_in_ring, sequence_bits}
 use Rattle.log_reading.specs.Rings.{IsRingPlace}
-use Rattle.log_area.specs.Areas.{LogAreaOf, new_area, lap_at, next_number, number_of, IsOldest, named_area, synced_area}
+use Rattle.log_area.specs.Areas.{LogAreaOf, new_area, lap_at, next_number, next_lsn, number_of, IsOldest, named_area, synced_area}
 use Rattle.ring_laws.specs.Numbers.{LogSession}
 use Rattle.ring_laws.proofs.Numbering.{says_lap, says_page, says_ring}
 use Rattle.ring_laws.proofs.RingFacts.{has_ring, log_small}
@@ -70,3 +70,18 @@ opens_then gives changes moment place lies lap restart opens oldest old new is s
     opens_log gives changes moment place found lap restart opens on.ring on.restarts on.fields first.0 false named.word old named.mid new first.1 sees sized on.stands
     (named_first place lies lap restart opens oldest first.0 on is small laps few)
     (subst (λ (n : ℕ). SendsRestart gives changes moment (new_area place lap restart opens) n false named.word (Ok tt) old named.mid) is named.sends) named.syncs
+
+-- the place of the next commit of a new session is the front of its first page
+pub oldest_is : (place : LogPlace) (lies : IsRingPlace place) (lap restart opens n : ℕ) (a : LogAreaOf) → a ≡ new_area place lap restart opens → lap < 2 ^ sequence_bits place.pages
+    → (lap_at a (next_number a 0x58) < 2 ^ sequence_bits a.pages → n ≡ next_lsn a 0x58) → n ≡ first_lsn place lap restart opens
+oldest_is place lies lap restart opens n a is small exact =
+    let there : lap_at (new_area place lap restart opens) (next_number (new_area place lap restart opens) 0x58) < 2 ^ sequence_bits place.pages → n ≡ next_lsn (new_area place lap restart opens) 0x58
+    = subst (λ (b : LogAreaOf). lap_at b (next_number b 0x58) < 2 ^ sequence_bits b.pages → n ≡ next_lsn b 0x58) is exact in
+    there (first_lap place lies lap restart opens small)
+
+pub oldest_place : (place : LogPlace) (lies : IsRingPlace place) (lap restart opens n : ℕ) (a : LogAreaOf) → a ≡ new_area place lap restart opens → n ≡ first_lsn place lap restart opens → IsOldest a n
+oldest_place place lies lap restart opens n a is first =
+    subst (λ (b : LogAreaOf). IsOldest b n) (sym is) (subst (λ (m : ℕ). IsOldest (new_area place lap restart opens) m) (sym first) (first_oldest place lies lap restart opens))
+
+pub remainder_small : (n m : ℕ) → n ≡ m % 2 ^ 64 → n < 2 ^ 64
+remainder_small n m is = omega (arith, is)

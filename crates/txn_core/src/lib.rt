@@ -7,6 +7,7 @@
 #![tactic(auto)]
 
 mod changing;
+mod counting;
 mod opening;
 mod steps;
 mod store;

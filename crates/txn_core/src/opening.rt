@@ -1,5 +1,5 @@
 //! A session is opened on a log without entries.
-ghost use Rattle.std.specs.Prelude.{◌≡◌, ◌≤◌, ◌<◌, ◌^◌, ℕ, None, IfOk, IfSome, OnOk};
+ghost use Rattle.std.specs.Prelude.{◌≡◌, ◌≤◌, ◌<◌, ◌^◌, None, IfOk, IfSome, OnOk};
 ghost use Rattle.device_view.specs.Devices.{CountsOnDevice};
 ghost use Rattle.host_base.specs.Causes.{FailsByCause};
 ghost use Rattle.log_page.specs.Places.{sequence_bits};
@@ -14,7 +14,7 @@ use host_base::{Failed, Memory};
 use log_area::LogArea;
 use log_page::LogPlace;
 use sector_device::Device;
-use std::alloc::Global;
+use std::alloc::{AllocError, Global};
 
 // The ring of a new session.
 fn start_area(
@@ -23,18 +23,17 @@ fn start_area(
     lap: u64,
     restart: u32,
     opens: u32,
-) -> Result<LogArea, ViewFault>
+) -> Result<LogArea, AllocError>
     requires ring { IsRingPlace place.now }
     requires begun { 1 ≤ lap }
     requires lap { lap < 2 ^ sequence_bits place.now.pages }
     requires restart { restart ≤ 1 }
     requires opens { opens ≤ 2 ^ 31 }
     ensures area { IfOk result (λ log. log ≡ new_area place.now lap restart opens) }
-    ensures cause { (faults moment : ℕ) → CountsOnDevice view_cause faults faults moment result }
 {
     match LogArea::start(alloc, place, lap, restart, opens) {
         Ok(log) => Ok(log),
-        Err(Memory) => Err(ViewFault::Memory),
+        Err(Memory) => Err(AllocError),
     }
 }
 
