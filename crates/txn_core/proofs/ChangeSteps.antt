@@ -68,8 +68,8 @@ pub changing_step : (count moment : ℕ) (old now : Changes) (gives : Option (Li
     → now ≡ old → MayChangeNow gives f c at new → SeesDisk gives old.disk → IfOk asked (IsFound gives f c words) → IsDone asked result c at new f g words left → Simulates count moment old now f g (AfterChanging result c at new)
 changing_step count moment old now gives f g c at new words left (Ok p) (Ok tt) same may sees found done =
     moved count moment old now f g (changed_facts c at new (body_of_kept p.body) f) (Ok tt) c at new same done.0 (change_step count moment old gives f c at new (body_of_kept p.body) may found.1 found.0 sees)
-changing_step count moment old now gives f g c at new words left (Ok p) (Err fault) same may sees found done = moved count moment old now f g (given_up_facts f) (Err fault) c at new same done.1 (give_up_step count moment old f may.opened)
-changing_step count moment old now gives f g c at new words left (Err e) (Err fault) same may sees found done = moved count moment old now f g (given_up_facts f) (Err fault) c at new same done.1 (give_up_step count moment old f may.opened)
+changing_step count moment old now gives f g c at new words left (Ok p) (Err why) same may sees found done = moved count moment old now f g (given_up_facts f) (Err why) c at new same done.1 (give_up_step count moment old f may.opened)
+changing_step count moment old now gives f g c at new words left (Err e) (Err why) same may sees found done = moved count moment old now f g (given_up_facts f) (Err why) c at new same done.1 (give_up_step count moment old f may.opened)
 changing_step count moment old now gives f g c at new words left (Err e) (Ok tt) same may sees found done = absurd done
 
 -- ---- what contracts see
@@ -77,22 +77,22 @@ changing_step count moment old now gives f g c at new words left (Err e) (Ok tt)
 pub has_changed : (gives : Option (List (List ℕ))) (f g : StoreFacts) (c : Block) (at : ℕ) (new : List ℕ) (words left : List (Block × CheckWord)) (asked : Result Present ViewFault) (result : Result (Unit {0}) ViewFault)
     → IfOk asked (IsFound gives f c words) → IsDone asked result c at new f g words left → HasChanged result gives f g c at new
 has_changed gives f g c at new words left (Ok p) (Ok tt) found done = (body_of_kept p.body, found.0, done.0)
-has_changed gives f g c at new words left (Ok p) (Err fault) found done = done.1
-has_changed gives f g c at new words left (Err e) (Err fault) found done = done.1
+has_changed gives f g c at new words left (Ok p) (Err why) found done = done.1
+has_changed gives f g c at new words left (Err e) (Err why) found done = done.1
 has_changed gives f g c at new words left (Err e) (Ok tt) found done = absurd done
 
 pub word_is_put : (gives : Option (List (List ℕ))) (f g : StoreFacts) (c : Block) (at : ℕ) (new : List ℕ) (words left : List (Block × CheckWord)) (asked : Result Present ViewFault) (result : Result (Unit {0}) ViewFault)
     → IfOk asked (IsFound gives f c words) → IsDone asked result c at new f g words left → OnOk result (WordIsPut gives f c words left)
 word_is_put gives f g c at new words left (Ok p) (Ok tt) found done = record { word = p.word; fit = found.2; put = done.1; changed = found.3; read = found.4 }
-word_is_put gives f g c at new words left (Ok p) (Err fault) found done = tt
-word_is_put gives f g c at new words left (Err e) (Err fault) found done = tt
+word_is_put gives f g c at new words left (Ok p) (Err why) found done = tt
+word_is_put gives f g c at new words left (Err e) (Err why) found done = tt
 word_is_put gives f g c at new words left (Err e) (Ok tt) found done = absurd done
 
 pub change_cause : (before now moment : ℕ) (f g : StoreFacts) (c : Block) (at : ℕ) (new : List ℕ) (words left : List (Block × CheckWord)) (asked : Result Present ViewFault) (result : Result (Unit {0}) ViewFault)
     → IsDone asked result c at new f g words left → CountsOnDevice view_cause before now moment asked → CountsOnDevice view_cause before now moment result
 change_cause before now moment f g c at new words left (Ok p) (Ok tt) done cause = cause
-change_cause before now moment f g c at new words left (Ok p) (Err fault) done cause = subst (λ (e : ViewFault). CountsCauseOnDevice before now moment (view_cause e)) (sym done.0) cause
-change_cause before now moment f g c at new words left (Err e) (Err fault) done cause = subst (λ (e : ViewFault). CountsCauseOnDevice before now moment (view_cause e)) (sym done.0) cause
+change_cause before now moment f g c at new words left (Ok p) (Err why) done cause = subst (λ (e : ViewFault). CountsCauseOnDevice before now moment (view_cause e)) (sym done.0) cause
+change_cause before now moment f g c at new words left (Err e) (Err why) done cause = subst (λ (e : ViewFault). CountsCauseOnDevice before now moment (view_cause e)) (sym done.0) cause
 change_cause before now moment f g c at new words left (Err e) (Ok tt) done cause = absurd done
 
 -- ---- what is always so
@@ -105,8 +105,8 @@ pub changing_named : (f g : StoreFacts) (c : Block) (at : ℕ) (new : List ℕ) 
     → IsDone asked result c at new f g words left → f.log.named ≡ None → g.log.named ≡ None
 changing_named f g c at new words left (Ok p) (Ok tt) done unnamed =
     ap (λ (h : StoreFacts). h.log.named) done.0 ∙ log_named f.log f.tx f.last (change_acts f c at new (body_of_kept p.body)) ∙ unnamed
-changing_named f g c at new words left (Ok p) (Err fault) done unnamed = ap (λ (h : StoreFacts). h.log.named) done.1 ∙ unnamed
-changing_named f g c at new words left (Err e) (Err fault) done unnamed = ap (λ (h : StoreFacts). h.log.named) done.1 ∙ unnamed
+changing_named f g c at new words left (Ok p) (Err why) done unnamed = ap (λ (h : StoreFacts). h.log.named) done.1 ∙ unnamed
+changing_named f g c at new words left (Err e) (Err why) done unnamed = ap (λ (h : StoreFacts). h.log.named) done.1 ∙ unnamed
 changing_named f g c at new words left (Err e) (Ok tt) done unnamed = absurd done
 
 held_is : (left words : List (Block × CheckWord)) (c b : Block) (word : CheckWord) → left ≡ with_block c word words → held left b ≡ cond (same_block b c) (Some word) (held words b)
@@ -129,9 +129,9 @@ pub changing_worded : (f g : StoreFacts) (c : Block) (at : ℕ) (new : List ℕ)
 changing_worded f g c at new words left (Ok p) (Ok tt) store done worded b is =
     ap (λ (o : Option CheckWord). is_some o) (held_is left words c b p.word done.1)
     ∙ by_both (same_block b c) _ p.word (f.body b) (held words b) (worded b) (ap (λ (h : StoreFacts). is_some (h.body b)) (sym done.0) ∙ is)
-changing_worded f g c at new words left (Ok p) (Err fault) store done worded b is =
+changing_worded f g c at new words left (Ok p) (Err why) store done worded b is =
     left_worded words left c p.word done.2 b (given_up_worded f words store worded b (ap (λ (h : StoreFacts). is_some (h.body b)) (sym done.1) ∙ is))
-changing_worded f g c at new words left (Err e) (Err fault) store done worded b is =
+changing_worded f g c at new words left (Err e) (Err why) store done worded b is =
     ap (λ (ws : List (Block × CheckWord)). is_some (held ws b)) done.2 ∙ given_up_worded f words store worded b (ap (λ (h : StoreFacts). is_some (h.body b)) (sym done.1) ∙ is)
 changing_worded f g c at new words left (Err e) (Ok tt) store done worded b is = absurd done
 
@@ -145,12 +145,12 @@ put_fit words left c b word is here fit = subst (λ (o : Option CheckWord). IfSo
 pub changing_fit : (gives : Option (List (List ℕ))) (f g : StoreFacts) (c : Block) (at : ℕ) (new : List ℕ) (words left : List (Block × CheckWord)) (asked : Result Present ViewFault) (result : Result (Unit {0}) ViewFault)
     → IfOk asked (IsFound gives f c words) → IsDone asked result c at new f g words left → ((b : Block) → IfSome (held words b) IsFitWord) → (b : Block) → IfSome (held left b) IsFitWord
 changing_fit gives f g c at new words left (Ok p) (Ok tt) found done fit b = put_fit words left c b p.word done.1 found.2 (fit b)
-changing_fit gives f g c at new words left (Ok p) (Err fault) found done fit b = by_left done.2
+changing_fit gives f g c at new words left (Ok p) (Err why) found done fit b = by_left done.2
   where
     by_left : (left ≡ words) ⊎ (left ≡ with_block c p.word words) → IfSome (held left b) IsFitWord
     by_left (inl is) = subst (λ (ws : List (Block × CheckWord)). IfSome (held ws b) IsFitWord) (sym is) (fit b)
     by_left (inr is) = put_fit words left c b p.word is found.2 (fit b)
-changing_fit gives f g c at new words left (Err e) (Err fault) found done fit b = subst (λ (ws : List (Block × CheckWord)). IfSome (held ws b) IsFitWord) (sym done.2) (fit b)
+changing_fit gives f g c at new words left (Err e) (Err why) found done fit b = subst (λ (ws : List (Block × CheckWord)). IfSome (held ws b) IsFitWord) (sym done.2) (fit b)
 changing_fit gives f g c at new words left (Err e) (Ok tt) found done fit b = absurd done
 
 pub is_found : (gives : Option (List (List ℕ))) (f : StoreFacts) (c : Block) (words : List (Block × CheckWord)) (asked : Result Present ViewFault) → IfOk asked (λ p. IsPresent gives f c (body_of_kept p.body)) → IfOk asked (λ p. HasSize c (body_of_kept p.body))

@@ -198,6 +198,14 @@ impl<D: Device> Store<D> {
     {
         self.state.known();
         let asked = find_present(&mut self.device, &self.state, &self.words, alloc, block);
-        change_asked(&mut self.state, &mut self.words, alloc, block, at, new, asked)
+        change_asked(
+            &mut self.state,
+            &mut self.words,
+            alloc,
+            block,
+            at,
+            new,
+            asked,
+        )
     }
 }

@@ -38,11 +38,7 @@ fn start_area(
 }
 
 // Names the oldest place in a restart page, and syncs.
-fn name_and_sync<D: Device>(
-    log: &mut LogArea,
-    device: &mut D,
-    oldest: u64,
-) -> Result<(), Failed>
+fn name_and_sync<D: Device>(log: &mut LogArea, device: &mut D, oldest: u64) -> Result<(), Failed>
     requires synced { log.old.named ≡ None }
     requires place { IsOldest log.old oldest }
     requires lap { lap_at log.old (next_number log.old 0x58) < 2 ^ sequence_bits log.old.pages }
