@@ -21,7 +21,7 @@ use Rattle.txn_model.specs.Values.{no_mark, put_at, take_at}
 use Rattle.txn_model.specs.Calls.{rivals_of, noted_mark}
 use Rattle.txn_state.specs.Turning.{turned_at, turned_all}
 use Rattle.txn_state.proofs.Bools.{clash}
-use Rattle.txn_state.proofs.Sharing.{same_self, among_is}
+use Rattle.txn_log.proofs.Sharing.{same_self, among_is}
 
 -- ---- pools, by blocks
 
