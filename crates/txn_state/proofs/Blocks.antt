@@ -1,18 +1,18 @@
 -- What a store keeps of bodies and marks, call by call.
-use Rattle.std.proofs.Common.{◌≡◌, ◌⊎◌, ℕ, ◌+◌, ◌*◌, ◌≤◌, Bool, true, false, not, cond, length, Option, Some, None, refl, sym, ap, ap₂, subst, ◌∙◌, inl, inr}
+use Rattle.std.proofs.Common.{◌≡◌, ◌⊎◌, ℕ, Bool, true, false, not, cond, Option, Some, None, refl, sym, ap, ap₂, ◌∙◌, inl, inr}
 use Rattle.std.specs.Prelude.{◌&&◌, ◌||◌, nat_le, is_some, IfSome}
 use Rattle.std.specs.Option.{option_or}
 use Rattle.std.proofs.lemmas.Bool.{cases_Bool}
 use Rattle.disk_model.specs.declared.block.Block.{Block}
 use Rattle.disk_model.specs.declared.block.Body.{Body}
-use Rattle.disk_model.specs.Sectors.{sectors, same_block, are_rivals}
+use Rattle.disk_model.specs.Sectors.{same_block, are_rivals}
 use Rattle.disk_model.proofs.Frames.{same_block-is}
 use Rattle.log_model.specs.Logs.{is_in_grid}
 use Rattle.txn_model.specs.declared.mark.Mark.{Mark}
 use Rattle.txn_model.specs.Values.{no_mark, take_at}
 use Rattle.txn_model.specs.Calls.{committed_marks, given_up_marks, noted_mark, is_buried, synced_mark, is_noted, written_out_marks, sent_out_marks}
 use Rattle.txn_state.specs.States.{HasSize, KeepsBlocks}
-use Rattle.txn_state.proofs.Bools.{true≢false, clash, and_left, and_true, and_false, unless, none_there, same_no_rival}
+use Rattle.txn_state.proofs.Bools.{true≢false, clash, and_left, and_true, and_false, unless, same_no_rival}
 
 -- A block stays as it was, or its body leaves and nothing more is said of it.
 pub record StaysAt (body now : Block → Option Body) (mark marks : Block → Mark) (b : Block) : Type 0 where
@@ -58,6 +58,7 @@ moved device body now mark marks before later k at clear fewer size size_before 
       | inl s ↦ sym s.dirty_is ∙ e
       | inr l ↦ clash (marks b).dirty e l.clean
     ]
+
     cleared : (b : Block) → (mark b).dirty ≡ false → (marks b).dirty ≡ false
     cleared b e = elim (at b) [
       | inl s ↦ s.dirty_is ∙ e
@@ -101,6 +102,7 @@ module _ (device : ℕ) (body : Block → Option Body) (mark : Block → Mark) (
       same_dirty : (t : Bool) (m : Mark) → (cond t (record m { commit = n }) m).dirty ≡ m.dirty
       same_dirty true m = refl
       same_dirty false m = refl
+
       same_dead : (t : Bool) (m : Mark) → (cond t (record m { commit = n }) m).dead ≡ m.dead
       same_dead true m = refl
       same_dead false m = refl

@@ -1,6 +1,6 @@
 -- Truth values, blocks that are the same, and rivals.
-use Rattle.std.proofs.Common.{◌≡◌, ℕ, ◌+◌, Bool, true, false, not, cond, Option, Some, None, refl, sym, ap, ap₂, ◌∙◌}
-use Rattle.std.specs.Prelude.{◌&&◌, ◌||◌, nat_lt, is_some}
+use Rattle.std.proofs.Common.{◌≡◌, ◌+◌, Bool, true, false, not, refl, sym, ap, ap₂, ◌∙◌}
+use Rattle.std.specs.Prelude.{◌&&◌, ◌||◌, nat_lt}
 use Rattle.disk_model.specs.declared.block.Block.{Block}
 use Rattle.disk_model.specs.declared.block.BlockKind.{BlockKind}
 use Rattle.disk_model.specs.declared.block.BlockKind.TheVariants.{Plain, FileRec, Index}
@@ -17,10 +17,6 @@ clash t is not_is = true≢false (sym is ∙ not_is)
 pub and_left : (u v : Bool) → (u && v) ≡ true → u ≡ true
 and_left true v e = refl
 and_left false v e = true≢false (sym e)
-
-pub and_right : (u v : Bool) → (u && v) ≡ true → v ≡ true
-and_right true v e = e
-and_right false v e = true≢false (sym e)
 
 pub and_comm : (u v : Bool) → (u && v) ≡ (v && u)
 and_comm true true = refl
@@ -46,20 +42,10 @@ pub or_false : (u : Bool) → (u || false) ≡ u
 or_false true = refl
 or_false false = refl
 
--- one follows from the other, and the other from it
-pub both_ways : (u v : Bool) → (u ≡ true → v ≡ true) → (v ≡ true → u ≡ true) → u ≡ v
-both_ways true v there back = sym (there refl)
-both_ways false true there back = back refl
-both_ways false false there back = refl
-
 -- what isn't true is false
 pub unless : (t : Bool) → (t ≡ true → true ≡ false) → t ≡ false
 unless true never = never refl
 unless false never = refl
-
-pub none_there : {X : Type 0} (o : Option X) → is_some o ≡ false → o ≡ None
-none_there (Some x) e = true≢false e
-none_there None e = refl
 
 -- ---- blocks
 

@@ -1,6 +1,6 @@
 -- What a store keeps of bodies and marks once a block was changed.
-use Rattle.std.proofs.Common.{◌≡◌, ◌⊎◌, ℕ, ◌+◌, ◌≤◌, Bool, true, false, not, cond, Option, Some, None, refl, sym, ap, ap₂, subst, ◌∙◌, inl, inr}
-use Rattle.std.specs.Prelude.{◌&&◌, ◌||◌, is_some, IfSome, unwrap_or}
+use Rattle.std.proofs.Common.{◌≡◌, ◌⊎◌, ℕ, ◌+◌, ◌≤◌, Bool, true, false, cond, Option, Some, None, refl, sym, ap, ap₂, subst, ◌∙◌, inl, inr}
+use Rattle.std.specs.Prelude.{◌||◌, is_some, IfSome, unwrap_or}
 use Rattle.std.proofs.lemmas.Bool.{cases_Bool}
 use Rattle.disk_model.specs.declared.block.Block.{Block}
 use Rattle.disk_model.specs.declared.block.Body.{Body}
@@ -8,10 +8,10 @@ use Rattle.disk_model.specs.Sectors.{sectors, same_block, are_rivals}
 use Rattle.disk_model.proofs.Frames.{same_block-is}
 use Rattle.log_model.specs.Logs.{is_in_grid}
 use Rattle.txn_model.specs.declared.mark.Mark.{Mark}
-use Rattle.txn_model.specs.Values.{no_mark, put_at}
+use Rattle.txn_model.specs.Values.{put_at}
 use Rattle.txn_model.specs.Calls.{changed_mark, rival_mark, changed_marks}
 use Rattle.txn_state.specs.States.{HasSize, KeepsBlocks}
-use Rattle.txn_state.proofs.Bools.{true≢false, clash, or_comm, rivals_turn, same_no_rival}
+use Rattle.txn_state.proofs.Bools.{clash, or_comm, rivals_turn, same_no_rival}
 
 -- the mark of a block after a change: of the block itself, of a rival, and of another one
 abbrev pub mark_by : ℕ → Mark → Bool → Bool → Mark

@@ -4,6 +4,5 @@ pub mod Changes
 pub mod Facts
 pub mod Marking
 pub mod OnLog
-pub mod Sharing
 pub mod Stores
 pub mod Turning

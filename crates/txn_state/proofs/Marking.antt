@@ -1,6 +1,6 @@
 -- The marks and bodies of a store once a block was changed, or written out.
-use Rattle.std.proofs.Common.{◌≡◌, ℕ, suc, ◌+◌, ◌-◌, ◌<◌, Bool, true, false, cond, List, get_or, length, Option, Some, None, refl, sym, ap, ap₂, subst, ◌∙◌}
-use Rattle.std.specs.Prelude.{◌||◌, ◌==◌, is_some, IsSome, unwrap_or, slice_index}
+use Rattle.std.proofs.Common.{◌≡◌, ℕ, ◌-◌, ◌<◌, Bool, true, false, cond, List, get_or, length, Option, Some, None, refl, sym, ap, ◌∙◌}
+use Rattle.std.specs.Prelude.{◌||◌, ◌==◌, IsSome, unwrap_or, slice_index}
 use Rattle.std.proofs.Math.Path.{fun_ext}
 use Rattle.std.proofs.lemmas.Bool.{eqb-true}
 use Rattle.std.proofs.lemmas.List.{get_or_default}
@@ -15,7 +15,7 @@ use Rattle.store_pools.specs.Pools.{marks_of}
 use Rattle.txn_model.specs.declared.mark.Mark.{Mark}
 use Rattle.txn_model.specs.Values.{no_mark, StoreFacts, take_at}
 use Rattle.txn_model.specs.Calls.{changed_mark, rival_mark, changed_marks, is_noted, written_out_marks, sent_out_marks, durable_after, rivals_of}
-use Rattle.txn_state.specs.States.{KeepsBlocks, IsStore}
+use Rattle.txn_state.specs.States.{IsStore}
 use Rattle.txn_state.specs.Turning.{turned_all}
 use Rattle.txn_state.proofs.Bools.{true≢false, or_false, unless, no_rival_of_itself, same_no_rival}
 use Rattle.txn_state.proofs.Turning.{rivals_turned, rivals_left, without_all}
@@ -84,10 +84,13 @@ marks_changed mark kept own now c until next grid clear same own_is now_is is =
   where
     first : Block → Mark
     first b = cond (same_block b c) (changed_mark until (mark b)) (mark b)
+
     own_mark : own ≡ first
     own_mark = own_is ∙ ap (λ (g : Block → Mark). (λ (b : Block). cond (same_block b c) (changed_mark until (g b)) (g b))) same
+
     apart : (b : Block) → is_in_grid b ≡ false → same_block b c ≡ false
     apart b e = unless (same_block b c) (λ own_block. sym grid ∙ ap is_in_grid (sym (same_block-is b c own_block)) ∙ e)
+
     off : (b : Block) → is_in_grid b ≡ false → first b ≡ no_mark
     off b e = ap (λ (t : Bool). cond t (changed_mark until (mark b)) (mark b)) (apart b e) ∙ clear b e
 

@@ -1,6 +1,6 @@
 -- Marks and bodies of the rivals of a block, one after the other.
-use Rattle.std.proofs.Common.{◌≡◌, ℕ, suc, ◌+◌, ◌<◌, ◌≤◌, Bool, true, false, cond, List, [], ◌∷◌, length, drop, get_or, Option, Some, None, Result, Ok, Err, refl, sym, ap, ap₂, subst, ◌∙◌, inl, inr}
-use Rattle.std.specs.Prelude.{◌||◌, is_some, unwrap_or, OnOk, OnErr, IsSome}
+use Rattle.std.proofs.Common.{◌≡◌, ℕ, ◌+◌, ◌<◌, ◌≤◌, Bool, true, false, cond, List, [], ◌∷◌, length, drop, get_or, Option, Some, None, Result, Ok, Err, refl, sym, ap, subst, ◌∙◌, inl, inr}
+use Rattle.std.specs.Prelude.{◌||◌, unwrap_or, OnOk, OnErr, IsSome}
 use Rattle.std.specs.List.{list_any}
 use Rattle.std.specs.Option.{option_map}
 use Rattle.std.proofs.Math.Path.{fun_ext}
@@ -19,10 +19,9 @@ use Rattle.store_pools.proofs.Pools.{held_without, held_with, marks_with}
 use Rattle.txn_model.specs.declared.mark.Mark.{Mark}
 use Rattle.txn_model.specs.Values.{no_mark, put_at, take_at}
 use Rattle.txn_model.specs.Calls.{rivals_of, noted_mark}
-use Rattle.txn_state.specs.States.{KeepsBlocks}
 use Rattle.txn_state.specs.Turning.{turned_at, turned_all}
 use Rattle.txn_state.proofs.Bools.{clash}
-use Rattle.txn_state.proofs.Sharing.{same_self, among_is}
+use Rattle.txn_log.proofs.Sharing.{same_self, among_is}
 
 -- ---- pools, by blocks
 

@@ -1,5 +1,5 @@
 -- Marks of blocks that are changed one after the other.
-use Rattle.std.specs.Prelude.{Bool, if◌then◌else◌, List, [], ◌∷◌}
+use Rattle.std.specs.Prelude.{if◌then◌else◌, List, [], ◌∷◌}
 use Rattle.disk_model.specs.declared.block.Block.{Block}
 use Rattle.disk_model.specs.Sectors.{same_block}
 use Rattle.txn_model.specs.declared.mark.Mark.{Mark}

@@ -60,7 +60,15 @@ impl StoreState {
             None => present.bytes.as_slice(),
         };
         let imaged = self.mark(block).imaged;
-        update_acts(alloc, imaged, block, at, new, before, present.bytes.as_slice())
+        update_acts(
+            alloc,
+            imaged,
+            block,
+            at,
+            new,
+            before,
+            present.bytes.as_slice(),
+        )
     }
 
     // The change, or want of memory, and then the store's facts are as they were.
@@ -104,9 +112,9 @@ impl StoreState {
     /// body, which is `present`. What it logs is appended to the log, dirty rivals of the block are
     /// dead, and the body is kept.
     ///
-    /// The error is want of memory, which comes before anything is appended: then the transaction is
-    /// given up. Logarithmic in the number of blocks that have marks or bodies, and linear in the
-    /// body.
+    /// The error is want of memory, which comes before anything is appended: then the transaction
+    /// is given up. Logarithmic in the number of blocks that have marks or bodies, and linear in
+    /// the body.
     pub fn change(
         &mut self,
         alloc: Global,

@@ -51,9 +51,9 @@ fn keep_first(
     }
 }
 
-/// Keeps what a change makes of a block, `changed`, and what it was before the transaction, which is
-/// `present` where that didn't change it yet; and sees to it that the block has a mark. The error is
-/// want of memory; then the same bodies are kept as before, and the same is marked.
+/// Keeps what a change makes of a block, `changed`, and what it was before the transaction, which
+/// is `present` where that didn't change it yet; and sees to it that the block has a mark. The
+/// error is want of memory; then the same bodies are kept as before, and the same is marked.
 pub fn keep(
     bodies: &mut Pool<KeptBody>,
     before: &mut Pool<KeptBody>,

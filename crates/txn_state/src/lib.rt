@@ -8,6 +8,7 @@
 mod changing;
 mod ending;
 mod keeping;
+mod knowing;
 mod logging;
 mod marks;
 mod noting;

@@ -91,11 +91,7 @@ impl StoreState {
         self.log.sync(device)?;
         self.durable = durable;
         self.noted = noted;
-        settle(
-            &mut self.bodies,
-            &mut self.marks,
-            self.log.durable_pages(),
-        );
+        settle(&mut self.bodies, &mut self.marks, self.log.durable_pages());
         Ok(())
     }
 }

@@ -1,5 +1,5 @@
 //! Marks of blocks, one at a time.
-ghost use Rattle.std.specs.Prelude.{◌≡◌, Bool, IsSome, OnOk, if◌then◌else◌};
+ghost use Rattle.std.specs.Prelude.{◌≡◌, IsSome, OnOk, if◌then◌else◌};
 ghost use Rattle.disk_model.specs.Sectors.{same_block};
 ghost use Rattle.block_pool.specs.Pools.{held, with_block};
 ghost use Rattle.store_pools.specs.Pools.{marks_of};

@@ -87,8 +87,8 @@ impl StoreState {
         drop_rivals(&mut self.bodies, block);
     }
 
-    /// A dirty block that no open transaction changed was written as it stands on the disk. It takes
-    /// no memory, and time logarithmic in the number of marks and bodies.
+    /// A dirty block that no open transaction changed was written as it stands on the disk. It
+    /// takes no memory, and time logarithmic in the number of marks and bodies.
     pub fn again(&mut self, block: Block)
         requires dirty { ((facts_of self.old).mark block).dirty ≡ true }
         requires free { (facts_of self.old).before block ≡ None }

@@ -1,107 +1,18 @@
 //! The rivals of a block.
-ghost use Rattle.std.specs.Prelude.{◌≡◌, ◌<◌, ◌≤◌, ◌+◌, ◌/◌, ◌%◌, ◌^◌, true, ◌∷◌, [], ◌++◌, None, get_or, length, map, if◌then◌else◌};
-ghost use Rattle.std.specs.List.{list_any, range_with_len};
-ghost use Rattle.disk_model.specs.declared.block.Block.{Block as BlockOf};
+ghost use Rattle.std.specs.Prelude.{◌≡◌, true, None, if◌then◌else◌};
+ghost use Rattle.std.specs.List.{list_any};
 ghost use Rattle.disk_model.specs.Sectors.{same_block};
 ghost use Rattle.log_model.specs.Logs.{is_in_grid};
 ghost use Rattle.store_pools.specs.Pools.{bodies_of, marks_of};
-ghost use Rattle.txn_model.specs.declared.mark.Mark.{Mark as MarkOf};
-ghost use Rattle.txn_model.specs.Calls.{plain_at, record_at, index_at, rivals_of};
+ghost use Rattle.txn_model.specs.Calls.{rivals_of};
 ghost use Rattle.txn_model.specs.Values.{no_mark};
 ghost use Rattle.txn_state.specs.Turning.{turned_all};
 
 use crate::marks::{mark_of, turn_at};
 use block_pool::{Pool, Turns};
-use disk_model::{Block, BlockKind};
+use disk_model::Block;
 use store_pools::{KeptBody, Mark};
-
-fn plain_at(first: u64) -> Block
-    ensures { result ≡ plain_at first }
-{
-    Block {
-        first,
-        kind: BlockKind::Plain,
-    }
-}
-
-fn record_at(n: u64) -> Block
-    requires { n < 2 ^ 63 }
-    ensures { result ≡ record_at n }
-{
-    Block {
-        first: 2 * n,
-        kind: BlockKind::FileRec,
-    }
-}
-
-fn index_at(n: u64) -> Block
-    requires { n < 2 ^ 61 }
-    ensures { result ≡ index_at n }
-{
-    Block {
-        first: 8 * n,
-        kind: BlockKind::Index,
-    }
-}
-
-fn rival_of_plain(first: u64, k: u64) -> Block
-    requires { k < 2 }
-    ensures { (d : BlockOf) → result ≡ get_or (record_at (first / 2) ∷ index_at (first / 8) ∷ []) k d }
-{
-    if k == 0 {
-        record_at(first / 2)
-    } else {
-        index_at(first / 8)
-    }
-}
-
-fn rival_of_record(first: u64, k: u64) -> Block
-    requires inside { k < 3 }
-    requires grid { first % 2 ≡ 0 }
-    ensures value { (d : BlockOf) → result ≡ get_or (plain_at first ∷ plain_at (first + 1) ∷ index_at (first / 8) ∷ []) k d }
-{
-    if k < 2 {
-        plain_at(first + k)
-    } else {
-        index_at(first / 8)
-    }
-}
-
-fn rival_of_index(first: u64, k: u64) -> Block
-    requires inside { k < 12 }
-    requires grid { first % 8 ≡ 0 }
-    ensures value { (d : BlockOf) → result ≡ get_or (map plain_at (range_with_len first 8) ++ map record_at (range_with_len (first / 2) 4)) k d }
-{
-    if k < 8 {
-        plain_at(first + k)
-    } else {
-        record_at(first / 2 + (k - 8))
-    }
-}
-
-// How many rivals a block has that begin where their kind may.
-fn rival_count(block: Block) -> u64
-    ensures { result ≡ length (rivals_of block) }
-{
-    match block.kind {
-        BlockKind::Plain => 2,
-        BlockKind::FileRec => 3,
-        BlockKind::Index => 12,
-    }
-}
-
-// One of them.
-fn rival(block: Block, k: u64) -> Block
-    requires inside { k < length (rivals_of block) }
-    requires grid { is_in_grid block ≡ true }
-    ensures { (d : BlockOf) → result ≡ get_or (rivals_of block) k d }
-{
-    match block.kind {
-        BlockKind::Plain => rival_of_plain(block.first, k),
-        BlockKind::FileRec => rival_of_record(block.first, k),
-        BlockKind::Index => rival_of_index(block.first, k),
-    }
-}
+use txn_log::{rival, rival_count};
 
 /// Changes the marks of the rivals of a block that begin where their kind may.
 pub fn turn_rivals<F: Turns<Mark>>(marks: &mut Pool<Mark>, block: Block, change: &F)

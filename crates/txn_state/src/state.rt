@@ -3,7 +3,7 @@ ghost use Rattle.std.specs.Prelude.{◌≡◌, IfOk, is_some};
 ghost use Rattle.std.specs.Option.{option_copied, option_map};
 ghost use Rattle.store_pools.specs.Pools.{body_of_kept};
 ghost use Rattle.txn_model.specs.Calls.{first_facts, is_ready};
-ghost use Rattle.txn_state.specs.States.{facts_of, IsStore};
+ghost use Rattle.txn_state.specs.States.{facts_of};
 
 use crate::marks::mark_of;
 use block_pool::Pool;
@@ -71,13 +71,6 @@ impl StoreState {
             ends,
             noted: None,
         })
-    }
-
-    /// Law: what is always so of a store.
-    pub fn is_kept(&self)
-        ensures { IsStore (facts_of self.now) }
-    {
-        let _ = &self.commits;
     }
 
     /// Where the log lies.
@@ -164,8 +157,8 @@ impl StoreState {
         self.before.get(block).is_some()
     }
 
-    /// Whether a block is to be written out, and may be: it is dirty, changed by no open transaction
-    /// and by no commit that isn't durable, and its updates stand in durable pages.
+    /// Whether a block is to be written out, and may be: it is dirty, no open transaction and no
+    /// commit that isn't durable changed it, and its updates stand in durable pages.
     pub fn is_ready(&self, block: Block) -> bool
         ensures { result ≡ is_ready (facts_of self.now) block }
     {

@@ -1,5 +1,4 @@
-use Rattle.store_pools.specs.Pools.{body_of_kept}
-use Rattle.txn_state.proofs.Turning.{put_again, put_first}
+use Rattle.txn_state.proofs.Turning.{put_first}
 use Rattle.txn_state.proofs.keeping.keep_first.Goals as goal
 
 pub returns-in_ok-put-in-None-clause-kept : goal.returns-in_ok-put-in-None-clause-kept

@@ -1,4 +1,4 @@
-use Rattle.std.proofs.Common.{ap, subst, sym, ◌∙◌, ◌<◌, ◌≤◌, ℕ, arith}
+use Rattle.std.proofs.Common.{ap, subst, sym, ◌∙◌, ◌<◌, ℕ, arith}
 use Rattle.store_pools.specs.Pools.{bodies_of}
 use Rattle.txn_model.specs.Calls.{rivals_of}
 use Rattle.txn_state.proofs.Turning.{taken_bodies, drop_step, drop_end}

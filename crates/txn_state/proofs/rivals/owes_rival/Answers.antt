@@ -1,4 +1,4 @@
-use Rattle.std.proofs.Common.{ap, subst, sym, ◌∙◌, ◌<◌, ◌≤◌, ℕ, arith}
+use Rattle.std.proofs.Common.{ap, subst, sym, ◌∙◌, ◌<◌, ℕ}
 use Rattle.disk_model.specs.declared.block.Block.{Block}
 use Rattle.store_pools.specs.Pools.{marks_of}
 use Rattle.txn_model.specs.declared.mark.Mark.{Mark}

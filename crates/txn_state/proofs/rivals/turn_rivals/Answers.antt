@@ -1,4 +1,4 @@
-use Rattle.std.proofs.Common.{subst, sym, ◌∙◌, ◌<◌, ℕ, arith}
+use Rattle.std.proofs.Common.{subst, ◌∙◌, ◌<◌, ℕ}
 use Rattle.store_pools.specs.Pools.{marks_of}
 use Rattle.txn_model.specs.Calls.{rivals_of}
 use Rattle.txn_state.proofs.Turning.{turn_step}

@@ -1,4 +1,4 @@
-use Rattle.std.proofs.Common.{◌≡◌, ℕ, Some, refl, sym, ap, subst, ◌∙◌}
+use Rattle.std.proofs.Common.{ℕ, Some, refl, sym, ap, subst, ◌∙◌}
 use Rattle.log_area.specs.Areas.{LogAreaOf}
 use Rattle.txn_model.specs.Calls.{noted_facts}
 use Rattle.txn_state.specs.States.{StateOf, facts_of, IsStore}

@@ -1,7 +1,7 @@
-use Rattle.std.proofs.Common.{◌≡◌, ℕ, List, [], ◌∷◌, length, refl, sym, ap, ap₂, subst, ◌∙◌}
+use Rattle.std.proofs.Common.{ℕ, [], ◌∷◌, length, refl, sym, ap, subst, ◌∙◌}
 use Rattle.log_model.specs.declared.entry.Act.TheVariants.{Commit}
-use Rattle.log_area.specs.Areas.{LogAreaOf, ring_size}
-use Rattle.txn_model.specs.Pieces.{ends_with, log_with}
+use Rattle.log_area.specs.Areas.{ring_size}
+use Rattle.txn_model.specs.Pieces.{ends_with}
 use Rattle.store_pools.specs.Pools.{bodies_of, marks_of}
 use Rattle.txn_model.specs.Calls.{committed_marks}
 use Rattle.txn_state.specs.States.{StateOf, IsStore}

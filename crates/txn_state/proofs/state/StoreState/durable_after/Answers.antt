@@ -1,4 +1,4 @@
-use Rattle.std.proofs.Common.{◌≡◌, ℕ, ◌-◌, ap, ◌∙◌, arith}
+use Rattle.std.proofs.Common.{ap, ◌∙◌, arith}
 use Rattle.log_area.specs.Areas.{place_at}
 use Rattle.txn_model.specs.Calls.{durable_after}
 use Rattle.txn_state.specs.States.{StateOf}

@@ -1,19 +1,15 @@
-use Rattle.std.proofs.Common.{◌≡◌, ℕ, ◌+◌, suc, Bool, true, false, List, Some, length, refl, sym, ap, ap₂, subst, ◌∙◌}
-use Rattle.std.specs.Prelude.{◌||◌}
-use Rattle.disk_model.specs.declared.block.Body.{Body}
+use Rattle.std.proofs.Common.{ℕ, ◌+◌, suc, List, length, refl, sym, ap, subst, ◌∙◌}
 use Rattle.log_model.specs.declared.entry.Act.{Act}
 use Rattle.log_area.specs.Areas.{LogAreaOf, ring_size}
 use Rattle.store_pools.specs.declared.kept.KeptBody.{KeptBody}
 use Rattle.store_pools.specs.Pools.{body_of_kept, bodies_of, marks_of}
-use Rattle.txn_model.specs.declared.mark.Mark.{Mark}
-use Rattle.txn_model.specs.Values.{put_at, take_at}
+use Rattle.txn_model.specs.Values.{put_at}
 use Rattle.txn_model.specs.Pieces.{ends_with, last_of, log_with}
 use Rattle.txn_model.specs.Calls.{change_acts, changed_facts}
 use Rattle.txn_state.specs.States.{StateOf, state_of, facts_of, IsStore, MayChange}
-use Rattle.txn_state.proofs.Facts.{same_facts, one_more, out_marks}
-use Rattle.txn_state.proofs.Turning.{taken_bodies}
-use Rattle.txn_state.proofs.Marking.{marks_changed, sent_of, written_of, still_marked, sent_marks, written_marks, sent_bodies, written_bodies}
-use Rattle.txn_state.proofs.Stores.{ready_parts, changed_keeps}
+use Rattle.txn_state.proofs.Facts.{same_facts, one_more}
+use Rattle.txn_state.proofs.Marking.{marks_changed}
+use Rattle.txn_state.proofs.Stores.{changed_keeps}
 use Rattle.txn_state.proofs.state.StoreState.try_change.Goals as goal
 
 pub invariant_of-self-2 : goal.invariant_of-self-2

@@ -1,18 +1,11 @@
-use Rattle.std.proofs.Common.{◌≡◌, ℕ, ◌+◌, suc, Bool, true, false, List, Some, length, refl, sym, ap, ap₂, subst, ◌∙◌}
-use Rattle.std.specs.Prelude.{◌||◌}
-use Rattle.disk_model.specs.declared.block.Body.{Body}
-use Rattle.log_model.specs.declared.entry.Act.{Act}
-use Rattle.log_area.specs.Areas.{LogAreaOf, ring_size}
-use Rattle.store_pools.specs.declared.kept.KeptBody.{KeptBody}
-use Rattle.store_pools.specs.Pools.{body_of_kept, bodies_of, marks_of}
+use Rattle.std.proofs.Common.{◌≡◌, Bool, true, refl, sym, ap, ap₂, subst, ◌∙◌}
+use Rattle.store_pools.specs.Pools.{bodies_of, marks_of}
 use Rattle.txn_model.specs.declared.mark.Mark.{Mark}
-use Rattle.txn_model.specs.Values.{put_at, take_at}
-use Rattle.txn_model.specs.Pieces.{ends_with, last_of, log_with}
 use Rattle.txn_model.specs.Calls.{is_ready, written_out_facts}
-use Rattle.txn_state.specs.States.{StateOf, state_of, facts_of, IsStore, MayChange}
-use Rattle.txn_state.proofs.Facts.{same_facts, one_more, out_marks}
+use Rattle.txn_state.specs.States.{StateOf, state_of, facts_of, IsStore}
+use Rattle.txn_state.proofs.Facts.{same_facts}
 use Rattle.txn_state.proofs.Turning.{taken_bodies}
-use Rattle.txn_state.proofs.Marking.{marks_changed, sent_of, written_of, still_marked, sent_marks, written_marks, sent_bodies, written_bodies}
+use Rattle.txn_state.proofs.Marking.{written_of, still_marked, written_marks, written_bodies}
 use Rattle.txn_state.proofs.Stores.{ready_parts, written_out_keeps}
 use Rattle.txn_state.proofs.state.StoreState.written_out.Goals as goal
 

@@ -1,0 +1,94 @@
+-- What is always so of a store stays so in each call.
+use Rattle.std.proofs.Common.{◌≡◌, subst, ℕ, ◌+◌, ◌<◌, ◌≤◌, Bool, true, false, cond, List, [], ◌∷◌, Option, Some, None, Result, Ok, Err, refl, sym, ap, ◌∙◌, arith}
+use Rattle.std.specs.Prelude.{IfSome, OnOk, OnErr, is_some, ◌||◌}
+use Rattle.std.specs.Option.{option_or}
+use Rattle.host_base.specs.declared.outside.Failed.{Failed}
+use Rattle.disk_model.specs.declared.block.Block.{Block}
+use Rattle.disk_model.specs.declared.block.Body.{Body}
+use Rattle.sector_device.specs.Moments.{Changes}
+use Rattle.log_page.specs.declared.places.LogPlace.{LogPlace}
+use Rattle.log_page.specs.Places.{entries_at}
+use Rattle.log_area.specs.Areas.{LogAreaOf, is_filling, sealed_area}
+use Rattle.store_model.specs.Volumes.{ContentWindow}
+use Rattle.block_pool.specs.Pools.{held}
+use Rattle.txn_model.specs.Values.{StoreFacts}
+use Rattle.txn_model.specs.Calls.{given_up_facts, sealed_facts, is_buried, written_facts, synced_facts}
+use Rattle.txn_state.specs.States.{StateOf, facts_of, IsStore}
+use Rattle.txn_laws.specs.Windows.{HasMachine, Simulates}
+use Rattle.txn_laws.proofs.Telling.{keeps}
+use Rattle.device_blocks.specs.declared.word.CheckWord.{CheckWord}
+use Rattle.device_blocks.specs.Words.{IsFitWord}
+use Rattle.txn_core.specs.Calls.{page_facts, sync_facts}
+use Rattle.txn_core.specs.Seen.{Seen, StandsOn, TakesStep}
+
+-- ---- from the fields to what contracts see
+
+pub step_of : {D : Type 0} (count moment : D → ℕ) (changes : D → Changes) (After : Seen D → ContentWindow → ContentWindow → Type 0) (old seen new : Seen D) (g : StoreFacts) → old ≡ seen → facts_of new.state ≡ g
+    → Simulates (count old.device) (moment old.device) (changes old.device) (changes new.device) (facts_of old.state) g (After old) → TakesStep count moment changes (After seen) seen new
+step_of {D} count moment changes After old seen new g is facts step =
+    subst (λ (s : Seen D). TakesStep count moment changes (After s) s new) is
+    (subst (λ (h : StoreFacts). Simulates (count old.device) (moment old.device) (changes old.device) (changes new.device) (facts_of old.state) h (After old)) (sym facts) step)
+
+pub facts_seen : {D : Type 0} (after : StoreFacts → StoreFacts) (old seen : Seen D) (new : StateOf) → old ≡ seen → facts_of new ≡ after (facts_of old.state) → facts_of new ≡ after (facts_of seen.state)
+facts_seen {D} after old seen new is facts = facts ∙ ap (λ (s : Seen D). after (facts_of s.state)) is
+
+-- ---- what is always so
+
+pub stands_after : (count later moment : ℕ) (old now : Changes) (before after : StateOf) (words left : List (Block × CheckWord)) (g : StoreFacts) (After : ContentWindow → ContentWindow → Type 0)
+    → later ≡ count → StandsOn count old before words → facts_of after ≡ g → Simulates count moment old now (facts_of before) g After → g.log.named ≡ None
+    → ((b : Block) → is_some (g.body b) ≡ true → is_some (held left b) ≡ true) → ((b : Block) → IfSome (held left b) IsFitWord) → StandsOn later now after left
+stands_after count later moment old now before after words left g After same stands facts step unnamed worded fit =
+    let device : (facts_of after).place.device ≡ (facts_of before).place.device = ap (λ (f : StoreFacts). f.place.device) facts ∙ ap (λ (p : LogPlace). p.device) step.place in
+    let inside = stands.place in
+    record {
+      place = omega (arith, device, inside, same);
+      unnamed = ap (λ (f : StoreFacts). f.log.named) facts ∙ unnamed;
+      worded = λ b h. worded b (ap (λ (f : StoreFacts). is_some (f.body b)) (sym facts) ∙ h);
+      fit = fit;
+      machine = subst (λ (f : StoreFacts). HasMachine now f) (sym facts) (keeps count moment old now (facts_of before) g After step stands.machine);
+    }
+
+pub sealed_named : (a : LogAreaOf) → (sealed_area a).named ≡ a.named
+sealed_named a = go (is_filling a)
+  where
+    go : (v : Bool) → (cond v (record a { free = entries_at; sealed = a.sealed + 1 }) a).named ≡ a.named
+    go true = refl
+    go false = refl
+
+-- a give-up brings back bodies of blocks that have one
+pub given_up_worded : (f : StoreFacts) (words : List (Block × CheckWord)) → IsStore f → ((b : Block) → is_some (f.body b) ≡ true → is_some (held words b) ≡ true)
+    → (b : Block) → is_some ((given_up_facts f).body b) ≡ true → is_some (held words b) ≡ true
+given_up_worded f words store worded b is = worded b (by_before (f.before b) (f.body b) (λ h. store.blocks.kept b ∙ ap (λ (v : Bool). v || (f.mark b).dead) (store.blocks.changed b h)) is)
+  where
+    by_before : (o p : Option Body) → (is_some o ≡ true → is_some p ≡ true) → is_some (option_or o p) ≡ true → is_some p ≡ true
+    by_before (Some x) p has is = has refl
+    by_before None p has is = is
+
+pub page_result : (result : Result (Unit {0}) Failed) (old new : StateOf) → OnOk result (facts_of new ≡ written_facts (facts_of old)) → OnErr result (new ≡ record old { log = record old.log { check = new.log.check } })
+    → facts_of new ≡ page_facts result new.log.check (facts_of old)
+page_result (Ok tt) old new ok err = ok
+page_result (Err fault) old new ok err = ap facts_of err
+
+pub page_named : (result : Result (Unit {0}) Failed) (check : Option ℕ) (f : StoreFacts) → f.log.named ≡ None → (page_facts result check f).log.named ≡ None
+page_named (Ok tt) check f unnamed = unnamed
+page_named (Err fault) check f unnamed = unnamed
+
+pub page_worded : (result : Result (Unit {0}) Failed) (check : Option ℕ) (f : StoreFacts) (b : Block) → is_some ((page_facts result check f).body b) ≡ true → is_some (f.body b) ≡ true
+page_worded (Ok tt) check f b is = is
+page_worded (Err fault) check f b is = is
+
+pub sync_result : (result : Result (Unit {0}) Failed) (old new : StateOf) → OnOk result (facts_of new ≡ synced_facts (facts_of old)) → OnErr result (new ≡ old) → facts_of new ≡ sync_facts result (facts_of old)
+sync_result (Ok tt) old new ok err = ok
+sync_result (Err fault) old new ok err = ap facts_of err
+
+pub sync_named : (result : Result (Unit {0}) Failed) (f : StoreFacts) → f.log.named ≡ None → (sync_facts result f).log.named ≡ None
+sync_named (Ok tt) f unnamed = refl
+sync_named (Err fault) f unnamed = unnamed
+
+pub sync_worded : (result : Result (Unit {0}) Failed) (f : StoreFacts) (b : Block) → is_some ((sync_facts result f).body b) ≡ true → is_some (f.body b) ≡ true
+sync_worded (Ok tt) f b is = kept (is_buried f.log.done (f.mark b)) (f.body b) is
+  where
+    kept : (v : Bool) (o : Option Body) → is_some (cond v None o) ≡ true → is_some o ≡ true
+    kept true o is = absurd cc
+    kept false o is = is
+sync_worded (Err fault) f b is = is

@@ -1,0 +1,24 @@
+use Rattle.std.proofs.Common.{◌≡◌, ◌<◌, ◌^◌, true, refl, sym, ap, subst, ◌∙◌}
+use Rattle.log_model.specs.declared.entry.Act.TheVariants.{Commit}
+use Rattle.txn_model.specs.Appending.{MayAppend}
+use Rattle.txn_model.specs.Pieces.{next_entry}
+use Rattle.txn_model.specs.Calls.{begun_facts}
+use Rattle.txn_state.specs.States.{facts_of}
+use Rattle.txn_laws.specs.Windows.{AfterBegin}
+use Rattle.txn_core.specs.Seen.{Seen}
+use Rattle.txn_core.proofs.Calling.{begin_step}
+use Rattle.txn_core.proofs.Keeping.{step_of, stands_after, sealed_named, given_up_worded}
+use Rattle.txn_core.proofs.store.Store.begin.Goals as goal
+
+pub returns-clause-step : goal.returns-clause-step
+returns-clause-step g c =
+    step_of g.D.Device.sector_count g.D.Device.moment_of g.D.Device.changes_of (λ s. AfterBegin) (record { device = c.self.inside.device; state = c.self.inside.state; words = c.self.inside.words }) c.args.self.now
+    (record { device = c.self.inside.device; state = c.begin.new.self; words = c.self.inside.words }) (begun_facts (facts_of c.self.inside.state)) c.self.view_is c.begin.ensures
+    (begin_step (g.D.Device.sector_count c.self.inside.device) (g.D.Device.moment_of c.self.inside.device) (g.D.Device.changes_of c.self.inside.device) (facts_of c.self.inside.state) (ap (λ (s : Seen _). s.state.is_open) c.self.view_is ∙ c.requires.closed))
+
+pub invariant_of-self : goal.invariant_of-self
+invariant_of-self g c =
+    stands_after (g.D.Device.sector_count c.self.inside.device) (g.D.Device.sector_count c.self.inside.device) (g.D.Device.moment_of c.self.inside.device) (g.D.Device.changes_of c.self.inside.device) (g.D.Device.changes_of c.self.inside.device)
+    c.self.inside.state c.begin.new.self c.self.inside.words c.self.inside.words (begun_facts (facts_of c.self.inside.state)) AfterBegin refl c.self.invariant c.begin.ensures
+    (begin_step (g.D.Device.sector_count c.self.inside.device) (g.D.Device.moment_of c.self.inside.device) (g.D.Device.changes_of c.self.inside.device) (facts_of c.self.inside.state) (ap (λ (s : Seen _). s.state.is_open) c.self.view_is ∙ c.requires.closed))
+    c.self.invariant.unnamed c.self.invariant.worded c.self.invariant.fit

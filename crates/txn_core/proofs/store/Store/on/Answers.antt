@@ -1,0 +1,20 @@
+use Rattle.std.proofs.Common.{subst, sym, ap, List}
+use Rattle.std.specs.Prelude.{IfSome, is_some}
+use Rattle.disk_model.specs.declared.block.Block.{Block}
+use Rattle.block_pool.specs.Pools.{held}
+use Rattle.device_blocks.specs.declared.word.CheckWord.{CheckWord}
+use Rattle.device_blocks.specs.Words.{IsFitWord}
+use Rattle.txn_core.proofs.Beginnings.{has_start, has_machine, no_body}
+use Rattle.txn_core.proofs.store.Store.on.Goals as goal
+
+pub invariant_of-result : goal.invariant_of-result
+invariant_of-result g c = record {
+  place = c.requires.place;
+  unnamed = c.requires.unnamed;
+  worded = λ b is. no_body c.args.state b (is_some (held c.new-words.result b)) c.requires.first is;
+  fit = λ b. subst (λ (ws : List (Block × CheckWord)). IfSome (held ws b) IsFitWord) (sym c.new-words.ensures) tt;
+  machine = has_machine g.D.Device.changes_of c.args.device c.args.state c.requires.first c.requires.starts;
+}
+
+pub returns-clause-starts : goal.returns-clause-starts
+returns-clause-starts g c = has_start g.D.Device.changes_of c.args.device c.args.state c.requires.first c.requires.starts

@@ -1,0 +1,34 @@
+-- What contracts see of a store on a device, and what is always so of it.
+use Rattle.std.specs.Prelude.{◌≡◌, ◌≤◌, ℕ, true, List, Option, None, is_some, IfSome, unwrap_or}
+use Rattle.disk_model.specs.declared.block.Block.{Block}
+use Rattle.sector_device.specs.Moments.{Changes}
+use Rattle.store_model.specs.Volumes.{ContentWindow}
+use Rattle.block_pool.specs.Pools.{held}
+use Rattle.txn_model.specs.Values.{StoreFacts}
+use Rattle.txn_state.specs.States.{StateOf, facts_of}
+use Rattle.txn_laws.specs.Windows.{HasMachine, Simulates}
+use Rattle.device_blocks.specs.declared.word.CheckWord.{CheckWord}
+use Rattle.device_blocks.specs.declared.word.CheckWord.TheVariants.{Unread}
+use Rattle.device_blocks.specs.Words.{IsFitWord}
+
+-- A store: its device, what it holds in memory, and what is known of the check words of blocks.
+pub record Seen (D : Type 0) : Type 0 where
+  pub device : D
+  pub state : StateOf
+  pub words : List (Block × CheckWord)
+
+-- what is known of the check word of a block
+abbrev pub word_of : List (Block × CheckWord) → Block → CheckWord
+word_of words b = unwrap_or (held words b) Unread
+
+-- What is always so of a store: its log lies inside the device, a block whose body is kept has a word, and where the disk is known, a sound machine stands behind it.
+pub record StandsOn (count : ℕ) (changes : Changes) (state : StateOf) (words : List (Block × CheckWord)) : Type 0 where
+  pub place : (facts_of state).place.device ≤ count
+  pub unnamed : (facts_of state).log.named ≡ None
+  pub worded : (b : Block) → is_some ((facts_of state).body b) ≡ true → is_some (held words b) ≡ true
+  pub fit : (b : Block) → IfSome (held words b) IsFitWord
+  pub machine : HasMachine changes (facts_of state)
+
+-- whatever window the store had, it has one that follows
+abbrev pub TakesStep : {D : Type 0} → (D → ℕ) → (D → ℕ) → (D → Changes) → (ContentWindow → ContentWindow → Type 0) → Seen D → Seen D → Type 0
+TakesStep count moment changes After old new = Simulates (count old.device) (moment old.device) (changes old.device) (changes new.device) (facts_of old.state) (facts_of new.state) After

@@ -1,0 +1,18 @@
+//! A store of blocks over a device: transactions, and the steps that make them durable and write
+//! their blocks out.
+//!
+//! The contract: each call is an event of the pure machine behind the store, so that whatever a
+//! crash may leave at any moment recovers to a content of the store's window; and each failure has
+//! its cause.
+#![tactic(auto)]
+
+mod changing;
+mod counting;
+mod opening;
+mod steps;
+mod store;
+mod transactions;
+mod writing;
+
+pub use opening::open_log;
+pub use store::Store;
