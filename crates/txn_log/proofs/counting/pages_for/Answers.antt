@@ -1,4 +1,4 @@
-use Rattle.std.proofs.Common.{◌≡◌, ◌+◌, ℕ, List, length, refl, ap, ◌∙◌, arith}
+use Rattle.std.proofs.Common.{ℕ, List, length, refl, ap, ◌∙◌, arith}
 use Rattle.std.specs.Prelude.{◌==◌}
 use Rattle.store_pools.specs.Pools.{marks_of}
 use Rattle.txn_log.specs.Counts.{pages_of, sizes_of, capped}

@@ -1,4 +1,4 @@
-use Rattle.std.proofs.Common.{◌≡◌, ◌+◌, ◌-◌, ◌<◌, ◌≤◌, ℕ, List, refl, ◌∙◌, arith}
+use Rattle.std.proofs.Common.{◌+◌, ◌-◌, refl, ◌∙◌, arith}
 use Rattle.txn_log.proofs.Counts.{piece_more, no_piece}
 use Rattle.txn_log.proofs.counting.put_pieces.Goals as goal
 use Rattle.txn_log.proofs.counting.put_pieces.Goals.{then-left-gt0, else-left-gt0}
