@@ -92,3 +92,13 @@ sync_worded (Ok tt) f b is = kept (is_buried f.log.done (f.mark b)) (f.body b) i
     kept true o is = absurd cc
     kept false o is = is
 sync_worded (Err fault) f b is = is
+
+-- what reads alone leaves it
+pub read_stands : (count later : ℕ) (old now : Changes) (state : StateOf) (words : List (Block × CheckWord)) → later ≡ count → now ≡ old → StandsOn count old state words → StandsOn later now state words
+read_stands count later old now state words same unchanged stands = record {
+  place = (let inside = stands.place in omega (arith, inside, same));
+  unnamed = stands.unnamed;
+  worded = stands.worded;
+  fit = stands.fit;
+  machine = subst (λ (c : Changes). HasMachine c (facts_of state)) (sym unchanged) stands.machine;
+}

@@ -176,8 +176,8 @@ impl<D: Device> Store<D> {
     /// body, which is read where it isn't kept. What it logs is appended to the log, and nothing is
     /// written to the device. Dirty rivals of the block are dead.
     ///
-    /// [`ViewFault::Fault`]: the device failed, only where the body was read; [`ViewFault::Memory`]:
-    /// want of memory. Then the transaction is given up. At most one call of the device;
+    /// [`ViewFault::Fault`]: the device failed, only where the body was read;
+    /// [`ViewFault::Memory`]: want of memory. Then the transaction is given up. At most one call of the device;
     /// logarithmic in the number of blocks that have marks or bodies, and linear in the body.
     pub fn change(
         &mut self,

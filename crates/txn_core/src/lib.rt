@@ -12,7 +12,9 @@ mod opening;
 mod steps;
 mod store;
 mod transactions;
+mod view;
 mod writing;
 
 pub use opening::open_log;
 pub use store::Store;
+pub use view::StoreView;

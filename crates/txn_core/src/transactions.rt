@@ -56,7 +56,8 @@ impl<D: Device> Store<D> {
         self.state.give_up();
     }
 
-    /// Seals the page of the log that is filled, if it has an entry: no entry goes into it any more.
+    /// Seals the page of the log that is filled, if it has an entry: no entry goes into it any
+    /// more.
     pub fn seal(&mut self)
         ensures facts { facts_of self.new.state ≡ sealed_facts (facts_of self.old.state) }
         ensures device { self.new.device ≡ self.old.device }

@@ -106,8 +106,8 @@ fn settle_word(words: &mut Pool<CheckWord>, block: Block, word: CheckWord, ok: b
 }
 
 impl<D: Device> Store<D> {
-    /// Writes a block out that is ready: dirty, changed by no open transaction and by no commit that
-    /// isn't durable, with all its updates in durable pages of the log. Its body is written under
+    /// Writes a block out that is ready: dirty, changed by no open transaction and by no commit
+    /// that isn't durable, with all its updates in durable pages of the log. Its body is written under
     /// the next check word of what stands there, which is read where it isn't known; a body without
     /// a spelling, which a give-up brought back, is written as it stands there. The block is clean
     /// then, and dead bodies of its rivals leave.
