@@ -13,5 +13,5 @@ mod stream;
 mod tree;
 
 pub use names::NamedVolume;
-pub use node::bare_nodes;
+pub use node::{bare_nodes, node_at};
 pub use tree::tree_with;

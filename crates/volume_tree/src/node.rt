@@ -79,10 +79,11 @@ fn node_of(
     node_with(alloc, number, file, kind, why, &data_shown(kind, stream))
 }
 
-// The node of the file with this number, if it has one.
+/// The node of the file with this number without its bytes, if it has one. The error is want of
+/// memory. It takes time linear in the attributes and runs of the file, and in its names.
 #[tactic(auto, using(record_rules::proofs::Links::links_found), unfolding(volume_model::specs::Nodes::node_at, state_model::specs::Trees::is_nameless, state_model::specs::Files::links_at))]
-fn node_at(alloc: Global, volume: &NamedVolume, number: u64) -> Result<Option<Node>, Memory>
-    ensures { IfOk result (λ node. node ≡ node_at no_bytes (volume_in volume.now.map.now) number) }
+pub fn node_at(alloc: Global, volume: &NamedVolume, number: u64) -> Result<Option<Node>, Memory>
+    ensures value { IfOk result (λ node. node ≡ node_at no_bytes (volume_in volume.now.map.now) number) }
 {
     let Some(file) = file_at(&volume.map.files, number) else {
         return Ok(None);

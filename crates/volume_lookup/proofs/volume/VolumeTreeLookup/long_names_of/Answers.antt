@@ -1,0 +1,8 @@
+use Rattle.volume_map.specs.Maps.{volume_in}
+use Rattle.volume_lookup.proofs.Giving.{count_known}
+use Rattle.volume_lookup.proofs.volume.VolumeTreeLookup.long_names_of.Goals as goal
+
+pub returns-clause-value : goal.returns-clause-value
+returns-clause-value g c =
+    let s = c.args.self.now in
+    count_known (g.V.View.content s.view) s.up.now (volume_in s.volume.now.map.now) c.args.number c.long_names.result c.long_names.ensures

@@ -1,0 +1,18 @@
+//! A loaded volume that is asked for its nodes and names, through the indexes of its directories.
+//!
+//! The contract: where a view's content is that of a volume that breaks no rule, each call answers
+//! of the tree that it stands for; no call goes over the volume. The layouts are those of the
+//! Linux-NTFS documentation, "FILE Record", "$INDEX_ROOT", "Index Record" and "$FILE_NAME".
+#![tactic(auto)]
+
+mod choosing;
+mod finding;
+mod listing;
+mod nodes;
+mod volume;
+
+pub use block_view::View;
+pub use tree_lookup::{Lookup, LookupFault};
+pub use upcase_order::Upcase;
+pub use volume::VolumeTree;
+pub use volume_tree::NamedVolume;
