@@ -27,7 +27,9 @@ use Rattle.stream_laws.proofs.Changing.{body_elsewhere, bytes_stay, record_bytes
 use Rattle.stream_laws.proofs.Rewriting.{past_table, volume_parts, parts_of_files, volume_written, count_is, rewrites_in_place}
 use Rattle.stream_laws.proofs.Tabling.{no_list_stream}
 use Rattle.map_change.specs.Plain.{is_plain}
-use Rattle.map_change.specs.Touching.{is_number, spares_all, spares_own, leaves_boot, Spares}
+use Rattle.map_change.specs.Touching.{is_number, touched_numbers, leaves_boot, Spares}
+use Rattle.map_change.specs.Reading.{IsBits}
+use Rattle.map_change.specs.Applying.{with_bits}
 use Rattle.map_change.proofs.Lists.{put_numbers, length_put, get_put, other_put, all_at}
 use Rattle.map_change.proofs.Blocks.{elsewhere, leaves_stream, leaves_record}
 
@@ -86,12 +88,8 @@ module _ (c : Content) (g : Geometry) (clusters : ℕ) (v : Volume) (changes : L
   abbrev pub touched : ℕ → Bool
   touched m = list_any (is_number m) numbers
 
-  own : (list_all (leaves_boot (boot_block g 0)) changes ≡ true) × (spares_all v.per (runs_in (record_bitmap v)) changes ≡ true) × (spares_all v.per (runs_in (cluster_bitmap v)) changes ≡ true)
-  unfolding spares_own
-  own = let both = and_parts _ _ s.own in let first = and_parts _ _ both.0 in (first.0, first.1, both.1)
-
   table_stays : table_of after g ≡ Ok v.table
-  table_stays = same_table c after g (body_elsewhere c (writes_of changes) (boot_block g 0) sized (elsewhere (boot_block g 0) changes own.0)) ∙ (volume_parts c g clusters v loaded).table
+  table_stays = same_table c after g (body_elsewhere c (writes_of changes) (boot_block g 0) sized (elsewhere (boot_block g 0) changes s.boot)) ∙ (volume_parts c g clusters v loaded).table
 
   others_stay : (m : ℕ) → m < count_of v → touched m ≡ false → LeavesRecord (writes_of changes) v.per v.table m
   others_stay m below other = λ b is. leaves_record v.per (count_of v) v.table.runs m b changes s.some below is.lies (sym (ap (list_any (is_number m)) s.touched) ∙ other)
@@ -145,16 +143,22 @@ module _ (c : Content) (g : Geometry) (clusters : ℕ) (v : Volume) (changes : L
   unfolding file_at
   file_stays m other = ap only_base (other_put (new_file after v) numbers v.files None m other)
 
-  pub records_after : record_bits c v ≡ record_bits after (with_files v new_files)
+  pub records_after : (new : Option (List Bool)) → IsBits after v.per (record_bitmap v) (count_of v) changes new → with_bits new (record_bits c v) ≡ record_bits after (with_files v new_files)
   unfolding record_bits
-  records_after =
+  records_after None spared =
       let files : length new_files ≡ length v.files = length_put (new_file after v) numbers v.files in
       ap (λ (n : ℕ). bits_of_bytes (bytes_or c v.per (record_bitmap v)) n) (sym files)
-      ∙ ap (λ (bytes : List ℕ). bits_of_bytes bytes (length new_files)) (sym (bytes_stay c (writes_of changes) v.per (record_bitmap v) (leaves_stream v.per (record_bitmap v) changes s.some own.1)))
+      ∙ ap (λ (bytes : List ℕ). bits_of_bytes bytes (length new_files)) (sym (bytes_stay c (writes_of changes) v.per (record_bitmap v) (leaves_stream v.per (record_bitmap v) changes s.some spared)))
+      ∙ ap (λ (f : Option Record). bits_of_bytes (bytes_or after v.per (file_stream bitmap_type [] f)) (length new_files)) (sym (file_stays table_file s.table))
+  records_after (Some bits) are =
+      let files : length new_files ≡ length v.files = length_put (new_file after v) numbers v.files in
+      are
+      ∙ ap (λ (n : ℕ). bits_of_bytes (bytes_or after v.per (record_bitmap v)) n) (sym files)
       ∙ ap (λ (f : Option Record). bits_of_bytes (bytes_or after v.per (file_stream bitmap_type [] f)) (length new_files)) (sym (file_stays table_file s.table))
 
-  pub clusters_after : cluster_bits c v ≡ cluster_bits after (with_files v new_files)
+  pub clusters_after : (new : Option (List Bool)) → IsBits after v.per (cluster_bitmap v) v.clusters changes new → with_bits new (cluster_bits c v) ≡ cluster_bits after (with_files v new_files)
   unfolding cluster_bits
-  clusters_after =
-      ap (λ (bytes : List ℕ). bits_of_bytes bytes v.clusters) (sym (bytes_stay c (writes_of changes) v.per (cluster_bitmap v) (leaves_stream v.per (cluster_bitmap v) changes s.some own.2)))
+  clusters_after None spared =
+      ap (λ (bytes : List ℕ). bits_of_bytes bytes v.clusters) (sym (bytes_stay c (writes_of changes) v.per (cluster_bitmap v) (leaves_stream v.per (cluster_bitmap v) changes s.some spared)))
       ∙ ap (λ (f : Option Record). bits_of_bytes (bytes_or after v.per (file_stream data_type [] f)) v.clusters) (sym (file_stays bitmap_file s.bitmap))
+  clusters_after (Some bits) are = are ∙ ap (λ (f : Option Record). bits_of_bytes (bytes_or after v.per (file_stream data_type [] f)) v.clusters) (sym (file_stays bitmap_file s.bitmap))

@@ -46,15 +46,12 @@ spares_all per runs changes = list_all (spares per runs) changes
 unfoldable pub leaves_boot : Block → Change → Bool
 leaves_boot b c = not (same_block b c.block)
 
--- no change is of record 0 where the boot sector says, nor to a sector of a bitmap
-unfoldable pub spares_own : Volume → Geometry → List Change → Bool
-spares_own v g changes = list_all (leaves_boot (boot_block g 0)) changes && spares_all v.per (runs_in (record_bitmap v)) changes && spares_all v.per (runs_in (cluster_bitmap v)) changes
-
--- These are the records that the changes may be of, and all that they change of a volume without attribute lists.
+-- These are the records that the changes may be of, and but for sectors of the bitmaps all that they change of a volume without
+-- attribute lists.
 pub record Spares (v : Volume) (g : Geometry) (changes : List Change) (numbers : List ℕ) : Type 0 where
   pub some : 0 < v.per
   pub plain : list_all is_plain v.files ≡ true
-  pub own : spares_own v g changes ≡ true
+  pub boot : list_all (leaves_boot (boot_block g 0)) changes ≡ true
   pub touched : numbers ≡ touched_numbers v.per (count_of v) v.table.runs changes
   pub table : list_any (is_number table_file) numbers ≡ false
   pub bitmap : list_any (is_number bitmap_file) numbers ≡ false

@@ -1,10 +1,11 @@
 //! A change of a map, put in place.
 ghost use Rattle.std.specs.Prelude.{◌≡◌, slice_set};
 ghost use Rattle.map_change.specs.Parts.{live_parts};
-ghost use Rattle.map_change.specs.Applying.{applied_one, applied_all, applied};
+ghost use Rattle.map_change.specs.Applying.{applied_one, applied_all, with_bits, bits_applied, applied};
 
-use crate::change::{MapChange, RecordChange};
+use crate::change::{MapChange, PartsChange, RecordChange};
 use crate::live::LiveMap;
+use bit_set::BitSet;
 use file_record::FileRec;
 use volume_map::Head;
 
@@ -46,6 +47,29 @@ fn put_records(live: &mut LiveMap, records: Vec<RecordChange>)
     }
 }
 
+// Puts bits in the place of others, if there are some.
+fn put_bits(bits: &mut BitSet, new: Option<BitSet>)
+    ensures { bits.new ≡ with_bits new bits.old }
+{
+    if let Some(new) = new {
+        *bits = new;
+    }
+}
+
+// Puts records and bits in their places.
+fn put_parts(live: &mut LiveMap, parts: PartsChange)
+    ensures { live_parts live.new ≡ bits_applied parts (applied_all parts.records.items (live_parts live.old)) }
+{
+    let PartsChange {
+        records,
+        record_bits,
+        cluster_bits,
+    } = parts;
+    put_records(live, records);
+    put_bits(&mut live.map.record_bits, record_bits);
+    put_bits(&mut live.map.cluster_bits, cluster_bits);
+}
+
 /// Puts a change in place: where it was prepared for this map as it is now, the map is then that of
 /// the view after the changes. It takes no memory, and time linear in the change; it drops what it
 /// replaces.
@@ -54,6 +78,6 @@ pub fn apply(live: &mut LiveMap, change: MapChange)
 {
     match change {
         MapChange::Anew(map) => *live = map,
-        MapChange::Records(records) => put_records(live, records),
+        MapChange::Parts(parts) => put_parts(live, parts),
     }
 }

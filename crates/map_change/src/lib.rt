@@ -6,6 +6,7 @@
 
 mod alone;
 mod applying;
+mod bits;
 mod change;
 mod live;
 mod loading;
@@ -16,7 +17,7 @@ mod sparing;
 
 pub use applying::apply;
 pub use block_view::{View, ViewFault};
-pub use change::{MapChange, RecordChange};
+pub use change::{MapChange, PartsChange, RecordChange};
 pub use disk_model::Change;
 pub use live::LiveMap;
 pub use loading::load_live;

@@ -13,7 +13,8 @@ ghost use Rattle.map_change.specs.Applying.{applied};
 ghost use Rattle.map_change.specs.Reading.{AreFound};
 ghost use Rattle.map_change.specs.Preparing.{IsPrepared};
 
-use crate::change::{MapChange, RecordChange};
+use crate::bits::{changed_cluster_bits, changed_record_bits};
+use crate::change::{MapChange, PartsChange};
 use crate::live::LiveMap;
 use crate::loading::load_live;
 use crate::reading::read_records;
@@ -23,31 +24,41 @@ use disk_model::{Body, Change};
 use std::alloc::Global;
 use volume_map::MapFault;
 
-// The records that changes put in the place of a map's, where these are all that they change: the
-// view is the one after the changes.
-fn changed_records<V: View>(
+// What changes put in the place of parts of a map, where these are all that they change: the view
+// is the one after the changes.
+fn changed_parts<V: View>(
     alloc: Global,
     live: &LiveMap,
     view: &mut V,
     changes: &[Change],
-) -> Result<Option<Vec<RecordChange>>, MapFault>
-    ensures value { IfSome (V.content view.old) (λ d. IfOk result (λ found. IfSome found (λ records. AreFound d (volume_in live.now.map) (geometry_in live.now.map) changes.now records.items))) }
+) -> Result<Option<PartsChange>, MapFault>
+    ensures value { IfSome (V.content view.old) (λ d. IfOk result (λ found. IfSome found (AreFound d (volume_in live.now.map) (geometry_in live.now.map) changes.now))) }
     ensures kept { AsksView V.content V.kept V.faults map_cause view.old view.new result }
     ensures certain { NeverRefused result }
 {
     let Some(numbers) = spared_numbers(alloc, live, changes)? else {
         return Ok(None);
     };
-    let mut body = Body::empty(alloc)?;
     let map = &live.map;
-    read_records(
+    let mut body = Body::empty(alloc)?;
+    let read = read_records(
         alloc,
         view,
         map.per_cluster,
         &map.table,
         &numbers,
         &mut body,
-    )
+    )?;
+    let Some(records) = read else {
+        return Ok(None);
+    };
+    let record_bits = changed_record_bits(alloc, map, view, changes, &mut body)?;
+    let cluster_bits = changed_cluster_bits(alloc, map, view, changes, &mut body)?;
+    Ok(Some(PartsChange {
+        records,
+        record_bits,
+        cluster_bits,
+    }))
 }
 
 // The map of the view, for the volume of a map, loaded anew.
@@ -69,9 +80,9 @@ fn prepare_over<V: View>(
     ensures answer { IfSome (V.content view.old) (λ d. IsPrepared d live.now changes.now result) }
     ensures kept { AsksView V.content V.kept V.faults map_cause view.old view.new result }
 {
-    let found = changed_records(alloc, live, view, changes)?;
-    if let Some(records) = found {
-        return Ok(MapChange::Records(records));
+    let found = changed_parts(alloc, live, view, changes)?;
+    if let Some(parts) = found {
+        return Ok(MapChange::Parts(parts));
     }
     let anew = load_again(alloc, live, view)?;
     Ok(MapChange::Anew(anew))
@@ -94,11 +105,11 @@ fn overlay<'a, V: View>(view: &'a mut V, changes: &'a [Change]) -> Overlay<'a, V
 /// - [`MapFault::View`]: the view failed.
 /// - [`MapFault::Memory`]: want of memory.
 ///
-/// Changes of records alone are followed one by one: it reads each changed record once, and takes
-/// time and memory linear in the changes and in these records, and for each change in the runs of
-/// the file table and of the bitmaps. The map is loaded anew, at the cost of a load, where a file
-/// has an attribute list or gets one, where a changed record is refused by itself or has an index
-/// block in two runs, and where a change is of record 0 or 6 or of a sector of one of the bitmaps.
+/// It reads each changed record once, and a bitmap of which a sector is changed, and takes time and
+/// memory linear in the changes, in these records and in the bits of that bitmap, and for each
+/// change in the runs of the file table and of the bitmaps. The map is loaded anew, at the cost of
+/// a load, where a file has an attribute list or gets one, where a changed record is refused by
+/// itself or has an index block in two runs, and where a change is of record 0 or 6.
 pub fn prepare<V: View>(
     alloc: Global,
     live: &LiveMap,

@@ -1,20 +1,21 @@
 //! Changes that leave all but some records as they are.
 ghost use Rattle.std.specs.Prelude.{◌≡◌, ◌*◌, ◌^◌, ◌<◌, IfOk, IfSome, length};
 ghost use Rattle.std.specs.List.{list_all, list_any};
+ghost use Rattle.state_model.specs.Loads.{boot_block};
 ghost use Rattle.stream_laws.specs.Sharing.{runs_in};
 ghost use Rattle.volume_model.specs.Owners.{covers};
 ghost use Rattle.volume_map.specs.Maps.{volume_in};
 ghost use Rattle.map_change.specs.Parts.{geometry_in};
-ghost use Rattle.map_change.specs.Touching.{is_number, touched_numbers, spares, spares_all, leaves_boot, spares_own, Spares};
+ghost use Rattle.map_change.specs.Touching.{is_number, touched_numbers, spares, spares_all, leaves_boot, Spares};
 
 use crate::live::LiveMap;
 use crate::numbers::{covers, touched_numbers};
 use disk_model::{Block, BlockKind, Change};
 use host_base::Memory;
-use record_model::{BITMAP_TYPE, DATA, Run};
+use record_model::Run;
 use state_model::{ClusterSize, Geometry, Stream};
 use std::alloc::Global;
-use volume_map::{VolumeMap, boot_block, file_stream};
+use volume_map::{VolumeMap, boot_block};
 
 // The file table itself, and the bitmap of the clusters.
 const TABLE_FILE: u64 = 0;
@@ -42,8 +43,9 @@ fn all_spare(per: ClusterSize, runs: &[Run], changes: &[Change]) -> bool
     changes.iter().all(|change| spares(per, runs, change))
 }
 
-// Whether no change is to a sector in a cluster of the stream.
-fn spares_all(per: ClusterSize, stream: &Option<Stream>, changes: &[Change]) -> bool
+/// Whether no change is to a sector in a cluster of the stream. It takes time linear in the changes,
+/// for each of them in the runs.
+pub fn spares_all(per: ClusterSize, stream: &Option<Stream>, changes: &[Change]) -> bool
     ensures { result ≡ spares_all per (runs_in stream.now) changes.now }
 {
     match stream {
@@ -78,19 +80,11 @@ pub fn geometry_of(map: &VolumeMap) -> Geometry
     }
 }
 
-// Whether no change is of record 0 where the boot sector says, nor of a sector of a bitmap.
-#[tactic(auto, unfolding(crate::specs::Touching::spares_own))]
-fn spares_own(alloc: Global, map: &VolumeMap, changes: &[Change]) -> Result<bool, Memory>
-    ensures { IfOk result (λ spared. spared ≡ spares_own (volume_in map.now) (geometry_in map.now) changes.now) }
+// Whether no change is of record 0 where the boot sector says.
+fn leaves_place(map: &VolumeMap, changes: &[Change]) -> bool
+    ensures { result ≡ list_all (leaves_boot (boot_block (geometry_in map.now) 0)) changes.now }
 {
-    let per = map.per_cluster;
-    let records = file_stream(alloc, &map.files, TABLE_FILE, BITMAP_TYPE)?;
-    let clusters = file_stream(alloc, &map.files, BITMAP_FILE, DATA)?;
-    Ok(
-        leaves(boot_block(&geometry_of(map), 0), changes)
-            && spares_all(per, &records, changes)
-            && spares_all(per, &clusters, changes),
-    )
+    leaves(boot_block(&geometry_of(map), 0), changes)
 }
 
 // A cluster has some sectors.
@@ -109,10 +103,10 @@ fn map_numbers(alloc: Global, map: &VolumeMap, changes: &[Change]) -> Result<Vec
     Ok(touched_numbers(alloc, per, count, map.table.runs.as_slice(), changes)?)
 }
 
-/// The numbers of the records that changes may be of, where these leave all else of a map: no file
-/// has an attribute list, no change is of record 0 where the boot sector says, none of a sector of
-/// a bitmap, and none of the records 0 and 6. Else none. It takes time linear in the changes, for
-/// each of them in the runs of the file table and of the bitmaps.
+/// The numbers of the records that changes may be of, where these leave all else of a map but its bits: no file
+/// has an attribute list, no change is of record 0 where the boot sector says, and none of the
+/// records 0 and 6. Else none. It takes time linear in the changes, for each of them in the runs of
+/// the file table.
 pub fn spared_numbers(
     alloc: Global,
     live: &LiveMap,
@@ -121,8 +115,8 @@ pub fn spared_numbers(
     ensures { IfOk result (λ found. IfSome found (λ numbers. Spares (volume_in live.now.map) (geometry_in live.now.map) changes.now numbers.items)) }
 {
     has_sectors(live.map.per_cluster);
-    let own = spares_own(alloc, &live.map, changes)?;
-    if !live.plain || !own {
+    let boot = leaves_place(&live.map, changes);
+    if !live.plain || !boot {
         return Ok(None);
     }
     let numbers = map_numbers(alloc, &live.map, changes)?;

@@ -1,7 +1,5 @@
-use Rattle.std.proofs.Common.{refl}
-use Rattle.map_change.specs.declared.change.MapChange.TheVariants.{Records}
 use Rattle.map_change.proofs.Prepared.{found_prepared}
 use Rattle.map_change.proofs.preparing.prepare_over.Goals as goal
 
 pub returns-in-Some-clause-answer : goal.returns-in-Some-clause-answer
-returns-in-Some-clause-answer g c = found_prepared _ c.args.live.now c.args.changes.now (Records c.in-Some.records) c.in-Some.records.items refl (rw c.in-Some.is at c.in_ok-found.ensures.value)
+returns-in-Some-clause-answer g c = found_prepared _ c.args.live.now c.args.changes.now c.in-Some.parts (rw c.in-Some.is at c.in_ok-found.ensures.value)
