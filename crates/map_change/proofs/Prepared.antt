@@ -25,7 +25,6 @@ use Rattle.volume_map.proofs.Loaded.{never}
 use Rattle.block_view.specs.Changes.{content_after}
 use Rattle.stream_laws.specs.Rewrites.{StandsAlone, with_files}
 use Rattle.map_change.specs.declared.live.LiveMap.{LiveMap}
-use Rattle.map_change.specs.declared.change.RecordChange.{RecordChange}
 use Rattle.map_change.specs.declared.change.PartsChange.{PartsChange}
 use Rattle.map_change.specs.declared.change.MapChange.{MapChange}
 use Rattle.map_change.specs.declared.change.MapChange.TheVariants.{Parts}

@@ -1,7 +1,7 @@
 -- The volume after changes of some records alone.
 use Rattle.std.proofs.Common.{◌≡◌, ℕ, ◌<◌, Bool, true, false, cond, List, [], length, get_or, map, Option, Some, None, Ok, refl, sym, ap, subst, ◌∙◌, inl, inr, arith}
 use Rattle.std.specs.List.{list_any, list_all, range_with_len}
-use Rattle.std.proofs.lemmas.Bool.{cases_lt, and_parts, or_parts, not-true}
+use Rattle.std.proofs.lemmas.Bool.{cases_lt, or_parts, not-true}
 use Rattle.std.proofs.lemmas.List.{ext_get_or}
 use Rattle.std.proofs.lemmas.List.Folds.{list_any-append}
 use Rattle.std.proofs.lemmas.List.FromFn.{get_or-map-range_with_len, length-map-range_with_len}
@@ -21,13 +21,12 @@ use Rattle.volume_map.specs.Heads.{head_of, head_at, heads_of, table_head, no_he
 use Rattle.block_view.specs.Changes.{writes_of, content_after}
 use Rattle.stream_laws.specs.Changes.{LeavesBytes, LeavesRecord}
 use Rattle.stream_laws.specs.Rewrites.{StandsAlone, names_one, RewritesRecords, with_files, new_file, changed_file}
-use Rattle.stream_laws.specs.Sharing.{runs_in}
 use Rattle.stream_laws.specs.Volumes.{base_record}
 use Rattle.stream_laws.proofs.Changing.{body_elsewhere, bytes_stay, record_bytes_stay}
 use Rattle.stream_laws.proofs.Rewriting.{past_table, volume_parts, parts_of_files, volume_written, count_is, rewrites_in_place}
 use Rattle.stream_laws.proofs.Tabling.{no_list_stream}
 use Rattle.map_change.specs.Plain.{is_plain}
-use Rattle.map_change.specs.Touching.{is_number, touched_numbers, leaves_boot, Spares}
+use Rattle.map_change.specs.Touching.{is_number, Spares}
 use Rattle.map_change.specs.Reading.{IsBits}
 use Rattle.map_change.specs.Applying.{with_bits}
 use Rattle.map_change.proofs.Lists.{put_numbers, length_put, get_put, other_put, all_at}

@@ -1,5 +1,5 @@
 -- Which records changes may be of, and which changes leave all else of a volume.
-use Rattle.std.specs.Prelude.{◌≡◌, ℕ, ◌+◌, ◌-◌, ◌*◌, ◌/◌, ◌<◌, Bool, true, false, not, ◌&&◌, ◌||◌, ◌==◌, nat_lt, if◌then◌else◌, List, [], Option, Some, None}
+use Rattle.std.specs.Prelude.{◌≡◌, ℕ, ◌+◌, ◌-◌, ◌*◌, ◌/◌, ◌<◌, Bool, true, false, not, ◌||◌, ◌==◌, nat_lt, if◌then◌else◌, List, [], Option, Some, None}
 use Rattle.std.specs.List.{list_all, list_any, filter_map, flat_map}
 use Rattle.disk_model.specs.declared.block.Block.{Block}
 use Rattle.disk_model.specs.declared.block.Change.{Change}
@@ -8,9 +8,8 @@ use Rattle.disk_model.specs.Sectors.{same_block, same_kind}
 use Rattle.record_model.specs.declared.runs.Run.{Run}
 use Rattle.state_model.specs.declared.geometry.Geometry.{Geometry}
 use Rattle.state_model.specs.Loads.{boot_block}
-use Rattle.volume_model.specs.Volumes.{Volume, count_of, record_bitmap, cluster_bitmap, table_file, bitmap_file}
+use Rattle.volume_model.specs.Volumes.{Volume, count_of, table_file, bitmap_file}
 use Rattle.volume_model.specs.Owners.{covers}
-use Rattle.stream_laws.specs.Sharing.{runs_in}
 use Rattle.map_change.specs.Plain.{is_plain}
 
 -- ---- records
