@@ -1,0 +1,5 @@
+pub mod Lists
+pub mod Blocks
+pub mod Standing
+pub mod Applied
+pub mod Prepared
