@@ -1,13 +1,11 @@
 //! Spare numbers of records.
 ghost use Rattle.std.specs.Prelude.{◌≡◌, ◌+◌, ◌*◌, ◌<◌, ◌≤◌, ◌^◌, true, IfOk, IfSome, OnOk, OnErr, length};
 ghost use Rattle.block_view.specs.Views.{AsksView};
-ghost use Rattle.bit_set.specs.Bits.{PutsRun};
 ghost use Rattle.stream_map.specs.Runs.{AreSmall};
 ghost use Rattle.volume_model.specs.Nodes.{spare_sequence};
 ghost use Rattle.plan_draft.specs.Drafts.{drafted};
 ghost use Rattle.plan_draft.specs.Faults.{fault_cause};
-ghost use Rattle.draft_bits.specs.Filling.{PutsBits, PutsFront};
-ghost use Rattle.draft_numbers.specs.Numbers.{new_sequence, IsLowestSpare};
+ghost use Rattle.draft_numbers.specs.Numbers.{new_sequence, IsLowestSpare, MarksNumber, PutsNumber, PutsNumberFront};
 
 use bit_set::BitSet;
 use block_view::{View, ViewFault};
@@ -110,4 +108,42 @@ pub fn spare_number<V: View>(
     };
     let seq = sequence_at(draft, alloc, per, table, number)?;
     Ok(Some(FileRef { number, seq }))
+}
+
+/// Takes the lowest spare number ([`spare_number`]) in a table whose bitmap lies in clusters: its bit
+/// is set there, in the draft, and among `bits`, so that the next call takes another one; none is
+/// taken where each bit is set. `bitmap` has the clusters of the bitmap of `$MFT`.
+///
+/// - [`ViewFault::Fault`]: the view failed, which is asked where a block wasn't touched.
+/// - [`ViewFault::Memory`]: want of memory.
+///
+/// After an error `bits` are as they were, and the draft is, or has the bit in its sector. It takes a
+/// [`spare_number`] and a [`put_bits`](draft_bits::put_bits).
+pub fn take_number<V: View>(
+    draft: &mut Draft<'_, V>,
+    alloc: Global,
+    per: ClusterSize,
+    table: &Extents,
+    bitmap: &Extents,
+    bits: &mut BitSet,
+) -> Result<Option<FileRef>, ViewFault>
+    requires table { AreSmall table.now.runs }
+    requires bitmap { AreSmall bitmap.now.runs }
+    requires size { bitmap.now.initialised < 2 ^ 63 }
+    requires few { length bits.old ≤ 2 ^ 48 }
+    ensures number { IfOk result (λ spare. IsLowestSpare bits.old spare) }
+    ensures sequence { IfSome (V.content draft.old.view.now) (λ c. IfOk result (λ spare. IfSome spare (λ r. r.seq ≡ new_sequence (drafted draft.old.touched.items c) per table.now r.number))) }
+    ensures marked { IfOk result (λ spare. MarksNumber bits.old bits.new spare) }
+    ensures put { IfSome (V.content draft.old.view.now) (λ c. IfOk result (λ spare. PutsNumber c per bitmap.now draft.old.touched.items draft.new.touched.items spare)) }
+    ensures unmarked { OnErr result (bits.new ≡ bits.old) }
+    ensures front { OnErr result (IfSome (V.content draft.old.view.now) (λ c. PutsNumberFront c per bitmap.now draft.old.touched.items draft.new.touched.items)) }
+    ensures asks { AsksView V.content V.kept V.faults fault_cause draft.old.view.now draft.new.view.now result }
+    ensures reference { draft.new.view.ghost_name ≡ draft.old.view.ghost_name }
+{
+    let Some(spare) = spare_number(draft, alloc, per, table, bits)? else {
+        return Ok(None);
+    };
+    put_bits(draft, alloc, per, bitmap, spare.number, 1, true)?;
+    bits.set_run(spare.number, 1);
+    Ok(Some(spare))
 }
