@@ -1,1 +1,2 @@
 pub mod Bitwise
+pub mod BitEffects

@@ -3,9 +3,11 @@
 #![tactic(auto)]
 
 mod bytes;
+mod laws;
 mod putting;
 
 pub use block_view::{View, ViewFault};
+pub use laws::bits_are_put;
 pub use plan_draft::Draft;
 pub use putting::put_bits;
 pub use state_model::{ClusterSize, Extents};

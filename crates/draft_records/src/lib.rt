@@ -14,6 +14,6 @@ pub use file_record::FileRec;
 pub use laws::{reads_the_table, spelled_fits_by_room};
 pub use plan_draft::Draft;
 pub use putting::put_file;
-pub use reading::{data_extents, file};
+pub use reading::{data_extents, file, is_past};
 pub use records::{record_of, written_body};
 pub use state_model::{ClusterSize, Extents};

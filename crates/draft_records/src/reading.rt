@@ -18,7 +18,7 @@ use state_model::{ClusterSize, Extents, Stream};
 use std::alloc::Global;
 use stream_map::{block_at, no_extents, stream_of};
 
-// Whether a record lies wholly past the initialised size.
+/// Whether a record lies wholly past the initialised size of these extents; in constant time.
 pub fn is_past(records: &Extents, number: u64) -> bool
     requires { number < 2 ^ 48 }
     ensures { result ≡ is_past records.now number }

@@ -1,0 +1,30 @@
+-- What bits that are put into a bitmap in clusters make of it.
+use Rattle.std.specs.Prelude.{◌≡◌, ◌⊎◌, ℕ, ◌+◌, ◌/◌, ◌%◌, ◌<◌, ◌≤◌, true, Bool, All, List, Some}
+use Rattle.disk_model.specs.declared.block.Block.{Block}
+use Rattle.disk_model.specs.declared.block.BlockKind.TheVariants.{Plain}
+use Rattle.disk_model.specs.Content.{Content, HasSizes}
+use Rattle.bit_set.specs.Words.{is_one}
+use Rattle.state_model.specs.declared.stream.Extents.{Extents}
+use Rattle.state_model.specs.Streams.{block_at, byte_at}
+use Rattle.plan_draft.specs.declared.touched.Touched.{Touched}
+use Rattle.plan_draft.specs.Touching.{rises, keys_of, IsWhole}
+use Rattle.plan_draft.specs.Drafts.{drafted}
+use Rattle.draft_streams.specs.Effects.{HasOwnSectors}
+use Rattle.draft_bits.specs.Filling.{PutsBits}
+
+-- the bit of the stream at a place, as a content has it
+abbrev pub stream_bit : Content → ℕ → Extents → ℕ → Bool
+stream_bit c per e i = is_one (byte_at c per e (i / 8)) (i % 8)
+
+-- whole bodies in order, as a draft keeps them
+pub record IsKept (touched : List Touched) : Type 0 where
+  pub rises : rises 0 (keys_of touched) ≡ true
+  pub whole : All IsWhole touched
+
+-- Where the sectors of the stream lie apart, the bits that are put have the value, if their sectors lie in runs, and each other bit
+-- is as before, as far as bytes lie below the initialised size.
+pub record BitsArePut : Type 0 where
+  pub inside : (c : Content) (per : ℕ) (e : Extents) (first len i : ℕ) (value : Bool) (old new : List Touched) (b : Block) → HasSizes c → IsKept old → IsKept new → HasOwnSectors per e.runs → PutsBits c per e first len value old new
+      → i / 8 < e.initialised → block_at per e.runs Plain (i / 8 / 512) ≡ Some b → first ≤ i → i < first + len → stream_bit (drafted new c) per e i ≡ value
+  pub others : (c : Content) (per : ℕ) (e : Extents) (first len i : ℕ) (value : Bool) (old new : List Touched) → HasSizes c → IsKept old → IsKept new → HasOwnSectors per e.runs → PutsBits c per e first len value old new
+      → i / 8 < e.initialised → (i < first) ⊎ (first + len ≤ i) → stream_bit (drafted new c) per e i ≡ stream_bit (drafted old c) per e i
