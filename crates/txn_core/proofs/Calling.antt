@@ -1,38 +1,24 @@
 -- What each call does to a store's window.
-use Rattle.std.proofs.Common.{◌≡◌, ◌⊎◌, subst, ℕ, ◌+◌, ◌-◌, ◌*◌, ◌%◌, ◌^◌, ◌<◌, ◌≤◌, Bool, true, false, cond, ◌||◌, nat_eq, List, length, Option, Some, None, Result, Ok, Err, refl, sym, ap, ◌∙◌, inl, inr, arith}
-use Rattle.std.specs.Prelude.{IfSome, OnOk, OnErr, is_some}
-use Rattle.std.specs.Option.{option_map}
+use Rattle.std.proofs.Common.{◌≡◌, subst, ℕ, ◌<◌, true, false, List, Option, Some, None, Result, Ok, Err, refl, sym, ap}
+use Rattle.std.specs.Prelude.{IfSome}
 use Rattle.host_base.specs.declared.outside.Failed.{Failed}
-use Rattle.disk_model.specs.declared.block.Block.{Block}
-use Rattle.disk_model.specs.declared.block.Body.{Body}
-use Rattle.disk_model.specs.Sectors.{sector_of, sectors, raw_from, are_rivals}
-use Rattle.fixup_record.specs.Protecting.{protected_bytes, next_check_word}
-use Rattle.fixup_record.specs.Spellings.{has_spelling, spelled}
-use Rattle.sector_device.specs.Disks.{Disk, IsSized, SeesDisk, is_within}
-use Rattle.sector_device.specs.Sectors.{IsDiskOf, sectors_of}
-use Rattle.sector_device.specs.Moments.{moment_after, Changes, Syncs}
-use Rattle.log_area.specs.Areas.{page_sector, held_page, made_page, IsWord}
-use Rattle.log_area.specs.Calls.{IsAsked, SentOrAsked, IsSentOrNot, sending_moment}
-use Rattle.store_model.specs.Volumes.{ContentWindow, sectors_from}
+use Rattle.fixup_record.specs.Protecting.{protected_bytes}
+use Rattle.sector_device.specs.Disks.{IsSized, SeesDisk}
+use Rattle.sector_device.specs.Moments.{Changes, Syncs}
+use Rattle.log_area.specs.Areas.{page_sector, held_page, made_page}
+use Rattle.log_area.specs.Calls.{IsAsked, SentOrAsked, IsSentOrNot}
 use Rattle.txn_model.specs.Values.{StoreFacts}
 use Rattle.log_model.specs.declared.entry.Act.TheVariants.{Commit}
 use Rattle.txn_model.specs.Pieces.{next_entry}
 use Rattle.txn_model.specs.Appending.{MayAppend}
-use Rattle.txn_model.specs.Calls.{begun_facts, committed_facts, given_up_facts, sealed_facts, is_ready, written_out_facts, sent_out_facts, again_facts}
-use Rattle.txn_laws.specs.Windows.{HasMachine, Simulates, AfterBegin, AfterCommit, AfterGiveUp, AfterWrite, MovesTo}
+use Rattle.txn_model.specs.Calls.{begun_facts, committed_facts, given_up_facts, sealed_facts}
+use Rattle.txn_laws.specs.Windows.{Simulates, AfterBegin, AfterCommit, AfterGiveUp, AfterWrite}
 use Rattle.txn_laws.proofs.Telling.{in_memory, by_read, sync_fails}
 use Rattle.txn_laws.proofs.Memory.{begins, seals_page, gives_up}
 use Rattle.txn_laws.proofs.Commits.{commits_now}
 use Rattle.txn_laws.proofs.PageWrites.{page_goes_out, page_goes_badly}
 use Rattle.txn_laws.proofs.Syncs.{is_synced}
-use Rattle.txn_laws.proofs.WriteOuts.{is_written_out, is_not_written_out}
-use Rattle.txn_laws.proofs.Agains.{is_written_again, is_not_written_again}
-use Rattle.device_blocks.specs.declared.word.CheckWord.{CheckWord}
-use Rattle.device_blocks.specs.declared.word.CheckWord.TheVariants.{Unread, Missing, Stands, Sent}
-use Rattle.device_blocks.specs.Words.{stood_check, next_word, known_word, IsFitWord}
-use Rattle.device_blocks.specs.Calls.{IsNextOf, IsPut, IsPutNow, PutOrAsked, IsPutOrNot, IsPutAgain, IsPutAgainOrNot}
-use Rattle.device_blocks.proofs.Pieces.{raw_sector}
-use Rattle.txn_core.specs.Calls.{page_facts, sync_facts, AfterSync, failed_out_facts, out_facts, WritesOut}
+use Rattle.txn_core.specs.Calls.{page_facts, sync_facts, AfterSync}
 
 -- ---- calls in memory
 

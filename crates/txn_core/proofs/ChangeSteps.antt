@@ -1,24 +1,23 @@
 -- What a change of a block does to a store's window, and what it leaves as it always is.
-use Rattle.std.proofs.Common.{◌≡◌, ◌⊎◌, subst, ℕ, ◌+◌, ◌<◌, ◌≤◌, Bool, true, false, cond, List, [], ◌∷◌, Option, Some, None, Result, Ok, Err, refl, sym, ap, ◌∙◌, inl, inr, arith}
-use Rattle.std.specs.Prelude.{IfSome, IfOk, OnOk, OnErr, is_some}
+use Rattle.std.proofs.Common.{◌≡◌, ◌⊎◌, subst, ℕ, Bool, true, false, cond, List, [], ◌∷◌, Option, Some, None, Result, Ok, Err, refl, sym, ap, ◌∙◌, inl, inr}
+use Rattle.std.specs.Prelude.{IfSome, IfOk, OnOk, is_some}
 use Rattle.disk_model.specs.declared.block.Block.{Block}
 use Rattle.disk_model.specs.declared.block.Body.{Body}
 use Rattle.disk_model.specs.Sectors.{same_block}
-use Rattle.sector_device.specs.Disks.{Disk, SeesDisk}
+use Rattle.sector_device.specs.Disks.{SeesDisk}
 use Rattle.sector_device.specs.Moments.{Changes}
 use Rattle.log_model.specs.declared.entry.Act.{Act}
 use Rattle.log_area.specs.Areas.{LogAreaOf, appended}
 use Rattle.log_model.specs.Logs.{is_in_grid}
-use Rattle.store_model.specs.Volumes.{is_known, is_free}
+use Rattle.store_model.specs.Volumes.{is_free}
 use Rattle.block_view.specs.declared.fault.ViewFault.{ViewFault}
-use Rattle.block_view.specs.declared.fault.ViewFault.TheVariants.{Fault, Memory}
 use Rattle.block_pool.specs.Pools.{held, with_block}
 use Rattle.store_pools.specs.Pools.{body_of_kept}
 use Rattle.txn_model.specs.Values.{StoreFacts, own_of}
 use Rattle.txn_model.specs.Pieces.{next_entry, log_with}
 use Rattle.txn_model.specs.Calls.{change_acts, changed_facts, given_up_facts}
 use Rattle.txn_state.specs.States.{HasSize, IsStore, MayChange}
-use Rattle.txn_laws.specs.Windows.{Simulates, AfterChange, AfterGiveUp}
+use Rattle.txn_laws.specs.Windows.{Simulates, AfterChange}
 use Rattle.txn_laws.proofs.Changes.{changes_in_memory}
 use Rattle.txn_laws.proofs.Syncs.{and_left}
 use Rattle.device_view.specs.Devices.{CountsCauseOnDevice, CountsOnDevice}

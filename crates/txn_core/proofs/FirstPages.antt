@@ -1,19 +1,18 @@
 -- The first page of a session, which its first restart page names.
-use Rattle.std.proofs.Common.{◌≡◌, subst, ℕ, ◌+◌, ◌-◌, ◌*◌, ◌/◌, ◌%◌, ◌^◌, ◌<◌, ◌≤◌, Bool, false, List, [], Option, Some, None, Ok, refl, sym, ap, ap₂, ◌∙◌, inl, arith}
+use Rattle.std.proofs.Common.{◌≡◌, subst, ℕ, ◌+◌, ◌-◌, ◌*◌, ◌/◌, ◌%◌, ◌^◌, ◌<◌, ◌≤◌, false, List, Option, Ok, refl, sym, ap, ap₂, ◌∙◌, inl, arith}
 use Rattle.std.specs.Prelude.{IfSome}
 use native.Mathlib.Nat.{zero-div, zero-mod}
-use Rattle.disk_model.specs.declared.block.Block.{Block}
 use Rattle.sector_device.specs.Disks.{Disk, IsSized, SeesDisk}
 use Rattle.sector_device.specs.Moments.{Changes}
 use Rattle.log_page.specs.declared.places.LogPlace.{LogPlace}
-use Rattle.log_page.specs.Places.{lap_of, page_of, is_in_ring, sequence_bits}
+use Rattle.log_page.specs.Places.{lap_of, page_of, sequence_bits}
 use Rattle.log_reading.specs.Rings.{IsRingPlace}
-use Rattle.log_area.specs.Areas.{LogAreaOf, new_area, lap_at, next_number, next_lsn, number_of, IsOldest, named_area, synced_area}
+use Rattle.log_area.specs.Areas.{LogAreaOf, new_area, lap_at, next_number, next_lsn, number_of, IsOldest}
 use Rattle.ring_laws.specs.Numbers.{LogSession}
 use Rattle.ring_laws.proofs.Numbering.{says_lap, says_page, says_ring}
 use Rattle.ring_laws.proofs.RingFacts.{has_ring, log_small}
 use Rattle.area_laws.specs.Laws.{SendsRestart, MayName}
-use Rattle.txn_laws.specs.Laws.{first_lsn, opened_area, StartsOn}
+use Rattle.txn_laws.specs.Laws.{first_lsn, opened_area}
 use Rattle.txn_laws.proofs.Openings.{opens_log}
 use Rattle.txn_laws.proofs.Telling.{known_before_write, known_before_sync}
 use Rattle.txn_core.specs.Openings.{OpensOn, NamesAndSyncs, StartsThen}

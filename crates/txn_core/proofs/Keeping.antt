@@ -1,5 +1,5 @@
 -- What is always so of a store stays so in each call.
-use Rattle.std.proofs.Common.{◌≡◌, subst, ℕ, ◌+◌, ◌<◌, ◌≤◌, Bool, true, false, cond, List, [], ◌∷◌, Option, Some, None, Result, Ok, Err, refl, sym, ap, ◌∙◌, arith}
+use Rattle.std.proofs.Common.{◌≡◌, subst, ℕ, ◌+◌, Bool, true, false, cond, List, Option, Some, None, Result, Ok, Err, refl, sym, ap, ◌∙◌, arith}
 use Rattle.std.specs.Prelude.{IfSome, OnOk, OnErr, is_some, ◌||◌}
 use Rattle.std.specs.Option.{option_or}
 use Rattle.host_base.specs.declared.outside.Failed.{Failed}
@@ -12,7 +12,7 @@ use Rattle.log_area.specs.Areas.{LogAreaOf, is_filling, sealed_area}
 use Rattle.store_model.specs.Volumes.{ContentWindow}
 use Rattle.block_pool.specs.Pools.{held}
 use Rattle.txn_model.specs.Values.{StoreFacts}
-use Rattle.txn_model.specs.Calls.{given_up_facts, sealed_facts, is_buried, written_facts, synced_facts}
+use Rattle.txn_model.specs.Calls.{given_up_facts, is_buried, written_facts, synced_facts}
 use Rattle.txn_state.specs.States.{StateOf, facts_of, IsStore}
 use Rattle.txn_laws.specs.Windows.{HasMachine, Simulates}
 use Rattle.txn_laws.proofs.Telling.{keeps}

@@ -1,7 +1,6 @@
 -- What a write-out does to a store's window, and what it leaves as it always is.
-use Rattle.std.proofs.Common.{◌≡◌, ◌⊎◌, subst, ℕ, ◌+◌, ◌-◌, ◌*◌, ◌%◌, ◌^◌, ◌<◌, ◌≤◌, Bool, true, false, cond, List, length, Option, Some, None, Result, Ok, Err, refl, sym, ap, ◌∙◌, inl, inr, arith}
-use Rattle.std.specs.Prelude.{IfSome, OnOk, OnErr, is_some, is_ok, unwrap_or, not, nat_le, nat_lt, ◌&&◌, ◌||◌, ◌==◌}
-use Rattle.std.specs.Option.{option_copied}
+use Rattle.std.proofs.Common.{◌≡◌, ◌⊎◌, subst, ℕ, ◌+◌, ◌%◌, ◌^◌, ◌<◌, ◌≤◌, Bool, true, false, cond, List, Option, Some, None, Result, Ok, Err, refl, sym, ap, ◌∙◌, inl, inr, arith}
+use Rattle.std.specs.Prelude.{IfSome, is_some, is_ok, unwrap_or, not, nat_lt, ◌||◌, ◌==◌}
 use Rattle.host_base.specs.Causes.{last_moment}
 use Rattle.host_base.specs.declared.outside.Failed.{Failed}
 use Rattle.disk_model.specs.declared.block.Block.{Block}
@@ -12,15 +11,14 @@ use Rattle.fixup_record.specs.Spellings.{has_spelling}
 use Rattle.sector_device.specs.Disks.{Disk, IsSized, SeesDisk, is_within}
 use Rattle.sector_device.specs.Sectors.{IsDiskOf, sectors_of}
 use Rattle.sector_device.specs.Moments.{moment_after, Changes}
-use Rattle.log_area.specs.Areas.{IsWord}
 use Rattle.log_area.specs.Calls.{IsAsked, sending_moment}
 use Rattle.store_model.specs.Volumes.{ContentWindow, sectors_from}
 use Rattle.block_pool.specs.Pools.{held, with_block, without_block}
 use Rattle.block_pool.proofs.LookUps.{looks_up}
 use Rattle.txn_model.specs.Values.{StoreFacts}
-use Rattle.txn_model.specs.Calls.{is_ready, written_out_facts, sent_out_facts, again_facts}
+use Rattle.txn_model.specs.Calls.{is_ready, written_out_facts, again_facts}
 use Rattle.txn_state.specs.States.{IsStore}
-use Rattle.txn_laws.specs.Windows.{HasWindow, Simulates, AfterWrite, MovesTo}
+use Rattle.txn_laws.specs.Windows.{Simulates, AfterWrite, MovesTo}
 use Rattle.txn_laws.proofs.Telling.{by_read, known_before_write}
 use Rattle.txn_laws.proofs.Syncs.{and_left, and_right}
 use Rattle.txn_laws.proofs.WriteOuts.{is_written_out, is_not_written_out}
@@ -28,7 +26,7 @@ use Rattle.txn_laws.proofs.Agains.{is_written_again, is_not_written_again}
 use Rattle.device_blocks.specs.declared.word.CheckWord.{CheckWord}
 use Rattle.device_blocks.specs.declared.word.CheckWord.TheVariants.{Unread, Missing, Stands, Sent}
 use Rattle.device_blocks.specs.Words.{stood_check, next_word, known_word, IsFitWord}
-use Rattle.device_blocks.specs.Calls.{IsNextOf, IsPut, IsPutNow, PutOrAsked, IsPutOrNot, IsPutAgain, IsPutAgainOrNot}
+use Rattle.device_blocks.specs.Calls.{IsNextOf, IsPut, PutOrAsked, IsPutAgain, IsPutAgainOrNot}
 use Rattle.device_blocks.proofs.Pieces.{raw_sector}
 use Rattle.txn_core.specs.Calls.{failed_out_facts, spelled_or_not, is_spelled, out_facts, out_words, WritesOut}
 

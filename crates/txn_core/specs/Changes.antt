@@ -1,6 +1,6 @@
 -- What a change of a block asks, and what it does to a store.
-use Rattle.std.specs.Prelude.{◌≡◌, ◌⊎◌, ℕ, ◌+◌, ◌*◌, ◌<◌, ◌≤◌, Bool, true, false, List, length, Option, Some, None, is_some, unwrap_or, Result, Ok, Err, IfSome, OnOk}
-use Rattle.host_base.specs.Answers.{Cause, refused, no_memory, failed, never}
+use Rattle.std.specs.Prelude.{◌≡◌, ◌⊎◌, ℕ, ◌+◌, ◌*◌, ◌<◌, ◌≤◌, true, false, List, length, Option, None, is_some, unwrap_or, Result, Ok, Err, IfSome}
+use Rattle.host_base.specs.Answers.{Cause, no_memory, failed}
 use Rattle.disk_model.specs.declared.block.Block.{Block}
 use Rattle.disk_model.specs.declared.block.Body.{Body}
 use Rattle.disk_model.specs.Bytes.{written}

@@ -1,10 +1,9 @@
 -- What contracts see of a store on a device, and what is always so of it.
-use Rattle.std.specs.Prelude.{◌≡◌, ◌≤◌, ℕ, true, List, Option, None, is_some, IfSome, unwrap_or}
+use Rattle.std.specs.Prelude.{◌≡◌, ◌≤◌, ℕ, true, List, None, is_some, IfSome, unwrap_or}
 use Rattle.disk_model.specs.declared.block.Block.{Block}
 use Rattle.sector_device.specs.Moments.{Changes}
 use Rattle.store_model.specs.Volumes.{ContentWindow}
 use Rattle.block_pool.specs.Pools.{held}
-use Rattle.txn_model.specs.Values.{StoreFacts}
 use Rattle.txn_state.specs.States.{StateOf, facts_of}
 use Rattle.txn_laws.specs.Windows.{HasMachine, Simulates}
 use Rattle.device_blocks.specs.declared.word.CheckWord.{CheckWord}

@@ -1,4 +1,4 @@
-use Rattle.std.proofs.Common.{subst, ap, ℕ}
+use Rattle.std.proofs.Common.{subst}
 use Rattle.log_area.specs.Areas.{LogAreaOf, next_lsn}
 use Rattle.txn_core.specs.Openings.{NamesAndSyncs}
 use Rattle.txn_core.proofs.FirstPages.{opens_then, oldest_is, oldest_place, remainder_small}

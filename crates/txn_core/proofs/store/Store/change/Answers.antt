@@ -1,4 +1,4 @@
-use Rattle.std.proofs.Common.{◌≡◌, ◌+◌, ◌≤◌, refl, sym, ap, subst, ◌∙◌, arith}
+use Rattle.std.proofs.Common.{refl, sym, subst, arith}
 use Rattle.std.specs.Prelude.{OnOk}
 use Rattle.device_view.specs.Devices.{CountsOnDevice}
 use Rattle.txn_state.specs.States.{facts_of}

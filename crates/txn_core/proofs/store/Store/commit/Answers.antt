@@ -1,4 +1,4 @@
-use Rattle.std.proofs.Common.{◌≡◌, ◌<◌, ◌^◌, true, refl, sym, ap, subst, ◌∙◌}
+use Rattle.std.proofs.Common.{refl, sym, ap, subst, ◌∙◌}
 use Rattle.log_model.specs.declared.entry.Act.TheVariants.{Commit}
 use Rattle.txn_model.specs.Appending.{MayAppend}
 use Rattle.txn_model.specs.Pieces.{next_entry}
@@ -7,7 +7,7 @@ use Rattle.txn_state.specs.States.{facts_of}
 use Rattle.txn_laws.specs.Windows.{AfterCommit}
 use Rattle.txn_core.specs.Seen.{Seen}
 use Rattle.txn_core.proofs.Calling.{commit_step}
-use Rattle.txn_core.proofs.Keeping.{step_of, stands_after, sealed_named, given_up_worded}
+use Rattle.txn_core.proofs.Keeping.{step_of, stands_after}
 use Rattle.txn_core.proofs.store.Store.commit.Goals as goal
 
 pub returns-clause-step : goal.returns-clause-step

@@ -1,4 +1,4 @@
-use Rattle.std.proofs.Common.{subst, sym, ap, List}
+use Rattle.std.proofs.Common.{subst, sym, List}
 use Rattle.std.specs.Prelude.{IfSome, is_some}
 use Rattle.disk_model.specs.declared.block.Block.{Block}
 use Rattle.block_pool.specs.Pools.{held}

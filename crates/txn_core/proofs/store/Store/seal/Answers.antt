@@ -1,13 +1,9 @@
-use Rattle.std.proofs.Common.{◌≡◌, ◌<◌, ◌^◌, true, refl, sym, ap, subst, ◌∙◌}
-use Rattle.log_model.specs.declared.entry.Act.TheVariants.{Commit}
-use Rattle.txn_model.specs.Appending.{MayAppend}
-use Rattle.txn_model.specs.Pieces.{next_entry}
+use Rattle.std.proofs.Common.{refl, ◌∙◌}
 use Rattle.txn_model.specs.Calls.{sealed_facts}
 use Rattle.txn_state.specs.States.{facts_of}
 use Rattle.txn_laws.specs.Windows.{AfterWrite}
-use Rattle.txn_core.specs.Seen.{Seen}
 use Rattle.txn_core.proofs.Calling.{seal_step}
-use Rattle.txn_core.proofs.Keeping.{step_of, stands_after, sealed_named, given_up_worded}
+use Rattle.txn_core.proofs.Keeping.{step_of, stands_after, sealed_named}
 use Rattle.txn_core.proofs.store.Store.seal.Goals as goal
 
 pub returns-clause-step : goal.returns-clause-step

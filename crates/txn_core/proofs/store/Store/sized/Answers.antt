@@ -1,4 +1,4 @@
-use Rattle.std.proofs.Common.{subst, ap}
+use Rattle.std.proofs.Common.{subst}
 use Rattle.txn_core.specs.Seen.{Seen}
 use Rattle.txn_core.specs.Views.{KeepsSizes}
 use Rattle.txn_core.proofs.PresentSizes.{keeps_sizes}

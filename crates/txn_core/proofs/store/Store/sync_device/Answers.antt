@@ -1,9 +1,7 @@
-use Rattle.std.proofs.Common.{◌≡◌, true, refl, sym, ap, subst, ◌∙◌}
 use Rattle.txn_state.specs.States.{facts_of}
 use Rattle.txn_core.specs.Calls.{sync_facts, AfterSync}
-use Rattle.txn_core.specs.Seen.{Seen}
 use Rattle.txn_core.proofs.Calling.{sync_step}
-use Rattle.txn_core.proofs.Keeping.{step_of, facts_seen, stands_after, sync_result, sync_named, sync_worded}
+use Rattle.txn_core.proofs.Keeping.{step_of, stands_after, sync_result, sync_named, sync_worded}
 use Rattle.txn_core.proofs.store.Store.sync_device.Goals as goal
 
 pub returns-clause-step : goal.returns-clause-step

@@ -1,4 +1,4 @@
-use Rattle.std.proofs.Common.{◌≡◌, Bool, true, List, refl, sym, ap, subst, ◌∙◌}
+use Rattle.std.proofs.Common.{◌≡◌, Bool, true, List, sym, ap, subst, ◌∙◌}
 use Rattle.std.specs.Prelude.{is_ok, is_some, IfSome}
 use Rattle.disk_model.specs.declared.block.Block.{Block}
 use Rattle.disk_model.specs.Sectors.{are_rivals}
@@ -9,7 +9,7 @@ use Rattle.txn_laws.specs.Windows.{MovesTo}
 use Rattle.device_blocks.specs.declared.word.CheckWord.{CheckWord}
 use Rattle.device_blocks.specs.Words.{IsFitWord}
 use Rattle.txn_core.specs.Calls.{is_spelled, out_facts, out_words, WritesOut, IsOut}
-use Rattle.txn_core.specs.Seen.{Seen, word_of}
+use Rattle.txn_core.specs.Seen.{Seen}
 use Rattle.txn_core.proofs.Keeping.{step_of, stands_after}
 use Rattle.txn_core.proofs.Outs.{ready_kept, word_fit, out_step, out_named, out_worded, out_fit}
 use Rattle.txn_core.proofs.store.Store.write_out.Goals as goal

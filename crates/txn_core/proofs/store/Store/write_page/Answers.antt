@@ -1,13 +1,10 @@
-use Rattle.std.proofs.Common.{◌≡◌, ◌<◌, true, refl, sym, ap, subst, ◌∙◌}
-use Rattle.fixup_record.specs.Protecting.{protected_bytes}
-use Rattle.log_area.specs.Areas.{page_sector, held_page, made_page}
-use Rattle.log_area.specs.Calls.{IsSentOrNot}
+use Rattle.std.proofs.Common.{◌<◌, sym, subst}
 use Rattle.txn_state.specs.States.{facts_of}
 use Rattle.txn_laws.specs.Windows.{AfterWrite}
 use Rattle.txn_core.specs.Calls.{page_facts}
 use Rattle.txn_core.specs.Seen.{Seen}
 use Rattle.txn_core.proofs.Calling.{page_step}
-use Rattle.txn_core.proofs.Keeping.{step_of, facts_seen, stands_after, page_result, page_named, page_worded}
+use Rattle.txn_core.proofs.Keeping.{step_of, stands_after, page_result, page_named, page_worded}
 use Rattle.txn_core.proofs.store.Store.write_page.Goals as goal
 
 pub returns-clause-step : goal.returns-clause-step
