@@ -1,5 +1,5 @@
 -- The pages that were counted are enough.
-use Rattle.std.proofs.Common.{◌≡◌, subst, ℕ, ◌+◌, ◌<◌, ◌≤◌, Bool, true, false, cond, List, [], ◌∷◌, ◌++◌, length, map, refl, sym, ap, ◌∙◌, arith}
+use Rattle.std.proofs.Common.{◌≡◌, subst, ℕ, ◌+◌, Bool, true, false, cond, List, [], ◌∷◌, ◌++◌, length, map, refl, sym, ap, ◌∙◌, arith}
 use mathlib.Core.Path.{fun_ext}
 use Rattle.std.specs.Prelude.{◌==◌}
 use Rattle.std.proofs.lemmas.Bool.{ne_eqb}
@@ -8,12 +8,12 @@ use Rattle.disk_model.specs.declared.block.Change.{Change}
 use Rattle.disk_model.specs.Sectors.{same_block, are_rivals}
 use Rattle.log_model.specs.declared.entry.Act.TheVariants.{Commit}
 use Rattle.log_model.specs.Entries.{act_size}
-use Rattle.log_area.specs.Areas.{LogAreaOf, IsLogArea, free_pages}
+use Rattle.log_area.specs.Areas.{LogAreaOf, free_pages}
 use Rattle.txn_model.specs.declared.mark.Mark.{Mark}
-use Rattle.txn_model.specs.Pieces.{log_with, last_of}
-use Rattle.txn_model.specs.Calls.{changed_mark, rival_mark, changed_marks}
+use Rattle.txn_model.specs.Pieces.{log_with}
+use Rattle.txn_model.specs.Calls.{changed_mark, rival_mark}
 use Rattle.txn_log.specs.Counts.{change_sizes, imaged_after, sizes_of, pages_of, pages_needed}
-use Rattle.txn_log.specs.Laws.{IsFilled, HasRoom, IsLogged, acts_of, PagesAreEnough}
+use Rattle.txn_log.specs.Laws.{HasRoom, IsLogged, acts_of, PagesAreEnough}
 use Rattle.txn_log.proofs.Rooms.{Enough, enough}
 use Rattle.txn_log.proofs.Fitting.{change_fits}
 

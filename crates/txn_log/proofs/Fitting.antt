@@ -1,6 +1,5 @@
 -- The updates of a change have spellings, and their sizes are those that are counted.
-use Rattle.std.proofs.Common.{◌≡◌, ◌⊎◌, subst, ℕ, zero, suc, ◌+◌, ◌-◌, ◌*◌, ◌%◌, ◌^◌, ◌<◌, ◌≤◌, min, Bool, true, false, List, [], ◌∷◌, length, map, drop, refl, sym, ap, ap₂, ◌∙◌, inl, inr, arith}
-use Rattle.std.specs.Prelude.{◌==◌}
+use Rattle.std.proofs.Common.{◌≡◌, subst, ℕ, zero, suc, ◌+◌, ◌-◌, ◌*◌, ◌%◌, ◌^◌, ◌<◌, ◌≤◌, min, Bool, true, false, List, [], ◌∷◌, length, map, drop, refl, sym, ap, ap₂, ◌∙◌, inl, inr, arith}
 use Rattle.std.specs.List.{AllByRecursion}
 use Rattle.std.proofs.lemmas.Bool.{cases_lt, eqb-true}
 use Rattle.std.proofs.lemmas.List.{length-take-le, length-drop}
@@ -11,7 +10,6 @@ use Rattle.disk_model.specs.declared.block.Change.{Change}
 use Rattle.disk_model.specs.Bytes.{part, written}
 use Rattle.disk_model.specs.Sectors.{sectors}
 use Rattle.disk_model.proofs.Frames.{length-written}
-use Rattle.log_model.specs.declared.entry.Act.{Act}
 use Rattle.log_model.specs.Entries.{act_size, update_size, IsPlaced, FitsAct}
 use Rattle.log_model.specs.Logs.{may_begin, is_in_grid}
 use Rattle.block_pool.specs.Numbers.{kind_number}
