@@ -69,6 +69,14 @@ pub of_each : (known : Option Content) (upper : List ℕ) (v : Volume) (P : Tree
 of_each None upper v P f = tt
 of_each (Some c) upper v P f = any_choice (is_asked_so upper v c) (tree_of c v) P (λ is. f c)
 
+any_known : (t : Bool) (tree : Tree) → IfSome (if t then Some tree else None) (λ x. ℕ)
+any_known true tree = 0
+any_known false tree = tt
+
+pub anything : (known : Option Content) (upper : List ℕ) (v : Volume) → IfSome (known_tree upper v known) (λ t. ℕ)
+anything None upper v = tt
+anything (Some c) upper v = any_known (is_asked_so upper v c) (tree_of c v)
+
 -- ---- nodes
 
 bare_node : (bytes : Option Stream → List ℕ) (v : Volume) (n : ℕ) (r : Record) → node_by no_bytes v n r ≡ without_bytes (node_by bytes v n r)
@@ -91,7 +99,7 @@ pub tree_links : (c : Content) (v : Volume) → (tree_of c v).links ≡ all_link
 unfolding tree_of tree_with
 tree_links c v = refl
 
-found_in_tree : (c : Content) (v : Volume) (n : ℕ) → node_by_number (tree_of c v).nodes n ≡ some_node (bytes_or c v.per) v n (file_in v n)
+pub found_in_tree : (c : Content) (v : Volume) (n : ℕ) → node_by_number (tree_of c v).nodes n ≡ some_node (bytes_or c v.per) v n (file_in v n)
 unfolding node_at
 found_in_tree c v n = ap (λ (nodes : List Node). node_by_number nodes n) (tree_nodes c v) ∙ found_by_number (bytes_or c v.per) v n
 

@@ -1,3 +1,4 @@
 pub mod Asking
 pub mod Seeking
 pub mod Giving
+pub mod Fronting

@@ -1,4 +1,5 @@
-//! A loaded volume that is asked for its nodes and names, through the indexes of its directories.
+//! A loaded volume that is asked for its nodes, names and bytes, through the indexes of its
+//! directories and the streams of its files.
 //!
 //! The contract: where a view's content is that of a volume that breaks no rule, each call answers
 //! of the tree that it stands for; no call goes over the volume. The layouts are those of the
@@ -9,6 +10,7 @@ mod choosing;
 mod finding;
 mod listing;
 mod nodes;
+mod reading;
 mod volume;
 
 pub use block_view::View;

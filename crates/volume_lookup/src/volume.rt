@@ -1,4 +1,7 @@
-ghost use Rattle.std.specs.Prelude.{◌≡◌, None, Some, IfSome};
+ghost use Rattle.std.specs.Prelude.{◌≡◌, None, Some, length, IfSome};
+ghost use Rattle.block_view.specs.Views.{AsksView};
+ghost use Rattle.tree_lookup.specs.Asked.{lookup_cause, AnswersOrFails};
+ghost use Rattle.volume_lookup.specs.Fronts.{front_of, bytes_at};
 ghost use Rattle.volume_map.specs.Maps.{volume_in};
 ghost use Rattle.volume_model.specs.Volumes.{upper_of};
 ghost use Rattle.volume_state.specs.Rules.{first_broken};
@@ -8,6 +11,7 @@ ghost use Rattle.volume_lookup.specs.Known.{known_tree};
 use crate::finding::link_found;
 use crate::listing::names_held;
 use crate::nodes::{bare_node, long_names};
+use crate::reading::front_shown;
 use block_view::View;
 use std::alloc::Global;
 use tree_lookup::{Link, Lookup, LookupFault, Name, NameList, Node};
@@ -33,6 +37,27 @@ impl<'a, V: View> VolumeTree<'a, V> {
         ensures tree { IfSome (V.content view) (λ c. first_broken c (volume_in volume.now.map.now) ≡ None → up.now ≡ upper_of c (volume_in volume.now.map.now) → known_tree up.now (volume_in volume.now.map.now) (V.content view) ≡ Some (tree_of c (volume_in volume.now.map.now))) }
     {
         VolumeTree { view, volume, up }
+    }
+
+    /// Makes `out` the bytes of the node with this number from a place on, and zeros behind its end;
+    /// without such a node, and for one that shows no data, zeros. It takes time linear in the
+    /// attributes, runs and names of the file, and reads the sectors that it touches.
+    ///
+    /// - [`LookupFault::Outside`]: the view failed, and counts it; any bytes may stand in `out` then.
+    /// - [`LookupFault::Memory`]: there is no memory left.
+    pub fn front(
+        &mut self,
+        alloc: Global,
+        number: u64,
+        at: u64,
+        out: &mut [u8],
+    ) -> Result<(), LookupFault>
+        ensures value { IfSome (known_tree self.old.up.now (volume_in self.old.volume.now.map.now) (V.content self.old.view)) (λ t. AnswersOrFails result (λ done. out.new ≡ front_of (bytes_at t.nodes number) at (length out.old))) }
+        ensures asks { AsksView V.content V.kept V.faults lookup_cause self.old.view self.new.view result }
+        ensures volume { self.new.volume.now ≡ self.old.volume.now }
+        ensures up { self.new.up.now ≡ self.old.up.now }
+    {
+        front_shown(alloc, &mut self.view, self.volume, number, at, out)
     }
 
     /// The view alone.

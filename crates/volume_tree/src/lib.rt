@@ -1,5 +1,6 @@
 //! What the files of a loaded volume stand for: their names, the nodes with their kinds, why these
-//! can't be changed, and the sizes of their data, and the tree of them with the spare numbers.
+//! can't be changed, the data that they show and its sizes, and the tree of them with the spare
+//! numbers.
 //!
 //! The contract: names, nodes and tree are those of the definitions; nodes are without their bytes.
 //! The layouts are those of the Linux-NTFS documentation, "FILE Record", "Attribute Header",
@@ -9,9 +10,11 @@
 mod kind;
 mod names;
 mod node;
+mod shown;
 mod stream;
 mod tree;
 
 pub use names::NamedVolume;
 pub use node::{bare_nodes, node_at};
+pub use shown::shown_at;
 pub use tree::tree_with;

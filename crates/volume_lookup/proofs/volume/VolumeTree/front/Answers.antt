@@ -1,0 +1,9 @@
+use Rattle.std.proofs.Common.{length}
+use Rattle.volume_map.specs.Maps.{volume_in}
+use Rattle.volume_lookup.proofs.Fronting.{front_known}
+use Rattle.volume_lookup.proofs.volume.VolumeTree.front.Goals as goal
+
+pub returns-clause-value : goal.returns-clause-value
+returns-clause-value g c =
+    let s = c.args.self.now in
+    front_known (g.V.View.content s.view) s.up.now (volume_in s.volume.now.map.now) c.args.number c.args.at (length c.args.out.now) c.front_shown.new.out c.front_shown.result c.front_shown.ensures.value
