@@ -18,9 +18,9 @@ struct Part {
 }
 
 // The sector of a change, its place in it, how many bytes it has, and its first new byte.
-type Told = (u64, u32, usize, Option<u8>);
+pub type Told = (u64, u32, usize, Option<u8>);
 
-fn told(alloc: Global, changes: &[Change]) -> Result<Vec<Told>, AllocError> {
+pub fn told(alloc: Global, changes: &[Change]) -> Result<Vec<Told>, AllocError> {
     let mut all = Vec::new(alloc);
     for change in changes {
         let new = change.new.as_slice();
