@@ -67,5 +67,5 @@ page_step gives changes moment count f (Err fault) now old new sees sized lt sen
 pub sync_step : {D : Type 0} (changes : D → Changes) (moment : D → ℕ) (count : ℕ) (f : StoreFacts) (result : Result (Unit {0}) Failed) (old new : D)
     → IfSome (changes new).disk IsSized → f.log.named ≡ None → Syncs (moment old) result (changes old) (changes new)
     → Simulates count (moment old) (changes old) (changes new) f (sync_facts result f) (AfterSync result f)
-sync_step changes moment count f (Ok tt) old new sized unnamed syncs = is_synced changes moment count f old new sized unnamed syncs
+sync_step changes moment count f (Ok tt) old new sized unnamed syncs = is_synced changes moment count f old new sized syncs
 sync_step changes moment count f (Err fault) old new sized unnamed syncs = sync_fails count (moment old) fault (changes old) (changes new) f syncs
