@@ -103,10 +103,10 @@ fn map_numbers(alloc: Global, map: &VolumeMap, changes: &[Change]) -> Result<Vec
     Ok(touched_numbers(alloc, per, count, map.table.runs.as_slice(), changes)?)
 }
 
-/// The numbers of the records that changes may be of, where these leave all else of a map but its bits: no file
-/// has an attribute list, no change is of record 0 where the boot sector says, and none of the
-/// records 0 and 6. Else none. It takes time linear in the changes, for each of them in the runs of
-/// the file table.
+/// The numbers of the records that changes may be of, where these leave all else of a map but its
+/// bits: no file has an attribute list, no change is of record 0 where the boot sector says, and
+/// none of the records 0 and 6. Else none. It takes time linear in the changes, for each of them in
+/// the runs of the file table.
 pub fn spared_numbers(
     alloc: Global,
     live: &LiveMap,
