@@ -110,15 +110,15 @@ pub fn spare_number<V: View>(
     Ok(Some(FileRef { number, seq }))
 }
 
-/// Takes the lowest spare number ([`spare_number`]) in a table whose bitmap lies in clusters: its bit
-/// is set there, in the draft, and among `bits`, so that the next call takes another one; none is
-/// taken where each bit is set. `bitmap` has the clusters of the bitmap of `$MFT`.
+/// Takes the lowest spare number ([`spare_number`]) in a table whose bitmap lies in clusters: its
+/// bit is set there, in the draft, and among `bits`, so that the next call takes another one; none
+/// is taken where each bit is set. `bitmap` has the clusters of the bitmap of `$MFT`.
 ///
 /// - [`ViewFault::Fault`]: the view failed, which is asked where a block wasn't touched.
 /// - [`ViewFault::Memory`]: want of memory.
 ///
-/// After an error `bits` are as they were, and the draft is, or has the bit in its sector. It takes a
-/// [`spare_number`] and a [`put_bits`](draft_bits::put_bits).
+/// After an error `bits` are as they were, and the draft is, or has the bit in its sector. It takes
+/// a [`spare_number`] and a [`put_bits`](draft_bits::put_bits).
 pub fn take_number<V: View>(
     draft: &mut Draft<'_, V>,
     alloc: Global,
