@@ -44,14 +44,6 @@ impl Runs {
         }
     }
 
-    /// These runs; this takes no memory.
-    pub fn of(items: Vec<Run>) -> Self
-        requires { AreSmall items.items }
-        ensures { result ≡ items.items }
-    {
-        Runs { items }
-    }
-
     /// Adds a run at the end. The error is want of memory, and leaves the runs as they were.
     pub fn push(&mut self, run: Run) -> Result<(), AllocError>
         requires { IsSmall run }
@@ -59,6 +51,16 @@ impl Runs {
         ensures unchanged { OnErr result (self.new ≡ self.old) }
     {
         self.items.push(run)?;
+        Ok(())
+    }
+
+    /// Adds these runs at the end; linear in them. The error is want of memory, and leaves the runs
+    /// as they were.
+    pub fn extend(&mut self, runs: &Runs) -> Result<(), AllocError>
+        ensures added { OnOk result (self.new ≡ self.old ++ runs.now) }
+        ensures unchanged { OnErr result (self.new ≡ self.old) }
+    {
+        self.items.extend_from_slice(&runs.items)?;
         Ok(())
     }
 
