@@ -3,12 +3,10 @@ use Rattle.std.proofs.Common.{◌≡◌, ℕ, zero, suc, ◌+◌, ◌-◌, ◌*�
 use Rattle.std.specs.Prelude.{IfSome, Option, nat_le, IsOk}
 use Rattle.std.proofs.lemmas.Bool.{lt-leb}
 use Rattle.std.proofs.lemmas.List.{append_assoc, append-nil, take-append-le}
-use Rattle.std.proofs.lemmas.List.Elements.{filter-append, All-from_recursion}
+use Rattle.std.proofs.lemmas.List.Elements.{filter-append}
 use Rattle.host_base.specs.Answers.{◌>>=◌, ExplainsOrFails}
 use Rattle.host_base.proofs.Known.{both, one}
 use Rattle.disk_model.specs.Content.{Content}
-use Rattle.record_model.specs.declared.runs.Run.{Run}
-use Rattle.stream_map.specs.Runs.{IsSmall, AreSmall}
 use Rattle.file_tree.specs.declared.journal.Usn.{Usn}
 use Rattle.state_model.specs.declared.stream.Extents.{Extents}
 use Rattle.state_model.specs.Streams.{byte_at}
@@ -150,7 +148,3 @@ known_broken known per e from k most first found fault is lt left said =
     (subst (λ (n : ℕ). ExplainsOrFails (page_cause fault) (page_entries (byte_at c per e) n e.real k)) is h)) left said
 
 -- ---- runs
-
--- a run alone is small where it is
-pub one_small : (r : Run) → IsSmall r → AreSmall ([] ++ r ∷ [])
-one_small r small = All-from_recursion IsSmall (r ∷ []) (small, tt)

@@ -4,7 +4,6 @@ ghost use Rattle.host_base.specs.Answers.{GivesOrFails};
 ghost use Rattle.file_tree.specs.declared.journal.Usn.{Usn as UsnOf};
 ghost use Rattle.journal_model.specs.Journals.{page_entries};
 ghost use Rattle.state_model.specs.Streams.{byte_at};
-ghost use Rattle.stream_map.specs.Runs.{AreSmall};
 ghost use Rattle.block_view.specs.Views.{AsksView};
 ghost use Rattle.volume_state.specs.Journals.{journal_first, journal_entries};
 ghost use Rattle.usn_journal.specs.PullErrors.{journal_cause, page_cause};
@@ -34,7 +33,6 @@ fn read_bytes<V: View>(
     body: &mut Body,
     page: &mut [u8],
 ) -> Result<UsnList, PageFault>
-    requires small { AreSmall extents.now.runs }
     requires begun { first < PAGE * number + PAGE }
     requires left { first ≤ extents.now.real }
     requires inside { PAGE * number < extents.now.real }
@@ -60,7 +58,6 @@ fn read_number<V: View>(
     body: &mut Body,
     room: &mut [u8],
 ) -> Result<UsnList, PageFault>
-    requires small { AreSmall extents.now.runs }
     requires begun { first < PAGE * number + PAGE }
     requires left { first ≤ extents.now.real }
     requires inside { PAGE * number < extents.now.real }
@@ -116,7 +113,6 @@ pub fn read_pages<V: View>(
     body: &mut Body,
     room: &mut [u8],
 ) -> Result<Vec<Usn>, PageFault>
-    requires small { AreSmall extents.now.runs }
     requires first { first ≡ journal_first per extents.now }
     requires begun { first ≤ from }
     requires left { from ≤ extents.now.real }
