@@ -2,8 +2,8 @@
 ghost use Rattle.std.specs.Prelude.{◌≡◌, ◌++◌, ◌&&◌, ◌==◌, not, nat_lt, IfOk, OnOk, length, map};
 ghost use Rattle.std.specs.List.{range_with_len, list_any};
 ghost use Rattle.file_tree.specs.declared.link.Link.{Link as the_link};
-ghost use Rattle.file_tree.specs.Walks.{root};
-ghost use Rattle.state_model.specs.Trees.{all_links, first_user_record, first_parent, parent_at, leads, is_in_system, is_system};
+ghost use Rattle.file_tree.specs.Walks.{root, first_user_record};
+ghost use Rattle.state_model.specs.Trees.{all_links, first_parent, parent_at, leads, is_in_system, is_system};
 ghost use Rattle.state_model.specs.Loads.{table_in};
 ghost use Rattle.record_rules.specs.Links.{links_in};
 

@@ -1,8 +1,8 @@
 //! A tree in memory, of which each list is gone through from the front.
 ghost use Rattle.std.specs.Prelude.{◌≡◌, IfOk};
 ghost use Rattle.std.specs.Option.{option_copied};
-ghost use Rattle.file_tree.specs.Trees.{same_links, look_up, long_links_in, node_at, long_names_of, IsListing};
-ghost use Rattle.tree_lookup.specs.Asked.{bare_at, without_bytes};
+ghost use Rattle.file_tree.specs.Trees.{same_links, look_up, long_links_in, node_at, long_names_of, IsListing, without_bytes};
+ghost use Rattle.tree_lookup.specs.Asked.{bare_at};
 
 use crate::choosing::chosen;
 use crate::fault::LookupFault;
