@@ -1,4 +1,5 @@
 -- A climb over the nodes and names of a tree says which files are those of the volume itself.
+use mathlib.Core.Path.{fun_ext}
 use Rattle.std.proofs.Common.{◌≡◌, ◌≢◌, ◌⊎◌, ℕ, zero, suc, ◌+◌, ◌<◌, ◌≤◌, Bool, true, false, not, cond, ◌&&◌, ◌||◌, eqb, leb, ltb, List, [], ◌∷◌, map, length, find, Option, Some, None, refl, sym, ap, ap₂, subst, ◌∙◌, inl, inr, arith}
 use Rattle.std.specs.Prelude.{count_by}
 use Rattle.std.specs.List.{filter, list_all, list_any, AllByRecursion}
@@ -153,18 +154,8 @@ node_named bytes v m d is =
 
 -- ---- the climb over names
 
-same_at : (f g : ℕ → Bool) → ((m : ℕ) → f m ≡ g m) → (o : Option ℕ) → tree.at_some f o ≡ at_some g o
-same_at f g same None = refl
-same_at f g same (Some m) = same m
-
 same_climb : (files : List (Option Record)) (most m : ℕ) → tree.is_in_system (all_links (table_in files) (length files)) most m ≡ is_in_system (table_in files) most m
-unfolding tree.passes_system passes_system
-same_climb files zero m = refl
-same_climb files (suc most) m =
-    let p = table_in files in
-    let links = all_links p (length files) in
-    ap (λ (t : Bool). not (eqb m root) && (ltb m first_user_record || t))
-    (ap (tree.at_some (tree.is_in_system links most)) (own_parent files m) ∙ same_at (tree.is_in_system links most) (is_in_system p most) (same_climb files most) (parent_at p m))
+same_climb files most m = ap (λ (parent : ℕ → Option ℕ). passes_system parent most m) (fun_ext (own_parent files))
 
 -- as many steps as there are nodes are enough
 same_fuel : (bytes : Option Stream → List ℕ) (v : Volume) (n : ℕ) → leads (files_by_number v) (count_of v) n ≡ true → is_in_system (files_by_number v) (length (nodes_by bytes v)) n ≡ is_in_system (files_by_number v) (count_of v) n
@@ -305,7 +296,7 @@ unfolding node_by node_with
 node_number bytes v n r = refl
 
 root_outside : (links : List Link) (most : ℕ) → tree.is_in_system links most root ≡ false
-unfolding tree.passes_system
+unfolding passes_system
 root_outside links zero = refl
 root_outside links (suc most) = refl
 

@@ -7,11 +7,10 @@ ghost use Rattle.state_model.specs.Trees.{all_links, first_parent, parent_at, le
 ghost use Rattle.state_model.specs.Loads.{table_in};
 ghost use Rattle.record_rules.specs.Links.{links_in};
 
-use crate::fields::FIRST_USER_RECORD;
 use crate::linking::{links_at, links_of};
-use crate::passing::{Question, ROOT, climb_all};
+use crate::passing::{Question, climb_all};
 use file_record::FileRec;
-use file_tree::{Link, LinkList};
+use file_tree::{FIRST_USER_RECORD, Link, LinkList, ROOT};
 use host_base::Memory;
 use std::alloc::{AllocError, Global};
 
