@@ -11,14 +11,12 @@ use block_view::{View, ViewFault};
 use disk_model::{Block, BlockKind, Body, u16_at};
 use draft_bits::put_bits;
 use draft_records::is_past;
+use file_tree::FIRST_USER_RECORD;
 use host_base::FileRef;
 use plan_draft::Draft;
 use state_model::{ClusterSize, Extents};
 use std::alloc::Global;
 use stream_map::block_at;
-
-// The first number that isn't the volume's own.
-const FIRST_USER_RECORD: u64 = 24;
 
 // The sequence that a new file would get in a record with these bytes.
 #[tactic(auto, unfolding(volume_model::specs::Nodes::spare_sequence))]

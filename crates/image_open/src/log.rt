@@ -11,7 +11,7 @@ ghost use Rattle.image_open.specs.LogPlaces.{LieAlike};
 ghost use Rattle.image_open.specs.Openings.{AreFoundBy};
 ghost use Rattle.image_open.specs.Volumes.{data_of, log_record, log_place, log_state, recovered_at, recovered_in};
 
-use crate::place::place_of;
+use crate::place::place_of_log;
 use crate::refusal::MountFault;
 use block_view::View;
 use disk_model::Body;
@@ -73,7 +73,7 @@ pub fn log_place(
     ensures memory { IfErr result (λ e. e ≡ MountFault.Memory) }
 {
     let stream = data_of(alloc, file)?;
-    Ok(place_of(alloc, geometry.per_cluster, clusters, device, &stream)?)
+    Ok(place_of_log(alloc, geometry.per_cluster, clusters, device, &stream)?)
 }
 
 // The blocks that recovery by the log at this place makes and shadows.

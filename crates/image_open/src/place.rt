@@ -2,7 +2,7 @@
 ghost use Rattle.std.specs.Prelude.{◌≡◌, ◌*◌, ◌^◌, ◌<◌, ◌≤◌, nat_lt, if◌then◌else◌, min, All, IfOk, IfSome, OnOk, length};
 ghost use Rattle.state_model.specs.declared.stream.Stream.TheVariants.{Placed};
 ghost use Rattle.log_reading.specs.LogPages.{IsSmall as IsSmallExtent, IsLogPlace};
-ghost use Rattle.image_open.specs.LogPlaces.{first_of, stream_sector, log_of, stream_place, place_of, LieAlike, IsHeldAlike, AreSectors};
+ghost use Rattle.image_open.specs.LogPlaces.{first_of, stream_sector, log_of, stream_place, place_of_log, LieAlike, IsHeldAlike, AreSectors};
 
 use disk_model::{Block, BlockKind};
 use log_page::{Extent, LogPlace, LogRuns};
@@ -180,14 +180,14 @@ fn stream_place(
 /// sectors. `per` is the sectors of a cluster. The error is want of memory. Quadratic in the
 /// stream's runs, which are those of one record: it asks once for each VCN at which a run begins or
 /// ends where that one lies, since of runs that overlap the first one holds.
-pub fn place_of(
+pub fn place_of_log(
     alloc: Global,
     per: ClusterSize,
     clusters: u64,
     device: u64,
     stream: &Option<Stream>,
 ) -> Result<LogPlace, AllocError>
-    ensures value { IfOk result (λ place. LieAlike place (place_of per clusters device stream.now)) }
+    ensures value { IfOk result (λ place. LieAlike place (place_of_log per clusters device stream.now)) }
     ensures place { IfOk result IsLogPlace }
 {
     match stream {

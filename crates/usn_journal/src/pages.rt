@@ -6,7 +6,7 @@ ghost use Rattle.journal_model.specs.Journals.{page_entries};
 ghost use Rattle.state_model.specs.Streams.{byte_at};
 ghost use Rattle.block_view.specs.Views.{AsksView};
 ghost use Rattle.volume_state.specs.Journals.{journal_first, journal_entries};
-ghost use Rattle.usn_journal.specs.PullErrors.{journal_cause, page_cause};
+ghost use Rattle.usn_journal.specs.PullErrors.{whole_cause, page_cause};
 ghost use Rattle.usn_journal.specs.Pulls.{usn_end, from_on, read_entries};
 
 use crate::pull_fault::PageFault;
@@ -119,7 +119,7 @@ pub fn read_pages<V: View>(
     requires room { extents.now.real + 8192 < 2 ^ 64 }
     requires size { length room.old ≡ PAGE }
     requires whole { IfSome (V.content view.old) (λ c. IsOk (journal_entries c per extents.now)) }
-    ensures value { IfSome (V.content view.old) (λ c. GivesOrFails (λ (v : Vec UsnOf Global). v.items) journal_cause result (Ok (take most (from_on from (read_entries (journal_entries c per extents.now)))))) }
+    ensures value { IfSome (V.content view.old) (λ c. GivesOrFails (λ (v : Vec UsnOf Global). v.items) whole_cause result (Ok (take most (from_on from (read_entries (journal_entries c per extents.now)))))) }
     ensures ends { IfOk result (λ found. All (λ (entry : UsnOf). usn_end entry < 2 ^ 64) found.items) }
     ensures kept { AsksView V.content V.kept V.faults page_cause view.old view.new result }
 {

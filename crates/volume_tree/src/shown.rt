@@ -8,9 +8,9 @@ use crate::kind::{Data, kind_in, shows_data};
 use crate::names::NamedVolume;
 use crate::stream::{data_flags, data_stream, has_hole};
 use file_record::FileRec;
-use file_tree::Link;
+use file_tree::{FIRST_USER_RECORD, Link};
 use host_base::Memory;
-use record_rules::{FIRST_USER_RECORD, file_at, links_of};
+use record_rules::{file_at, links_of};
 use state_model::Stream;
 use std::alloc::Global;
 
