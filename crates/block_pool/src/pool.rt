@@ -1,7 +1,7 @@
 //! A map from blocks to values.
-ghost use Rattle.std.specs.Prelude.{◌≡◌, ◌∷◌, [], None, IsSome, IfSome, IfNone, OnOk, OnErr, not};
+ghost use Rattle.std.specs.Prelude.{◌≡◌, ◌∷◌, [], None, IsSome, IfSome, IfNone, OnOk, OnErr, Some, not};
 ghost use Rattle.std.specs.Option.{option_copied};
-ghost use Rattle.block_pool.specs.Pools.{held, with_block, without_block, kept_blocks, turned_values, passes};
+ghost use Rattle.block_pool.specs.Pools.{held, with_block, without_block, kept_blocks, turned_values, passes, IsNextFrom, NoneFrom};
 
 use crate::number::{block_at, block_number};
 use crate::walk::{Tests, Turns, is_met};
@@ -97,6 +97,20 @@ impl<T> Pool<T> {
     {
         match self.values.pop_first() {
             Some((number, value)) => Some((block_at(number), value)),
+            None => None,
+        }
+    }
+
+    /// The first block from this one on that has a value, with the value. Logarithmic in their
+    /// number.
+    pub fn first_from(&self, block: Block) -> Option<(Block, &T)>
+        ensures here { IfSome result (λ p. IsNextFrom self.now block p.0) }
+        ensures value { IfSome result (λ p. held self.now p.0 ≡ Some p.1.now) }
+        ensures none { IfNone result (NoneFrom self.now block) }
+    {
+        let number = block_number(block);
+        match self.values.range(number..).next() {
+            Some((found, value)) => Some((block_at(*found), value)),
             None => None,
         }
     }
