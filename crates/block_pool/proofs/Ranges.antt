@@ -1,7 +1,7 @@
 -- The first block from one on.
 use Rattle.std.proofs.Common.{◌≡◌, ℕ, ◌*◌, ◌^◌, ◌<◌, ◌≤◌, Bool, true, false, cond, List, [], ◌∷◌, Option, Some, None, refl, sym, ap, subst, ◌∙◌, inl, inr, arith}
 use Rattle.std.proofs.lemmas.Bool.{eqb-true, cases_lt}
-use Rattle.std.specs.Prelude.{All, IfSome, IsSome, ◌==◌}
+use Rattle.std.specs.Prelude.{All, IfSome, IsSome}
 use Rattle.std.specs.Map.{lookup, keys_of}
 use Rattle.std.specs.Ordering.{is_eq, is_gt, nat_cmp}
 use Rattle.std.specs.declared.cmp.Ordering.{Ordering}
@@ -42,17 +42,17 @@ module _ {X : Type 0} where
   none_or_some None never = refl
   none_or_some (Some x) never = absurd (never refl)
 
-  module _ (b : Block) (n : ℕ) (es : List (ℕ × X)) (now : List (Block × X)) (n_is : n ≡ block_number b) (shows : shown es ≡ now) where
+  module _ (n : ℕ) (es : List (ℕ × X)) (now : List (Block × X)) (shows : shown es ≡ now) where
     here : (c : Block) → lookup (λ m. is_eq (nat_cmp (block_number c) m)) es ≡ held now c
     here c = found c (block_number c) es now refl shows
 
-    pub none_from : ((q : ℕ) → is_gt (nat_cmp n q) ≡ false → lookup (λ m. is_eq (nat_cmp q m)) es ≡ None) → NoneFrom now b
-    none_from none c le = sym (here c) ∙ none (block_number c) (not_gt_from_le n (block_number c) (omega (arith, n_is, le)))
+    pub none_from : ((q : ℕ) → is_gt (nat_cmp n q) ≡ false → lookup (λ m. is_eq (nat_cmp q m)) es ≡ None) → NoneFrom now n
+    none_from none c le = sym (here c) ∙ none (block_number c) (not_gt_from_le n (block_number c) le)
 
-    pub next_from : (first : ℕ) → is_gt (nat_cmp n first) ≡ false → ((q : ℕ) → is_gt (nat_cmp n q) ≡ false → IsSome (lookup (λ m. is_eq (nat_cmp q m)) es) → is_gt (nat_cmp first q) ≡ false) → IsNextFrom now b (block_at first)
+    pub next_from : (first : ℕ) → is_gt (nat_cmp n first) ≡ false → ((q : ℕ) → is_gt (nat_cmp n q) ≡ false → IsSome (lookup (λ m. is_eq (nat_cmp q m)) es) → is_gt (nat_cmp first q) ≡ false) → IsNextFrom now n (block_at first)
     next_from first inside least = record {
-      from = (let le = le_from_not_gt n first inside in let same = number_at first in omega (arith, le, same, n_is));
+      from = (let le = le_from_not_gt n first inside in let same = number_at first in omega (arith, le, same));
       none = λ c le lt.
           sym (here c) ∙ none_or_some (lookup (λ m. is_eq (nat_cmp (block_number c) m)) es)
-          (λ some. let most = le_from_not_gt first (block_number c) (least (block_number c) (not_gt_from_le n (block_number c) (omega (arith, n_is, le))) some) in let same = number_at first in omega (arith, most, lt, same));
+          (λ some. let most = le_from_not_gt first (block_number c) (least (block_number c) (not_gt_from_le n (block_number c) le) some) in let same = number_at first in omega (arith, most, lt, same));
     }

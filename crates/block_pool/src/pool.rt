@@ -1,9 +1,10 @@
 //! A map from blocks to values.
-ghost use Rattle.std.specs.Prelude.{◌≡◌, ◌∷◌, [], None, IsSome, IfSome, IfNone, OnOk, OnErr, Some, not};
+ghost use Rattle.std.specs.Prelude.{◌≡◌, ◌<◌, ◌*◌, ◌^◌, ◌∷◌, [], None, IsSome, IfSome, IfNone, OnOk, OnErr, not};
 ghost use Rattle.std.specs.Option.{option_copied};
 ghost use Rattle.block_pool.specs.Pools.{held, with_block, without_block, kept_blocks, turned_values, passes, IsNextFrom, NoneFrom};
+ghost use Rattle.block_pool.specs.Numbers.{block_number, number_after};
 
-use crate::number::{block_at, block_number};
+use crate::number::{block_at, block_number, number_after};
 use crate::walk::{Tests, Turns, is_met};
 use disk_model::Block;
 use std::alloc::{AllocError, Global};
@@ -101,16 +102,16 @@ impl<T> Pool<T> {
         }
     }
 
-    /// The first block from this one on that has a value, with the value. Logarithmic in their
+    /// The first block behind this one that has a value, or the first of all. Logarithmic in their
     /// number.
-    pub fn first_from(&self, block: Block) -> Option<(Block, &T)>
-        ensures here { IfSome result (λ p. IsNextFrom self.now block p.0) }
-        ensures value { IfSome result (λ p. held self.now p.0 ≡ Some p.1.now) }
-        ensures none { IfNone result (NoneFrom self.now block) }
+    pub fn next_block(&self, after: Option<Block>) -> Option<Block>
+        ensures next { IfSome result (IsNextFrom self.now (number_after after)) }
+        ensures small { IfSome result (λ b. block_number b < 3 * 2 ^ 64) }
+        ensures none { IfNone result (NoneFrom self.now (number_after after)) }
     {
-        let number = block_number(block);
+        let number = number_after(after);
         match self.values.range(number..).next() {
-            Some((found, value)) => Some((block_at(*found), value)),
+            Some((found, _)) => Some(block_at(*found)),
             None => None,
         }
     }
