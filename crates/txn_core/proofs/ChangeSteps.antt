@@ -1,21 +1,18 @@
 -- What a change of a block does to a store's window, and what it leaves as it always is.
-use Rattle.std.proofs.Common.{◌≡◌, ◌⊎◌, subst, ℕ, Bool, true, false, cond, List, [], ◌∷◌, Option, Some, None, Result, Ok, Err, refl, sym, ap, ◌∙◌, inl, inr}
+use Rattle.std.proofs.Common.{◌≡◌, ◌⊎◌, subst, ℕ, Bool, true, false, cond, List, Option, Some, None, Result, Ok, Err, refl, sym, ap, ◌∙◌, inl, inr}
 use Rattle.std.specs.Prelude.{IfSome, IfOk, OnOk, is_some}
 use Rattle.disk_model.specs.declared.block.Block.{Block}
 use Rattle.disk_model.specs.declared.block.Body.{Body}
 use Rattle.disk_model.specs.Sectors.{same_block}
 use Rattle.sector_device.specs.Disks.{SeesDisk}
 use Rattle.sector_device.specs.Moments.{Changes}
-use Rattle.log_model.specs.declared.entry.Act.{Act}
-use Rattle.log_area.specs.Areas.{LogAreaOf, appended}
 use Rattle.log_model.specs.Logs.{is_in_grid}
 use Rattle.store_model.specs.Volumes.{is_free}
 use Rattle.block_view.specs.declared.fault.ViewFault.{ViewFault}
 use Rattle.block_pool.specs.Pools.{held, with_block}
 use Rattle.store_pools.specs.Pools.{body_of_kept}
 use Rattle.txn_model.specs.Values.{StoreFacts, own_of}
-use Rattle.txn_model.specs.Pieces.{next_entry, log_with}
-use Rattle.txn_model.specs.Calls.{change_acts, changed_facts, given_up_facts}
+use Rattle.txn_model.specs.Calls.{changed_facts, given_up_facts}
 use Rattle.txn_state.specs.States.{HasSize, IsStore, MayChange}
 use Rattle.txn_laws.specs.Windows.{Simulates, AfterChange}
 use Rattle.txn_laws.proofs.Changes.{changes_in_memory}
@@ -95,18 +92,6 @@ change_cause before now moment f g c at new words left (Err e) (Err why) done ca
 change_cause before now moment f g c at new words left (Err e) (Ok tt) done cause = absurd done
 
 -- ---- what is always so
-
-log_named : (log : LogAreaOf) (tx last : ℕ) (acts : List Act) → (log_with log tx last acts).named ≡ log.named
-log_named log tx last [] = refl
-log_named log tx last (act ∷ acts) = let e = next_entry log tx last act in log_named (appended e log) tx e.lsn acts
-
-pub changing_named : (f g : StoreFacts) (c : Block) (at : ℕ) (new : List ℕ) (words left : List (Block × CheckWord)) (asked : Result Present ViewFault) (result : Result (Unit {0}) ViewFault)
-    → IsDone asked result c at new f g words left → f.log.named ≡ None → g.log.named ≡ None
-changing_named f g c at new words left (Ok p) (Ok tt) done unnamed =
-    ap (λ (h : StoreFacts). h.log.named) done.0 ∙ log_named f.log f.tx f.last (change_acts f c at new (body_of_kept p.body)) ∙ unnamed
-changing_named f g c at new words left (Ok p) (Err why) done unnamed = ap (λ (h : StoreFacts). h.log.named) done.1 ∙ unnamed
-changing_named f g c at new words left (Err e) (Err why) done unnamed = ap (λ (h : StoreFacts). h.log.named) done.1 ∙ unnamed
-changing_named f g c at new words left (Err e) (Ok tt) done unnamed = absurd done
 
 held_is : (left words : List (Block × CheckWord)) (c b : Block) (word : CheckWord) → left ≡ with_block c word words → held left b ≡ cond (same_block b c) (Some word) (held words b)
 held_is left words c b word is = ap (λ (ws : List (Block × CheckWord)). held ws b) is ∙ held_put word c b words

@@ -198,7 +198,7 @@ impl<D: Device> Store<D> {
     {
         self.state.known();
         let asked = find_present(&mut self.device, &self.state, &self.words, alloc, block);
-        change_asked(
+        let result = change_asked(
             &mut self.state,
             &mut self.words,
             alloc,
@@ -206,6 +206,8 @@ impl<D: Device> Store<D> {
             at,
             new,
             asked,
-        )
+        );
+        self.told.after_change(&self.state, result.is_ok());
+        result
     }
 }

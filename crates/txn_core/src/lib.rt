@@ -7,10 +7,13 @@
 #![tactic(auto)]
 
 mod changing;
+mod checkpoints;
 mod counting;
 mod opening;
 mod steps;
 mod store;
+mod telling;
+mod told;
 mod transactions;
 mod view;
 mod writing;
