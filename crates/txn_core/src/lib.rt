@@ -15,6 +15,7 @@ mod store;
 mod telling;
 mod told;
 mod transactions;
+mod turning;
 mod view;
 mod writing;
 
