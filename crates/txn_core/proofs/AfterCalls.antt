@@ -7,6 +7,7 @@ use Rattle.log_model.specs.Logs.{is_in_grid}
 use Rattle.log_area.specs.declared.restart.SentRestart.{SentRestart}
 use Rattle.log_area.specs.Areas.{IsOldest}
 use Rattle.block_view.specs.declared.fault.ViewFault.{ViewFault}
+use Rattle.txn_core.specs.declared.fault.ChangeFault.{ChangeFault}
 use Rattle.device_blocks.specs.declared.word.CheckWord.{CheckWord}
 use Rattle.device_blocks.specs.declared.word.CheckWord.TheVariants.{Unread, Missing, Stands, Sent}
 use Rattle.store_pools.specs.Pools.{body_of_kept}
@@ -59,7 +60,7 @@ restart_worded (Err e) sent f b is = is
 
 -- ---- changes
 
-pub changing_kept : (gives : Option (List (List ℕ))) (f g : StoreFacts) (c : Block) (at : ℕ) (new : List ℕ) (words left : List (Block × CheckWord)) (asked : Result Present ViewFault) (result : Result (Unit {0}) ViewFault)
+pub changing_kept : (gives : Option (List (List ℕ))) (f g : StoreFacts) (c : Block) (at : ℕ) (new : List ℕ) (words left : List (Block × CheckWord)) (asked : Result Present ViewFault) (result : Result (Unit {0}) ChangeFault)
     → IsKept f → IsStore f → MayChangeNow gives f c at new → IfOk asked (λ p. HasSize c (body_of_kept p.body)) → IsDone asked result c at new f g words left → IsKept g
 changing_kept gives f g c at new words left (Ok p) (Ok tt) k store may size done = subst IsKept (sym done.0) (changed_kept f c at new (body_of_kept p.body) k store may.opened may.some (may.room (body_of_kept p.body) size))
 changing_kept gives f g c at new words left (Ok p) (Err why) k store may size done = subst IsKept (sym done.1) (given_up_kept f k)
@@ -69,7 +70,7 @@ changing_kept gives f g c at new words left (Err e) (Ok tt) k store may size don
 given_up_then : (f g : StoreFacts) (t now : Telling) → g ≡ given_up_facts f → now ≡ record t { ready = now.ready } → IsLowest (is_ready g) now.ready → IsTold f t → IsTold g now
 given_up_then f g t now is rest lowest told = told_at g (given_up_facts f) now is (given_up_told f t now rest (subst (λ (h : StoreFacts). IsLowest (is_ready h) now.ready) is lowest) told)
 
-pub changing_told : (gives : Option (List (List ℕ))) (f g : StoreFacts) (c : Block) (at : ℕ) (new : List ℕ) (words left : List (Block × CheckWord)) (asked : Result Present ViewFault) (result : Result (Unit {0}) ViewFault) (ok : Bool) (t now : Telling)
+pub changing_told : (gives : Option (List (List ℕ))) (f g : StoreFacts) (c : Block) (at : ℕ) (new : List ℕ) (words left : List (Block × CheckWord)) (asked : Result Present ViewFault) (result : Result (Unit {0}) ChangeFault) (ok : Bool) (t now : Telling)
     → IsKept f → MayChangeNow gives f c at new → IfOk asked (λ p. HasSize c (body_of_kept p.body)) → IsDone asked result c at new f g words left → ok ≡ is_ok result
     → (ok ≡ true → StaysLowest (is_ready g) t.ready now.ready) → (ok ≡ false → IsLowest (is_ready g) now.ready) → now ≡ record t { ready = now.ready } → IsTold f t → IsTold g now
 changing_told gives f g c at new words left (Ok p) (Ok tt) ok t now k may size done is fewer lowest rest told =

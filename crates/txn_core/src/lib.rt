@@ -9,6 +9,7 @@
 mod changing;
 mod checkpoints;
 mod counting;
+mod fault;
 mod opening;
 mod steps;
 mod store;
@@ -19,6 +20,7 @@ mod turning;
 mod view;
 mod writing;
 
+pub use fault::ChangeFault;
 pub use opening::open_log;
 pub use store::Store;
 pub use view::StoreView;

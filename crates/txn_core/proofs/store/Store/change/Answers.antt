@@ -1,12 +1,13 @@
-use Rattle.std.proofs.Common.{refl, sym, subst, arith}
-use Rattle.std.specs.Prelude.{OnOk}
+use Rattle.std.proofs.Common.{◌≡◌, None, refl, sym, subst, arith}
+use Rattle.std.specs.Prelude.{OnOk, IfErr}
 use Rattle.device_view.specs.Devices.{CountsOnDevice}
 use Rattle.txn_state.specs.States.{facts_of}
-use Rattle.txn_core.specs.Changes.{view_cause, WordIsPut, MayChangeNow, HasChanged, AfterChanging}
+use Rattle.txn_core.specs.declared.fault.ChangeFault.TheVariants.{Unspelled}
+use Rattle.txn_core.specs.Changes.{change_cause, WordIsPut, MayChangeNow, HasChanged, AfterChanging}
 use Rattle.txn_core.specs.Seen.{Seen}
 use Rattle.txn_core.proofs.AfterCalls.{changing_kept, changing_told}
 use Rattle.txn_core.proofs.Keeping.{step_of, stands_after}
-use Rattle.txn_core.proofs.ChangeSteps.{is_found, may_asked, changing_step, has_changed, word_is_put, change_cause, changing_worded, changing_fit}
+use Rattle.txn_core.proofs.ChangeSteps.{unspelled_unknown, is_found, may_asked, changing_step, has_changed, word_is_put, changing_cause, changing_worded, changing_fit}
 use Rattle.txn_core.proofs.store.Store.change.Goals as goal
 
 pub find_present-asked-requires : goal.find_present-asked-requires
@@ -30,8 +31,8 @@ returns-clause-words g c =
 
 pub returns-clause-cause : goal.returns-clause-cause
 returns-clause-cause g c =
-    subst (λ (s : Seen _). CountsOnDevice view_cause (g.D.Device.fault_count s.device) (g.D.Device.fault_count c.find_present-asked.new.device) (g.D.Device.moment_of c.find_present-asked.new.device) c.change_asked-result.result) c.self.view_is
-    (change_cause (g.D.Device.fault_count c.self.inside.device) (g.D.Device.fault_count c.find_present-asked.new.device) (g.D.Device.moment_of c.find_present-asked.new.device) (facts_of c.self.inside.state) (facts_of c.change_asked-result.new.state) c.args.block c.args.at c.args.new.now c.self.inside.words c.change_asked-result.new.words c.find_present-asked.result c.change_asked-result.result c.change_asked-result.ensures.done c.find_present-asked.ensures.cause)
+    subst (λ (s : Seen _). CountsOnDevice change_cause (g.D.Device.fault_count s.device) (g.D.Device.fault_count c.find_present-asked.new.device) (g.D.Device.moment_of c.find_present-asked.new.device) c.change_asked-result.result) c.self.view_is
+    (changing_cause (g.D.Device.fault_count c.self.inside.device) (g.D.Device.fault_count c.find_present-asked.new.device) (g.D.Device.moment_of c.find_present-asked.new.device) (facts_of c.self.inside.state) (facts_of c.change_asked-result.new.state) c.args.block c.args.at c.args.new.now c.self.inside.words c.change_asked-result.new.words c.find_present-asked.result c.change_asked-result.result c.change_asked-result.ensures.done c.find_present-asked.ensures.cause)
 
 pub returns-clause-step : goal.returns-clause-step
 returns-clause-step g c =
@@ -51,3 +52,8 @@ invariant_of-self g c = (
       (changing_fit (g.D.Device.gives c.self.inside.device) (facts_of c.self.inside.state) (facts_of c.change_asked-result.new.state) c.args.block c.args.at c.args.new.now c.self.inside.words c.change_asked-result.new.words c.find_present-asked.result c.change_asked-result.result (is_found (g.D.Device.gives c.self.inside.device) (facts_of c.self.inside.state) c.args.block c.self.inside.words c.find_present-asked.result c.find_present-asked.ensures.body c.find_present-asked.ensures.size c.find_present-asked.ensures.fit c.find_present-asked.ensures.changed c.find_present-asked.ensures.read) c.change_asked-result.ensures.done c.self.invariant.0.fit),
   changing_told (g.D.Device.gives c.self.inside.device) (facts_of c.self.inside.state) (facts_of c.change_asked-result.new.state) c.args.block c.args.at c.args.new.now c.self.inside.words c.change_asked-result.new.words c.find_present-asked.result c.change_asked-result.result c.is_ok.result c.self.inside.told c.after_change.new.self c.self.invariant.0.kept (subst (λ (s : Seen _). MayChangeNow (g.D.Device.gives s.device) (facts_of s.state) c.args.block c.args.at c.args.new.now) (sym c.self.view_is) c.requires.may) c.find_present-asked.ensures.size c.change_asked-result.ensures.done c.is_ok.ensures.value c.after_change.ensures.changed c.after_change.ensures.given_up c.after_change.ensures.rest c.self.invariant.1,
 )
+
+pub returns-clause-unspelled : goal.returns-clause-unspelled
+returns-clause-unspelled g c =
+    subst (λ (s : Seen _). IfErr c.change_asked-result.result (λ fault. fault ≡ Unspelled → g.D.Device.gives s.device ≡ None)) c.self.view_is
+    (unspelled_unknown (g.D.Device.gives c.self.inside.device) (facts_of c.self.inside.state) (facts_of c.change_asked-result.new.state) c.args.block c.args.at c.args.new.now c.self.inside.words c.change_asked-result.new.words c.find_present-asked.result c.change_asked-result.result (subst (λ (s : Seen _). MayChangeNow (g.D.Device.gives s.device) (facts_of s.state) c.args.block c.args.at c.args.new.now) (sym c.self.view_is) c.requires.may) (is_found (g.D.Device.gives c.self.inside.device) (facts_of c.self.inside.state) c.args.block c.self.inside.words c.find_present-asked.result c.find_present-asked.ensures.body c.find_present-asked.ensures.size c.find_present-asked.ensures.fit c.find_present-asked.ensures.changed c.find_present-asked.ensures.read) c.change_asked-result.ensures.done)
