@@ -1,11 +1,11 @@
 -- What is always so, and what a store tells, after calls that have several outcomes.
-use Rattle.std.proofs.Common.{◌≡◌, subst, ℕ, ◌<◌, Bool, true, false, List, Option, Result, Ok, Err, refl, sym}
+use Rattle.std.proofs.Common.{◌≡◌, subst, ℕ, ◌<◌, Bool, true, false, List, Option, Result, Ok, Err, refl, sym, Some}
 use Rattle.std.specs.Prelude.{IfOk, is_ok, is_some, unwrap_or}
 use Rattle.host_base.specs.declared.outside.Failed.{Failed}
 use Rattle.disk_model.specs.declared.block.Block.{Block}
 use Rattle.log_model.specs.Logs.{is_in_grid}
 use Rattle.log_area.specs.declared.restart.SentRestart.{SentRestart}
-use Rattle.log_area.specs.Areas.{IsOldest}
+use Rattle.log_area.specs.Areas.{number_of, IsOldest}
 use Rattle.block_view.specs.declared.fault.ViewFault.{ViewFault}
 use Rattle.txn_core.specs.declared.fault.ChangeFault.{ChangeFault}
 use Rattle.device_blocks.specs.declared.word.CheckWord.{CheckWord}
@@ -50,9 +50,10 @@ sync_told (Err e) ok f g t now is facts dry left lowest front failed k = subst (
 
 -- ---- restart pages
 
-pub restart_kept : (result : Result (Unit {0}) Failed) (sent : Option SentRestart) (f : StoreFacts) → IsKept f → IsOldest f.log (front_lsn f.log (unwrap_or f.noted 0)) → IsKept (restart_facts result sent f)
-restart_kept (Ok tt) sent f k at = named_kept f (front_lsn f.log (unwrap_or f.noted 0)) k at
-restart_kept (Err e) sent f k at = sent_kept f sent k
+pub restart_kept : (result : Result (Unit {0}) Failed) (sent : Option SentRestart) (f : StoreFacts) → IsKept f → IsOldest f.log (front_lsn f.log (unwrap_or f.noted 0)) → f.noted ≡ Some (number_of f.log (front_lsn f.log (unwrap_or f.noted 0)))
+    → IsKept (restart_facts result sent f)
+restart_kept (Ok tt) sent f k at is = named_kept f (front_lsn f.log (unwrap_or f.noted 0)) k at is
+restart_kept (Err e) sent f k at is = sent_kept f sent k
 
 pub restart_worded : (result : Result (Unit {0}) Failed) (sent : Option SentRestart) (f : StoreFacts) (b : Block) → is_some ((restart_facts result sent f).body b) ≡ true → is_some (f.body b) ≡ true
 restart_worded (Ok tt) sent f b is = is

@@ -12,7 +12,7 @@ use Rattle.log_model.specs.Entries.{entry_size, act_size, FitsAct}
 use Rattle.log_page.specs.Places.{page_bytes, entries_at}
 use Rattle.log_page.proofs.Readings.{size_some}
 use Rattle.log_area.specs.declared.restart.SentRestart.{SentRestart}
-use Rattle.log_area.specs.Areas.{LogAreaOf, ring_size, place_at, is_filling, fits, used_pages, next_number, next_at, appended, sealed_area, written_area, synced_area, IsOldest, named_area}
+use Rattle.log_area.specs.Areas.{LogAreaOf, ring_size, place_at, is_filling, fits, used_pages, next_number, next_at, appended, sealed_area, written_area, synced_area, number_of, IsOldest, named_area}
 use Rattle.txn_model.specs.Pieces.{next_entry, log_with, ends_with}
 use Rattle.txn_model.specs.Appending.{MayAppend, MayAppendAll}
 use Rattle.txn_core.specs.Kept.{KeepsOrder}
@@ -155,6 +155,7 @@ order_appends a b noted k on = record {
   within = on.within;
   names_page = names_go a.named b.named a.oldest b.oldest a.synced b.synced on.named_same on.oldest_same on.synced_same k.names_page;
   notes_page = notes_go noted a.oldest b.oldest on.oldest_same k.notes_page;
+  names_noted = subst (λ (o : Option ℕ). IfSome o (λ n. noted ≡ Some n)) (sym on.named_same) k.names_noted;
 }
 
 -- ---- entries of a transaction
@@ -247,8 +248,12 @@ seal_ends a = by (is_filling a) refl
     by true is = (omega arith, refl)
     by false is = (ap (λ (t : Bool). a.sealed + cond t 1 0) is, omega arith)
 
-pub order_noted : (a : LogAreaOf) (noted : Option ℕ) → KeepsOrder a noted → KeepsOrder (sealed_area a) (Some (sealed_area a).sealed)
-order_noted a noted k =
+none_named : (named noted : Option ℕ) → noted ≡ None → IfSome named (λ n. noted ≡ Some n) → named ≡ None
+none_named (Some n) noted none is = absurd cc
+none_named None noted none is = refl
+
+pub order_noted : (a : LogAreaOf) (noted : Option ℕ) → noted ≡ None → KeepsOrder a noted → KeepsOrder (sealed_area a) (Some (sealed_area a).sealed)
+order_noted a noted none k =
     let s = order_appends a (sealed_area a) noted k (seal_appends a noted k) in
     record {
       pages_some = s.pages_some;
@@ -261,6 +266,7 @@ order_noted a noted k =
       within = s.within;
       names_page = s.names_page;
       notes_page = omega (arith, s.freed_pages, s.synced_pages, s.done_pages);
+      names_noted = subst (λ (o : Option ℕ). IfSome o (λ n. ◌≡◌ {A = Option ℕ} (Some (sealed_area a).sealed) (Some n))) (sym (none_named (sealed_area a).named noted none s.names_noted)) tt;
     }
 
 pub order_written : (a : LogAreaOf) (noted : Option ℕ) → KeepsOrder a noted → a.done < a.sealed → KeepsOrder (written_area a) noted
@@ -275,6 +281,7 @@ order_written a noted k lt = record {
   within = k.within;
   names_page = k.names_page;
   notes_page = k.notes_page;
+  names_noted = k.names_noted;
 }
 
 -- with a check word of the next page, or of the restart page
@@ -290,6 +297,7 @@ order_checked a noted check k = record {
   within = k.within;
   names_page = k.names_page;
   notes_page = k.notes_page;
+  names_noted = k.names_noted;
 }
 
 pub order_sent : (a : LogAreaOf) (noted : Option ℕ) (sent : Option SentRestart) → KeepsOrder a noted → KeepsOrder (record a { sent = sent }) noted
@@ -304,6 +312,7 @@ order_sent a noted sent k = record {
   within = k.within;
   names_page = k.names_page;
   notes_page = k.notes_page;
+  names_noted = k.names_noted;
 }
 
 freed : (named : Option ℕ) (oldest synced done : ℕ) → oldest ≤ synced → synced ≤ done → IfSome named (λ n. (oldest ≤ n) × (n ≤ synced)) → (oldest ≤ unwrap_or named oldest) × (unwrap_or named oldest ≤ done)
@@ -329,10 +338,11 @@ order_synced a noted k =
       within = omega (arith, within, both.0);
       names_page = tt;
       notes_page = left_noted a.named noted a.oldest k.notes_page;
+      names_noted = tt;
     }
 
-pub order_named : (a : LogAreaOf) (noted : Option ℕ) (lsn : ℕ) → KeepsOrder a noted → IsOldest a lsn → KeepsOrder (named_area lsn a) noted
-order_named a noted lsn k at = record {
+pub order_named : (a : LogAreaOf) (noted : Option ℕ) (lsn : ℕ) → KeepsOrder a noted → IsOldest a lsn → noted ≡ Some (number_of a lsn) → KeepsOrder (named_area lsn a) noted
+order_named a noted lsn k at is = record {
   pages_some = k.pages_some;
   pages_few = k.pages_few;
   free_from = k.free_from;
@@ -343,4 +353,5 @@ order_named a noted lsn k at = record {
   within = k.within;
   names_page = (at.from, at.upto);
   notes_page = k.notes_page;
+  names_noted = is;
 }

@@ -1,5 +1,5 @@
 -- What is always so of a store stays so in each call.
-use Rattle.std.proofs.Common.{◌≡◌, subst, ℕ, zero, suc, ◌*◌, ◌%◌, ◌+◌, ◌-◌, ◌<◌, ◌≤◌, Bool, true, false, cond, List, [], ◌∷◌, length, get_or, Option, None, refl, sym, ap, ap₂, ◌∙◌, inl, inr, arith}
+use Rattle.std.proofs.Common.{◌≡◌, subst, ℕ, zero, suc, ◌*◌, ◌%◌, ◌+◌, ◌-◌, ◌<◌, ◌≤◌, Bool, true, false, cond, List, [], ◌∷◌, length, get_or, Option, None, refl, sym, ap, ap₂, ◌∙◌, inl, inr, arith, Some}
 use Rattle.std.specs.Prelude.{◌||◌, ◌==◌, IfSome, is_some, slice_index, replicate}
 use Rattle.std.proofs.lemmas.Bool.{cases_Bool, cases_lt, eqb-true, eq-eqb}
 use Rattle.std.proofs.lemmas.List.{length-map}
@@ -13,7 +13,7 @@ use Rattle.log_model.specs.declared.entry.Act.{Act}
 use Rattle.log_model.specs.declared.entry.Act.TheVariants.{Commit}
 use Rattle.log_page.specs.declared.places.LogPlace.{LogPlace}
 use Rattle.log_area.specs.declared.restart.SentRestart.{SentRestart}
-use Rattle.log_area.specs.Areas.{LogAreaOf, ring_size, place_at, is_filling, sealed_area, IsOldest, named_area}
+use Rattle.log_area.specs.Areas.{LogAreaOf, ring_size, place_at, is_filling, sealed_area, number_of, IsOldest, named_area}
 use Rattle.txn_model.specs.declared.mark.Mark.{Mark}
 use Rattle.txn_model.specs.Values.{StoreFacts}
 use Rattle.txn_model.specs.Pieces.{Piece, logged_pieces, update_of_piece, next_entry, log_with, ends_with}
@@ -56,6 +56,7 @@ first_order a new = record {
   within = subst (λ (t : Bool). a.sealed - a.oldest + cond t 1 0 ≤ ring_size a) (sym (none_filled a new)) (omega (arith, new.sealed));
   names_page = subst (λ (o : Option ℕ). IfSome o (λ n. (a.oldest ≤ n) × (n ≤ a.synced))) (sym new.named) tt;
   notes_page = tt;
+  names_noted = subst (λ (o : Option ℕ). IfSome o (λ n. ◌≡◌ {A = Option ℕ} None (Some n))) (sym new.named) tt;
 }
   where
     none_filled : (b : LogAreaOf) → IsBegun b → is_filling b ≡ false
@@ -223,11 +224,11 @@ sealed_kept f k =
       shut = k.shut;
     }
 
-pub noted_kept : (f : StoreFacts) → IsKept f → IsKept (noted_facts f)
-noted_kept f k =
+pub noted_kept : (f : StoreFacts) → f.noted ≡ None → IsKept f → IsKept (noted_facts f)
+noted_kept f none k =
     let on = seal_appends f.log f.noted k.order in
     record {
-      order = order_noted f.log f.noted k.order;
+      order = order_noted f.log f.noted none k.order;
       marks = λ b. noted_keeps (sealed_area f.log).synced (end_of (sealed_area f.log)) f.commits (f.mark b) (sealed_marks f b (f.mark b) on (k.marks b));
       commits_are = sealed_commits f (noted_facts f) refl refl refl refl on k.commits_are;
       shut = k.shut;
@@ -257,9 +258,9 @@ sent_kept f sent k = record {
   shut = k.shut;
 }
 
-pub named_kept : (f : StoreFacts) (lsn : ℕ) → IsKept f → IsOldest f.log lsn → IsKept (record f { log = named_area lsn f.log })
-named_kept f lsn k at = record {
-  order = order_named f.log f.noted lsn k.order at;
+pub named_kept : (f : StoreFacts) (lsn : ℕ) → IsKept f → IsOldest f.log lsn → f.noted ≡ Some (number_of f.log lsn) → IsKept (record f { log = named_area lsn f.log })
+named_kept f lsn k at is = record {
+  order = order_named f.log f.noted lsn k.order at is;
   marks = k.marks;
   commits_are = record { few = k.commits_are.few; told = k.commits_are.told; latest = k.commits_are.latest; all_durable = k.commits_are.all_durable };
   shut = k.shut;

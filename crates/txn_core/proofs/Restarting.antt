@@ -84,6 +84,9 @@ module _ (f : StoreFacts) (kept : IsKept f) (store : IsStore f) (may : MayRestar
       ∙ ap₂ (λ (l : ℕ) (p : ℕ). l * ring_size a + p) (let e : a.lap + named / ring_size a - a.lap ≡ named / ring_size a = omega arith in e) (let e : 4 + named % ring_size a - 4 ≡ named % ring_size a = omega arith in e)
       ∙ div-add-mod' named (ring_size a)
 
+  pub noted_number : f.noted ≡ Some (number_of f.log lsn)
+  noted_number = noted_is ∙ ap (λ (n : ℕ). Some n) (sym number_is)
+
   pub front_oldest : IsOldest f.log lsn
   front_oldest =
       let lap = lap_is in

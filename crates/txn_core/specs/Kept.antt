@@ -1,5 +1,5 @@
 -- What is always so of a store, beside what its state keeps by itself.
-use Rattle.std.specs.Prelude.{◌≡◌, ℕ, ◌-◌, ◌^◌, ◌<◌, ◌≤◌, ◌||◌, true, false, Option, None, IfSome, is_some, slice_index}
+use Rattle.std.specs.Prelude.{◌≡◌, ℕ, ◌-◌, ◌^◌, ◌<◌, ◌≤◌, ◌||◌, true, false, Option, None, IfSome, is_some, slice_index, Some}
 use Rattle.disk_model.specs.declared.block.Block.{Block}
 use Rattle.log_page.specs.Places.{page_bytes, entries_at}
 use Rattle.log_area.specs.Areas.{LogAreaOf, ring_size, place_at, used_pages}
@@ -8,7 +8,7 @@ use Rattle.txn_model.specs.Values.{StoreFacts}
 use Rattle.txn_model.specs.Told.{pages_end}
 
 -- The log's pages are filled, sealed, written and synced in order, no more of them than the ring has; and neither what a restart page names nor what a checkpoint noted
--- is before the oldest page.
+-- is before the oldest page; and the first is the second.
 pub record KeepsOrder (a : LogAreaOf) (noted : Option ℕ) : Type 0 where
   pub pages_some : 4 < a.pages
   pub pages_few : a.pages < 2 ^ 52
@@ -20,6 +20,7 @@ pub record KeepsOrder (a : LogAreaOf) (noted : Option ℕ) : Type 0 where
   pub within : used_pages a ≤ ring_size a
   pub names_page : IfSome a.named (λ n. (a.oldest ≤ n) × (n ≤ a.synced))
   pub notes_page : IfSome noted (λ n. a.oldest ≤ n)
+  pub names_noted : IfSome a.named (λ n. noted ≡ Some n)
 
 -- Of one mark, where so many pages are durable, the pages end before that one, and there were so many commits: what a checkpoint owes is dirty or dead, and what is due was
 -- written; the block's updates stand on pages of the log, and so does what killed a dead body, which isn't durable.

@@ -10,6 +10,7 @@ mod changing;
 mod checkpoints;
 mod counting;
 mod fault;
+mod laws;
 mod opening;
 mod steps;
 mod store;
@@ -21,6 +22,7 @@ mod view;
 mod writing;
 
 pub use fault::ChangeFault;
+pub use laws::steps_lead_on;
 pub use opening::open_log;
 pub use store::Store;
 pub use view::StoreView;

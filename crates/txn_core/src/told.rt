@@ -3,6 +3,7 @@ ghost use Rattle.std.specs.Prelude.{◌≡◌, ◌+◌, ◌<◌, ◌≤◌, ◌&
 ghost use Rattle.log_area.specs.Areas.{used_pages, ring_size};
 ghost use Rattle.txn_model.specs.Told.{FactsTold, KeepsMarked, KeepsSteps, is_fresh};
 ghost use Rattle.txn_state.specs.States.{facts_of};
+ghost use Rattle.txn_core.specs.Kept.{IsKept};
 ghost use Rattle.txn_core.specs.Tells.{IsAllDone, HasLap};
 
 use crate::store::Store;
@@ -50,6 +51,7 @@ impl<D: Device> Store<D> {
     /// ([`flush_policy::next_step`]). It takes no memory, in constant time.
     pub fn facts(&self) -> Facts
         ensures told { HasLap self.now.state.log → FactsTold (facts_of self.now.state) result }
+        ensures kept { IsKept (facts_of self.now.state) }
         ensures marked { KeepsMarked (facts_of self.now.state) }
         ensures steps { KeepsSteps (facts_of self.now.state) }
     {

@@ -26,7 +26,7 @@ invariant_of-self g c =
       stands_after (g.D.Device.sector_count c.self.inside.device) (g.D.Device.sector_count c.self.inside.device) (g.D.Device.moment_of c.self.inside.device) (g.D.Device.changes_of c.self.inside.device) (g.D.Device.changes_of c.self.inside.device)
           c.self.inside.state c.begin_checkpoint.new.self c.self.inside.words c.self.inside.words (noted_facts (facts_of c.self.inside.state)) AfterWrite refl c.self.invariant.0 c.begin_checkpoint.ensures
           (note_step (g.D.Device.sector_count c.self.inside.device) (g.D.Device.moment_of c.self.inside.device) (g.D.Device.changes_of c.self.inside.device) (facts_of c.self.inside.state) (ap (λ (s : Seen _). s.state.is_open) c.self.view_is ∙ c.requires.closed) none)
-          (noted_kept (facts_of c.self.inside.state) c.self.invariant.0.kept) c.self.invariant.0.worded c.self.invariant.0.fit,
+          (noted_kept (facts_of c.self.inside.state) none c.self.invariant.0.kept) c.self.invariant.0.worded c.self.invariant.0.fit,
       told_at (facts_of c.begin_checkpoint.new.self) (noted_facts (facts_of c.self.inside.state)) c.after_begin.new.self c.begin_checkpoint.ensures
           (noted_told (facts_of c.self.inside.state) c.self.inside.told c.after_begin.new.self c.self.invariant.0.kept none c.after_begin.ensures.rest (subst (λ (f : StoreFacts). TellsLeft f.mark c.after_begin.new.self.left) c.begin_checkpoint.ensures c.after_begin.ensures.left)
           (subst (λ (f : StoreFacts). lap_at f.log (next_number f.log 0x58) < 2 ^ sequence_bits f.log.pages → c.after_begin.new.self.front ≡ next_lsn f.log 0x58) c.begin_checkpoint.ensures c.after_begin.ensures.front) c.self.invariant.1),

@@ -5,10 +5,14 @@ use Rattle.flush_policy.specs.declared.facts.Facts.{Facts}
 use Rattle.txn_model.specs.Told.{FactsTold, KeepsMarked, KeepsSteps}
 use Rattle.txn_state.specs.States.{facts_of}
 use Rattle.txn_core.specs.Seen.{Seen}
+use Rattle.txn_core.specs.Kept.{IsKept}
 use Rattle.txn_core.specs.Tells.{IsAllDone, HasLap}
 use Rattle.txn_core.proofs.Kepts.{keeps_marked, keeps_steps}
 use Rattle.txn_core.proofs.FactsTold.{facts_told}
 use Rattle.txn_core.proofs.store.Store.facts.Goals as goal
+
+pub returns-clause-kept : goal.returns-clause-kept
+returns-clause-kept g c = subst (λ (s : Seen _). IsKept (facts_of s.state)) c.self.view_is c.self.invariant.0.kept
 
 pub returns-clause-marked : goal.returns-clause-marked
 returns-clause-marked g c = subst (λ (s : Seen _). KeepsMarked (facts_of s.state)) c.self.view_is (keeps_marked (facts_of c.self.inside.state) c.self.invariant.0.kept)

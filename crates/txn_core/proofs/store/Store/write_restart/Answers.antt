@@ -1,9 +1,9 @@
-use Rattle.std.proofs.Common.{◌≡◌, ℕ, sym, ap, subst, ◌∙◌}
+use Rattle.std.proofs.Common.{Some, ◌≡◌, ℕ, sym, ap, subst, ◌∙◌}
 use Rattle.std.specs.Prelude.{IfSome, OnErr, unwrap_or}
 use Rattle.fixup_record.specs.Protecting.{protected_bytes}
 use Rattle.log_page.specs.declared.restart.Restart.{Restart}
 use Rattle.log_page.specs.Restarts.{restart_spelling}
-use Rattle.log_area.specs.Areas.{IsOldest, restart_sector, sent_word}
+use Rattle.log_area.specs.Areas.{number_of, IsOldest, restart_sector, sent_word}
 use Rattle.log_area.specs.Calls.{IsSentOrNot}
 use Rattle.txn_model.specs.Calls.{front_lsn}
 use Rattle.txn_state.specs.States.{facts_of}
@@ -12,7 +12,7 @@ use Rattle.txn_core.specs.Seen.{Seen}
 use Rattle.txn_core.specs.Turns.{MayRestart, restart_page, restart_facts, SendsRestartPage}
 use Rattle.txn_core.proofs.Keeping.{step_of, stands_after}
 use Rattle.txn_core.proofs.AfterCalls.{told_at, restart_kept, restart_worded}
-use Rattle.txn_core.proofs.Restarting.{page_is, front_oldest, front_is, may_end, may_send, front_named, page_sent, restart_result, restart_step, restart_told}
+use Rattle.txn_core.proofs.Restarting.{page_is, noted_number, front_oldest, front_is, may_end, may_send, front_named, page_sent, restart_result, restart_step, restart_told}
 use Rattle.txn_core.proofs.store.Store.write_restart.Goals as goal
 
 pub write_restart-requires-clause-synced : goal.write_restart-requires-clause-synced
@@ -94,7 +94,8 @@ invariant_of-self g c =
     let step = restart_step g.D.Device.gives g.D.Device.changes_of g.D.Device.moment_of (g.D.Device.sector_count c.self.inside.device) may.0.0 c.args.clean f c.write_restart.result c.write_restart.new.self.log.sent c.self.inside.device c.write_restart.new.device (g.met.D.Device.seen c.self.inside.device) (g.met.D.Device.values c.write_restart.new.device) end page made sent in (
       stands_after (g.D.Device.sector_count c.self.inside.device) (g.D.Device.sector_count c.write_restart.new.device) (g.D.Device.moment_of c.self.inside.device) (g.D.Device.changes_of c.self.inside.device) (g.D.Device.changes_of c.write_restart.new.device)
           c.self.inside.state c.write_restart.new.self c.self.inside.words c.self.inside.words (restart_facts c.write_restart.result c.write_restart.new.self.log.sent f) AfterWrite c.write_restart.ensures.sectors c.self.invariant.0 facts step
-          (restart_kept c.write_restart.result c.write_restart.new.self.log.sent f kept (subst (λ (n : ℕ). IsOldest f.log (front_lsn f.log n)) (sym page) (front_oldest f kept c.known.ensures may)))
+          (restart_kept c.write_restart.result c.write_restart.new.self.log.sent f kept (subst (λ (n : ℕ). IsOldest f.log (front_lsn f.log n)) (sym page) (front_oldest f kept c.known.ensures may))
+          (subst (λ (n : ℕ). f.noted ≡ Some (number_of f.log (front_lsn f.log n))) (sym page) (noted_number f kept c.known.ensures may)))
           (λ b is. c.self.invariant.0.worded b (restart_worded c.write_restart.result c.write_restart.new.self.log.sent f b is)) c.self.invariant.0.fit,
       told_at (facts_of c.write_restart.new.self) (restart_facts c.write_restart.result c.write_restart.new.self.log.sent f) c.self.inside.told facts
           (restart_told f may.0.0 c.args.clean c.write_restart.result c.write_restart.new.self.log.sent c.self.inside.told end page front made c.self.invariant.1),
