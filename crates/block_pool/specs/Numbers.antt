@@ -1,5 +1,5 @@
 -- Blocks by numbers, in the order of their first sectors, and then of their kinds.
-use Rattle.std.specs.Prelude.{ℕ, ◌+◌, ◌*◌, ◌/◌, ◌%◌, ◌==◌, if◌then◌else◌, List, map}
+use Rattle.std.specs.Prelude.{ℕ, ◌+◌, ◌*◌, ◌/◌, ◌%◌, ◌==◌, if◌then◌else◌, List, map, Option, Some, None}
 use Rattle.disk_model.specs.declared.block.Block.{Block}
 use Rattle.disk_model.specs.declared.block.BlockKind.{BlockKind}
 use Rattle.disk_model.specs.declared.block.BlockKind.TheVariants.{Plain, FileRec, Index}
@@ -12,6 +12,11 @@ kind_number Index = 2
 -- the number of a block, which no other block has
 abbrev pub block_number : Block → ℕ
 block_number b = 3 * b.first + kind_number b.kind
+
+-- the least number behind that of a block, or of all
+abbrev pub number_after : Option Block → ℕ
+number_after (Some b) = block_number b + 1
+number_after None = 0
 
 abbrev pub kind_at : ℕ → BlockKind
 kind_at n = if n == 0 then Plain else (if n == 1 then FileRec else Index)

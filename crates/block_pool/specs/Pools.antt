@@ -1,5 +1,5 @@
 -- Values by block: a list of pairs in the order of the blocks.
-use Rattle.std.specs.Prelude.{◌≡◌, Bool, false, not, List, map, filter, Option, Some, None, if◌then◌else◌}
+use Rattle.std.specs.Prelude.{◌≡◌, ℕ, ◌<◌, ◌≤◌, Bool, false, not, List, map, filter, Option, Some, None, if◌then◌else◌}
 use Rattle.std.specs.Option.{option_map}
 use Rattle.std.specs.Map.{lookup}
 use Rattle.std.specs.declared.cmp.Ordering.{Ordering}
@@ -37,6 +37,14 @@ passes test None = false
 -- each value is changed
 abbrev pub turned_values : {X : Type 0} → (X → X) → List (Block × X) → List (Block × X)
 turned_values turn es = map (λ e. (e.0, turn e.1)) es
+
+-- no block from this number on has a value; and this block is the first that has one
+abbrev pub NoneFrom : {X : Type 0} → List (Block × X) → ℕ → Type 0
+NoneFrom es n = (c : Block) → n ≤ block_number c → held es c ≡ None
+
+pub record IsNextFrom {X : Type 0} (es : List (Block × X)) (n : ℕ) (next : Block) : Type 0 where
+  pub from : n ≤ block_number next
+  pub none : (c : Block) → n ≤ block_number c → block_number c < block_number next → held es c ≡ None
 
 -- What a look-up gives after each of these.
 pub record LooksUp (X : Type 0) : Type 0 where

@@ -1,6 +1,6 @@
 //! Blocks by numbers.
 ghost use Rattle.std.specs.Prelude.{◌≡◌, ◌*◌, ◌^◌, ◌<◌, ◌≤◌};
-ghost use Rattle.block_pool.specs.Numbers.{kind_number, block_number, kind_at, block_at};
+ghost use Rattle.block_pool.specs.Numbers.{kind_number, block_number, kind_at, block_at, number_after};
 
 use disk_model::{Block, BlockKind};
 
@@ -21,6 +21,17 @@ pub fn block_number(block: Block) -> u128
     ensures small { result < 3 * 2 ^ 64 }
 {
     3 * u128::from(block.first) + kind_number(block.kind)
+}
+
+/// The least number behind that of a block, or of all.
+pub fn number_after(after: Option<Block>) -> u128
+    ensures value { result ≡ number_after after }
+    ensures small { result ≤ 3 * 2 ^ 64 }
+{
+    match after {
+        Some(block) => block_number(block) + 1,
+        None => 0,
+    }
 }
 
 fn kind_at(number: u128) -> BlockKind

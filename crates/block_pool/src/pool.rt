@@ -1,9 +1,10 @@
 //! A map from blocks to values.
-ghost use Rattle.std.specs.Prelude.{◌≡◌, ◌∷◌, [], None, IsSome, IfSome, IfNone, OnOk, OnErr, not};
+ghost use Rattle.std.specs.Prelude.{◌≡◌, ◌<◌, ◌*◌, ◌^◌, ◌∷◌, [], None, IsSome, IfSome, IfNone, OnOk, OnErr, not};
 ghost use Rattle.std.specs.Option.{option_copied};
-ghost use Rattle.block_pool.specs.Pools.{held, with_block, without_block, kept_blocks, turned_values, passes};
+ghost use Rattle.block_pool.specs.Pools.{held, with_block, without_block, kept_blocks, turned_values, passes, IsNextFrom, NoneFrom};
+ghost use Rattle.block_pool.specs.Numbers.{block_number, number_after};
 
-use crate::number::{block_at, block_number};
+use crate::number::{block_at, block_number, number_after};
 use crate::walk::{Tests, Turns, is_met};
 use disk_model::Block;
 use std::alloc::{AllocError, Global};
@@ -97,6 +98,20 @@ impl<T> Pool<T> {
     {
         match self.values.pop_first() {
             Some((number, value)) => Some((block_at(number), value)),
+            None => None,
+        }
+    }
+
+    /// The first block behind this one that has a value, or the first of all. Logarithmic in their
+    /// number.
+    pub fn next_block(&self, after: Option<Block>) -> Option<Block>
+        ensures next { IfSome result (IsNextFrom self.now (number_after after)) }
+        ensures small { IfSome result (λ b. block_number b < 3 * 2 ^ 64) }
+        ensures none { IfNone result (NoneFrom self.now (number_after after)) }
+    {
+        let number = number_after(after);
+        match self.values.range(number..).next() {
+            Some((found, _)) => Some(block_at(*found)),
             None => None,
         }
     }

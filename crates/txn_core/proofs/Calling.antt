@@ -42,7 +42,7 @@ failing fault = Err fault
 same_check : (f : StoreFacts) (now : Option ℕ) → now ≡ f.log.check → record f { log = record f.log { check = now } } ≡ f
 same_check f now e = ap (λ (o : Option ℕ). record f { log = record f.log { check = o } }) e
 
-asked_step : {D : Type 0} (gives : D → Option (List (List ℕ))) (changes : D → Changes) (moment : D → ℕ) (count : ℕ) (f : StoreFacts) (old new : D)
+pub asked_step : {D : Type 0} (gives : D → Option (List (List ℕ))) (changes : D → Changes) (moment : D → ℕ) (count : ℕ) (f : StoreFacts) (old new : D)
     → IsAsked gives changes moment old new → Simulates count (moment old) (changes old) (changes new) f f AfterWrite
 asked_step gives changes moment count f old new asked = by_read count (moment old) (changes old) (changes new) f AfterWrite (λ w. record { same = refl }) asked.unchanged
 
@@ -65,7 +65,7 @@ page_step gives changes moment count f (Err fault) now old new sees sized lt sen
 -- ---- syncs
 
 pub sync_step : {D : Type 0} (changes : D → Changes) (moment : D → ℕ) (count : ℕ) (f : StoreFacts) (result : Result (Unit {0}) Failed) (old new : D)
-    → IfSome (changes new).disk IsSized → f.log.named ≡ None → Syncs (moment old) result (changes old) (changes new)
+    → IfSome (changes new).disk IsSized → Syncs (moment old) result (changes old) (changes new)
     → Simulates count (moment old) (changes old) (changes new) f (sync_facts result f) (AfterSync result f)
-sync_step changes moment count f (Ok tt) old new sized unnamed syncs = is_synced changes moment count f old new sized syncs
-sync_step changes moment count f (Err fault) old new sized unnamed syncs = sync_fails count (moment old) fault (changes old) (changes new) f syncs
+sync_step changes moment count f (Ok tt) old new sized syncs = is_synced changes moment count f old new sized syncs
+sync_step changes moment count f (Err fault) old new sized syncs = sync_fails count (moment old) fault (changes old) (changes new) f syncs

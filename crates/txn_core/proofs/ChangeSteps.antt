@@ -1,21 +1,24 @@
 -- What a change of a block does to a store's window, and what it leaves as it always is.
-use Rattle.std.proofs.Common.{◌≡◌, ◌⊎◌, subst, ℕ, Bool, true, false, cond, List, [], ◌∷◌, Option, Some, None, Result, Ok, Err, refl, sym, ap, ◌∙◌, inl, inr}
-use Rattle.std.specs.Prelude.{IfSome, IfOk, OnOk, is_some}
+use Rattle.std.proofs.Common.{◌≡◌, ◌⊎◌, subst, ℕ, Bool, true, false, cond, List, Option, Some, None, Result, Ok, Err, refl, sym, ap, ◌∙◌, inl, inr}
+use Rattle.std.specs.Prelude.{IfSome, IfOk, IfErr, OnOk, is_some}
 use Rattle.disk_model.specs.declared.block.Block.{Block}
 use Rattle.disk_model.specs.declared.block.Body.{Body}
 use Rattle.disk_model.specs.Sectors.{same_block}
+use Rattle.disk_model.specs.Bytes.{written}
+use Rattle.fixup_record.specs.Spellings.{has_spelling}
 use Rattle.sector_device.specs.Disks.{SeesDisk}
 use Rattle.sector_device.specs.Moments.{Changes}
-use Rattle.log_model.specs.declared.entry.Act.{Act}
-use Rattle.log_area.specs.Areas.{LogAreaOf, appended}
 use Rattle.log_model.specs.Logs.{is_in_grid}
 use Rattle.store_model.specs.Volumes.{is_free}
+use Rattle.host_base.specs.Answers.{Cause}
 use Rattle.block_view.specs.declared.fault.ViewFault.{ViewFault}
+use Rattle.block_view.specs.declared.fault.ViewFault.TheVariants.{Fault as ViewFailed, Memory as ViewMemory}
+use Rattle.txn_core.specs.declared.fault.ChangeFault.{ChangeFault}
+use Rattle.txn_core.specs.declared.fault.ChangeFault.TheVariants.{Fault, Memory, Unspelled}
 use Rattle.block_pool.specs.Pools.{held, with_block}
 use Rattle.store_pools.specs.Pools.{body_of_kept}
 use Rattle.txn_model.specs.Values.{StoreFacts, own_of}
-use Rattle.txn_model.specs.Pieces.{next_entry, log_with}
-use Rattle.txn_model.specs.Calls.{change_acts, changed_facts, given_up_facts}
+use Rattle.txn_model.specs.Calls.{changed_facts, given_up_facts}
 use Rattle.txn_state.specs.States.{HasSize, IsStore, MayChange}
 use Rattle.txn_laws.specs.Windows.{Simulates, AfterChange}
 use Rattle.txn_laws.proofs.Changes.{changes_in_memory}
@@ -24,7 +27,7 @@ use Rattle.device_view.specs.Devices.{CountsCauseOnDevice, CountsOnDevice}
 use Rattle.device_blocks.specs.declared.word.CheckWord.{CheckWord}
 use Rattle.device_blocks.specs.Words.{IsToldOf, changed_word, IsFitWord}
 use Rattle.txn_core.specs.declared.changing.Present.{Present}
-use Rattle.txn_core.specs.Changes.{view_cause, IsPresent, WordIsPut, MayChangeNow, HasChanged, AfterChanging, IsDone}
+use Rattle.txn_core.specs.Changes.{view_cause, change_cause, change_fault, IsRefused, IsPresent, WordIsPut, MayChangeNow, HasChanged, AfterChanging, IsDone}
 use Rattle.txn_core.specs.Seen.{word_of}
 use Rattle.txn_core.proofs.Calling.{give_up_step}
 use Rattle.txn_core.proofs.Keeping.{given_up_worded}
@@ -51,62 +54,80 @@ may_change gives f c at new x may size = record {
 
 -- ---- the step
 
-change_step : (count moment : ℕ) (changes : Changes) (gives : Option (List (List ℕ))) (f : StoreFacts) (c : Block) (at : ℕ) (new : List ℕ) (x : Body) → MayChangeNow gives f c at new → HasSize c x → IsPresent gives f c x
+change_step : (count moment : ℕ) (changes : Changes) (gives : Option (List (List ℕ))) (f : StoreFacts) (c : Block) (at : ℕ) (new : List ℕ) (x : Body) → MayChangeNow gives f c at new → HasSize c x → IsPresent gives f c x → has_spelling c.kind (written at new x.bytes) ≡ true
     → SeesDisk gives changes.disk → Simulates count moment changes changes f (changed_facts c at new x f) (AfterChange c at new)
-change_step count moment changes None f c at new x may size present sees = unseen count moment changes changes f (changed_facts c at new x f) (AfterChange c at new) sees (λ e is. (e, is)) refl refl
-change_step count moment changes (Some disk) f c at new x may size present sees =
+change_step count moment changes None f c at new x may size present spells sees = unseen count moment changes changes f (changed_facts c at new x f) (AfterChange c at new) sees (λ e is. (e, is)) refl refl
+change_step count moment changes (Some disk) f c at new x may size present spells sees =
     changes_in_memory count moment changes f c at new x (Some disk)
-    (record { opened = may.opened; known = may.known; some = may.some; fits = may.fits; spelled = may.spelled x size present; alone = may.alone; room = may.room x size }) sees present
+    (record { opened = may.opened; known = may.known; some = may.some; fits = may.fits; spelled = spells; alone = may.alone; room = may.room x size }) sees present
 
-moved : (count moment : ℕ) (old now : Changes) (f g h : StoreFacts) (result : Result (Unit {0}) ViewFault) (c : Block) (at : ℕ) (new : List ℕ) → now ≡ old → g ≡ h → Simulates count moment old old f h (AfterChanging result c at new)
+moved : (count moment : ℕ) (old now : Changes) (f g h : StoreFacts) (result : Result (Unit {0}) ChangeFault) (c : Block) (at : ℕ) (new : List ℕ) → now ≡ old → g ≡ h → Simulates count moment old old f h (AfterChanging result c at new)
     → Simulates count moment old now f g (AfterChanging result c at new)
 moved count moment old now f g h result c at new same is step =
     subst (λ (n : Changes). Simulates count moment old n f g (AfterChanging result c at new)) (sym same) (subst (λ (k : StoreFacts). Simulates count moment old old f k (AfterChanging result c at new)) (sym is) step)
 
-pub changing_step : (count moment : ℕ) (old now : Changes) (gives : Option (List (List ℕ))) (f g : StoreFacts) (c : Block) (at : ℕ) (new : List ℕ) (words left : List (Block × CheckWord)) (asked : Result Present ViewFault) (result : Result (Unit {0}) ViewFault)
+pub changing_step : (count moment : ℕ) (old now : Changes) (gives : Option (List (List ℕ))) (f g : StoreFacts) (c : Block) (at : ℕ) (new : List ℕ) (words left : List (Block × CheckWord)) (asked : Result Present ViewFault) (result : Result (Unit {0}) ChangeFault)
     → now ≡ old → MayChangeNow gives f c at new → SeesDisk gives old.disk → IfOk asked (IsFound gives f c words) → IsDone asked result c at new f g words left → Simulates count moment old now f g (AfterChanging result c at new)
 changing_step count moment old now gives f g c at new words left (Ok p) (Ok tt) same may sees found done =
-    moved count moment old now f g (changed_facts c at new (body_of_kept p.body) f) (Ok tt) c at new same done.0 (change_step count moment old gives f c at new (body_of_kept p.body) may found.1 found.0 sees)
+    moved count moment old now f g (changed_facts c at new (body_of_kept p.body) f) (Ok tt) c at new same done.0 (change_step count moment old gives f c at new (body_of_kept p.body) may found.1 found.0 done.2 sees)
 changing_step count moment old now gives f g c at new words left (Ok p) (Err why) same may sees found done = moved count moment old now f g (given_up_facts f) (Err why) c at new same done.1 (give_up_step count moment old f may.opened)
 changing_step count moment old now gives f g c at new words left (Err e) (Err why) same may sees found done = moved count moment old now f g (given_up_facts f) (Err why) c at new same done.1 (give_up_step count moment old f may.opened)
 changing_step count moment old now gives f g c at new words left (Err e) (Ok tt) same may sees found done = absurd done
 
 -- ---- what contracts see
 
-pub has_changed : (gives : Option (List (List ℕ))) (f g : StoreFacts) (c : Block) (at : ℕ) (new : List ℕ) (words left : List (Block × CheckWord)) (asked : Result Present ViewFault) (result : Result (Unit {0}) ViewFault)
+pub has_changed : (gives : Option (List (List ℕ))) (f g : StoreFacts) (c : Block) (at : ℕ) (new : List ℕ) (words left : List (Block × CheckWord)) (asked : Result Present ViewFault) (result : Result (Unit {0}) ChangeFault)
     → IfOk asked (IsFound gives f c words) → IsDone asked result c at new f g words left → HasChanged result gives f g c at new
-has_changed gives f g c at new words left (Ok p) (Ok tt) found done = (body_of_kept p.body, found.0, done.0)
+has_changed gives f g c at new words left (Ok p) (Ok tt) found done = (body_of_kept p.body, found.0, done.0, done.2)
 has_changed gives f g c at new words left (Ok p) (Err why) found done = done.1
 has_changed gives f g c at new words left (Err e) (Err why) found done = done.1
 has_changed gives f g c at new words left (Err e) (Ok tt) found done = absurd done
 
-pub word_is_put : (gives : Option (List (List ℕ))) (f g : StoreFacts) (c : Block) (at : ℕ) (new : List ℕ) (words left : List (Block × CheckWord)) (asked : Result Present ViewFault) (result : Result (Unit {0}) ViewFault)
+pub word_is_put : (gives : Option (List (List ℕ))) (f g : StoreFacts) (c : Block) (at : ℕ) (new : List ℕ) (words left : List (Block × CheckWord)) (asked : Result Present ViewFault) (result : Result (Unit {0}) ChangeFault)
     → IfOk asked (IsFound gives f c words) → IsDone asked result c at new f g words left → OnOk result (WordIsPut gives f c words left)
 word_is_put gives f g c at new words left (Ok p) (Ok tt) found done = record { word = p.word; fit = found.2; put = done.1; changed = found.3; read = found.4 }
 word_is_put gives f g c at new words left (Ok p) (Err why) found done = tt
 word_is_put gives f g c at new words left (Err e) (Err why) found done = tt
 word_is_put gives f g c at new words left (Err e) (Ok tt) found done = absurd done
 
-pub change_cause : (before now moment : ℕ) (f g : StoreFacts) (c : Block) (at : ℕ) (new : List ℕ) (words left : List (Block × CheckWord)) (asked : Result Present ViewFault) (result : Result (Unit {0}) ViewFault)
-    → IsDone asked result c at new f g words left → CountsOnDevice view_cause before now moment asked → CountsOnDevice view_cause before now moment result
-change_cause before now moment f g c at new words left (Ok p) (Ok tt) done cause = cause
-change_cause before now moment f g c at new words left (Ok p) (Err why) done cause = subst (λ (e : ViewFault). CountsCauseOnDevice before now moment (view_cause e)) (sym done.0) cause
-change_cause before now moment f g c at new words left (Err e) (Err why) done cause = subst (λ (e : ViewFault). CountsCauseOnDevice before now moment (view_cause e)) (sym done.0) cause
-change_cause before now moment f g c at new words left (Err e) (Ok tt) done cause = absurd done
+same_cause : (before now moment : ℕ) (asked : ViewFault) → CountsCauseOnDevice before now moment (view_cause asked) → CountsCauseOnDevice before now moment (change_cause (change_fault asked))
+same_cause before now moment ViewFailed cause = cause
+same_cause before now moment ViewMemory cause = cause
+
+refused_cause : (before now moment : ℕ) (e : ChangeFault) (spells : Bool) → IsRefused e spells → now ≡ before → CountsCauseOnDevice before now moment (change_cause e)
+refused_cause before now moment Fault spells is same = absurd is
+refused_cause before now moment Memory spells is same = same
+refused_cause before now moment Unspelled spells is same = same
+
+pub changing_cause : (before now moment : ℕ) (f g : StoreFacts) (c : Block) (at : ℕ) (new : List ℕ) (words left : List (Block × CheckWord)) (asked : Result Present ViewFault) (result : Result (Unit {0}) ChangeFault)
+    → IsDone asked result c at new f g words left → CountsOnDevice view_cause before now moment asked → CountsOnDevice change_cause before now moment result
+changing_cause before now moment f g c at new words left (Ok p) (Ok tt) done cause = cause
+changing_cause before now moment f g c at new words left (Ok p) (Err e) done cause = refused_cause before now moment e (has_spelling c.kind (written at new (body_of_kept p.body).bytes)) done.0 cause
+changing_cause before now moment f g c at new words left (Err asked) (Err e) done cause = subst (λ (x : ChangeFault). CountsCauseOnDevice before now moment (change_cause x)) (sym done.0) (same_cause before now moment asked cause)
+changing_cause before now moment f g c at new words left (Err asked) (Ok tt) done cause = absurd done
+
+-- a body without a spelling isn't seen where the content is known
+never_unspelled : (gives : Option (List (List ℕ))) (f : StoreFacts) (c : Block) (at : ℕ) (new : List ℕ) (x : Body) → MayChangeNow gives f c at new → HasSize c x → IsPresent gives f c x → has_spelling c.kind (written at new x.bytes) ≡ false → gives ≡ None
+never_unspelled None f c at new x may size present bare = refl
+never_unspelled (Some disk) f c at new x may size present bare = absurd (let spells = may.spelled x size present in cc)
+
+not_view : (asked : ViewFault) → change_fault asked ≡ Unspelled → ⊥
+not_view ViewFailed e = cc
+not_view ViewMemory e = cc
+
+pub unspelled_unknown : (gives : Option (List (List ℕ))) (f g : StoreFacts) (c : Block) (at : ℕ) (new : List ℕ) (words left : List (Block × CheckWord)) (asked : Result Present ViewFault) (result : Result (Unit {0}) ChangeFault)
+    → MayChangeNow gives f c at new → IfOk asked (IsFound gives f c words) → IsDone asked result c at new f g words left → IfErr result (λ e. e ≡ Unspelled → gives ≡ None)
+unspelled_unknown gives f g c at new words left (Ok p) (Ok tt) may found done = tt
+unspelled_unknown gives f g c at new words left (Ok p) (Err e) may found done = λ is. never_unspelled gives f c at new (body_of_kept p.body) may found.1 found.0 (bare e is done.0)
+  where
+    bare : (x : ChangeFault) → x ≡ Unspelled → IsRefused x (has_spelling c.kind (written at new (body_of_kept p.body).bytes)) → has_spelling c.kind (written at new (body_of_kept p.body).bytes) ≡ false
+    bare Fault is never = absurd never
+    bare Memory is none = absurd cc
+    bare Unspelled is there = there
+unspelled_unknown gives f g c at new words left (Err asked) (Err e) may found done = λ is. absurd (not_view asked (sym done.0 ∙ is))
+unspelled_unknown gives f g c at new words left (Err asked) (Ok tt) may found done = tt
 
 -- ---- what is always so
-
-log_named : (log : LogAreaOf) (tx last : ℕ) (acts : List Act) → (log_with log tx last acts).named ≡ log.named
-log_named log tx last [] = refl
-log_named log tx last (act ∷ acts) = let e = next_entry log tx last act in log_named (appended e log) tx e.lsn acts
-
-pub changing_named : (f g : StoreFacts) (c : Block) (at : ℕ) (new : List ℕ) (words left : List (Block × CheckWord)) (asked : Result Present ViewFault) (result : Result (Unit {0}) ViewFault)
-    → IsDone asked result c at new f g words left → f.log.named ≡ None → g.log.named ≡ None
-changing_named f g c at new words left (Ok p) (Ok tt) done unnamed =
-    ap (λ (h : StoreFacts). h.log.named) done.0 ∙ log_named f.log f.tx f.last (change_acts f c at new (body_of_kept p.body)) ∙ unnamed
-changing_named f g c at new words left (Ok p) (Err why) done unnamed = ap (λ (h : StoreFacts). h.log.named) done.1 ∙ unnamed
-changing_named f g c at new words left (Err e) (Err why) done unnamed = ap (λ (h : StoreFacts). h.log.named) done.1 ∙ unnamed
-changing_named f g c at new words left (Err e) (Ok tt) done unnamed = absurd done
 
 held_is : (left words : List (Block × CheckWord)) (c b : Block) (word : CheckWord) → left ≡ with_block c word words → held left b ≡ cond (same_block b c) (Some word) (held words b)
 held_is left words c b word is = ap (λ (ws : List (Block × CheckWord)). held ws b) is ∙ held_put word c b words
@@ -123,7 +144,7 @@ by_both : (v : Bool) (x : Body) (word : CheckWord) (o : Option Body) (p : Option
 by_both true x word o p has is = refl
 by_both false x word o p has is = has is
 
-pub changing_worded : (f g : StoreFacts) (c : Block) (at : ℕ) (new : List ℕ) (words left : List (Block × CheckWord)) (asked : Result Present ViewFault) (result : Result (Unit {0}) ViewFault)
+pub changing_worded : (f g : StoreFacts) (c : Block) (at : ℕ) (new : List ℕ) (words left : List (Block × CheckWord)) (asked : Result Present ViewFault) (result : Result (Unit {0}) ChangeFault)
     → IsStore f → IsDone asked result c at new f g words left → ((b : Block) → is_some (f.body b) ≡ true → is_some (held words b) ≡ true) → (b : Block) → is_some (g.body b) ≡ true → is_some (held left b) ≡ true
 changing_worded f g c at new words left (Ok p) (Ok tt) store done worded b is =
     ap (λ (o : Option CheckWord). is_some o) (held_is left words c b p.word done.1)
@@ -141,7 +162,7 @@ put_fit words left c b word is here fit = subst (λ (o : Option CheckWord). IfSo
     by_test true o is = here
     by_test false o is = is
 
-pub changing_fit : (gives : Option (List (List ℕ))) (f g : StoreFacts) (c : Block) (at : ℕ) (new : List ℕ) (words left : List (Block × CheckWord)) (asked : Result Present ViewFault) (result : Result (Unit {0}) ViewFault)
+pub changing_fit : (gives : Option (List (List ℕ))) (f g : StoreFacts) (c : Block) (at : ℕ) (new : List ℕ) (words left : List (Block × CheckWord)) (asked : Result Present ViewFault) (result : Result (Unit {0}) ChangeFault)
     → IfOk asked (IsFound gives f c words) → IsDone asked result c at new f g words left → ((b : Block) → IfSome (held words b) IsFitWord) → (b : Block) → IfSome (held left b) IsFitWord
 changing_fit gives f g c at new words left (Ok p) (Ok tt) found done fit b = put_fit words left c b p.word done.1 found.2 (fit b)
 changing_fit gives f g c at new words left (Ok p) (Err why) found done fit b = by_left done.2

@@ -15,6 +15,7 @@ use Rattle.area_laws.specs.Laws.{SendsRestart, MayName}
 use Rattle.txn_laws.specs.Laws.{first_lsn, opened_area}
 use Rattle.txn_laws.proofs.Openings.{opens_log}
 use Rattle.txn_laws.proofs.Telling.{known_before_write, known_before_sync}
+use Rattle.txn_core.specs.Kept.{IsBegun}
 use Rattle.txn_core.specs.Openings.{OpensOn, NamesAndSyncs, StartsThen}
 
 module _ (place : LogPlace) (lies : IsRingPlace place) (lap restart opens : ℕ) where
@@ -41,6 +42,19 @@ module _ (place : LogPlace) (lies : IsRingPlace place) (lap restart opens : ℕ)
     lap = (let e = lap_is in omega (arith, e));
     from = omega arith;
     upto = (let e = number_is in omega (arith, e));
+  }
+
+  pub first_begun : IsBegun (opened_area place lap restart opens)
+  first_begun = record {
+    some = has_ring place lies;
+    few = lies.small;
+    free = refl;
+    sealed = refl;
+    done = refl;
+    synced = refl;
+    oldest = number_is;
+    named = refl;
+    sent = refl;
   }
 
   pub first_lap : lap < 2 ^ sequence_bits place.pages → lap_at (new_area place lap restart opens) (next_number (new_area place lap restart opens) 0x58) < 2 ^ sequence_bits place.pages

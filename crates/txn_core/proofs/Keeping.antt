@@ -1,5 +1,5 @@
 -- What is always so of a store stays so in each call.
-use Rattle.std.proofs.Common.{◌≡◌, subst, ℕ, ◌+◌, Bool, true, false, cond, List, Option, Some, None, Result, Ok, Err, refl, sym, ap, ◌∙◌, arith}
+use Rattle.std.proofs.Common.{◌≡◌, subst, ℕ, Bool, true, false, cond, List, Option, Some, None, Result, Ok, Err, refl, sym, ap, ◌∙◌, arith}
 use Rattle.std.specs.Prelude.{IfSome, OnOk, OnErr, is_some, ◌||◌}
 use Rattle.std.specs.Option.{option_or}
 use Rattle.host_base.specs.declared.outside.Failed.{Failed}
@@ -7,8 +7,6 @@ use Rattle.disk_model.specs.declared.block.Block.{Block}
 use Rattle.disk_model.specs.declared.block.Body.{Body}
 use Rattle.sector_device.specs.Moments.{Changes}
 use Rattle.log_page.specs.declared.places.LogPlace.{LogPlace}
-use Rattle.log_page.specs.Places.{entries_at}
-use Rattle.log_area.specs.Areas.{LogAreaOf, is_filling, sealed_area}
 use Rattle.store_model.specs.Volumes.{ContentWindow}
 use Rattle.block_pool.specs.Pools.{held}
 use Rattle.txn_model.specs.Values.{StoreFacts}
@@ -18,6 +16,7 @@ use Rattle.txn_laws.specs.Windows.{HasMachine, Simulates}
 use Rattle.txn_laws.proofs.Telling.{keeps}
 use Rattle.device_blocks.specs.declared.word.CheckWord.{CheckWord}
 use Rattle.device_blocks.specs.Words.{IsFitWord}
+use Rattle.txn_core.specs.Kept.{IsKept}
 use Rattle.txn_core.specs.Calls.{page_facts, sync_facts}
 use Rattle.txn_core.specs.Seen.{Seen, StandsOn, TakesStep}
 
@@ -35,25 +34,18 @@ facts_seen {D} after old seen new is facts = facts ∙ ap (λ (s : Seen D). afte
 -- ---- what is always so
 
 pub stands_after : (count later moment : ℕ) (old now : Changes) (before after : StateOf) (words left : List (Block × CheckWord)) (g : StoreFacts) (After : ContentWindow → ContentWindow → Type 0)
-    → later ≡ count → StandsOn count old before words → facts_of after ≡ g → Simulates count moment old now (facts_of before) g After → g.log.named ≡ None
+    → later ≡ count → StandsOn count old before words → facts_of after ≡ g → Simulates count moment old now (facts_of before) g After → IsKept g
     → ((b : Block) → is_some (g.body b) ≡ true → is_some (held left b) ≡ true) → ((b : Block) → IfSome (held left b) IsFitWord) → StandsOn later now after left
-stands_after count later moment old now before after words left g After same stands facts step unnamed worded fit =
+stands_after count later moment old now before after words left g After same stands facts step kept worded fit =
     let device : (facts_of after).place.device ≡ (facts_of before).place.device = ap (λ (f : StoreFacts). f.place.device) facts ∙ ap (λ (p : LogPlace). p.device) step.place in
     let inside = stands.place in
     record {
       place = omega (arith, device, inside, same);
-      unnamed = ap (λ (f : StoreFacts). f.log.named) facts ∙ unnamed;
+      kept = subst IsKept (sym facts) kept;
       worded = λ b h. worded b (ap (λ (f : StoreFacts). is_some (f.body b)) (sym facts) ∙ h);
       fit = fit;
       machine = subst (λ (f : StoreFacts). HasMachine now f) (sym facts) (keeps count moment old now (facts_of before) g After step stands.machine);
     }
-
-pub sealed_named : (a : LogAreaOf) → (sealed_area a).named ≡ a.named
-sealed_named a = go (is_filling a)
-  where
-    go : (v : Bool) → (cond v (record a { free = entries_at; sealed = a.sealed + 1 }) a).named ≡ a.named
-    go true = refl
-    go false = refl
 
 -- a give-up brings back bodies of blocks that have one
 pub given_up_worded : (f : StoreFacts) (words : List (Block × CheckWord)) → IsStore f → ((b : Block) → is_some (f.body b) ≡ true → is_some (held words b) ≡ true)
@@ -69,10 +61,6 @@ pub page_result : (result : Result (Unit {0}) Failed) (old new : StateOf) → On
 page_result (Ok tt) old new ok err = ok
 page_result (Err fault) old new ok err = ap facts_of err
 
-pub page_named : (result : Result (Unit {0}) Failed) (check : Option ℕ) (f : StoreFacts) → f.log.named ≡ None → (page_facts result check f).log.named ≡ None
-page_named (Ok tt) check f unnamed = unnamed
-page_named (Err fault) check f unnamed = unnamed
-
 pub page_worded : (result : Result (Unit {0}) Failed) (check : Option ℕ) (f : StoreFacts) (b : Block) → is_some ((page_facts result check f).body b) ≡ true → is_some (f.body b) ≡ true
 page_worded (Ok tt) check f b is = is
 page_worded (Err fault) check f b is = is
@@ -80,10 +68,6 @@ page_worded (Err fault) check f b is = is
 pub sync_result : (result : Result (Unit {0}) Failed) (old new : StateOf) → OnOk result (facts_of new ≡ synced_facts (facts_of old)) → OnErr result (new ≡ old) → facts_of new ≡ sync_facts result (facts_of old)
 sync_result (Ok tt) old new ok err = ok
 sync_result (Err fault) old new ok err = ap facts_of err
-
-pub sync_named : (result : Result (Unit {0}) Failed) (f : StoreFacts) → f.log.named ≡ None → (sync_facts result f).log.named ≡ None
-sync_named (Ok tt) f unnamed = refl
-sync_named (Err fault) f unnamed = unnamed
 
 pub sync_worded : (result : Result (Unit {0}) Failed) (f : StoreFacts) (b : Block) → is_some ((sync_facts result f).body b) ≡ true → is_some (f.body b) ≡ true
 sync_worded (Ok tt) f b is = kept (is_buried f.log.done (f.mark b)) (f.body b) is
@@ -97,7 +81,7 @@ sync_worded (Err fault) f b is = is
 pub read_stands : (count later : ℕ) (old now : Changes) (state : StateOf) (words : List (Block × CheckWord)) → later ≡ count → now ≡ old → StandsOn count old state words → StandsOn later now state words
 read_stands count later old now state words same unchanged stands = record {
   place = (let inside = stands.place in omega (arith, inside, same));
-  unnamed = stands.unnamed;
+  kept = stands.kept;
   worded = stands.worded;
   fit = stands.fit;
   machine = subst (λ (c : Changes). HasMachine c (facts_of state)) (sym unchanged) stands.machine;

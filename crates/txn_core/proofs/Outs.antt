@@ -188,15 +188,6 @@ out_step gives changes moment count n f b spells word now result old new store r
 
 -- ---- what is always so
 
-pub out_named : (spells ok : Bool) (now : CheckWord) (b : Block) (f : StoreFacts) → f.log.named ≡ None → (out_facts spells ok now b f).log.named ≡ None
-out_named true true now b f unnamed = unnamed
-out_named true false (Sent check) b f unnamed = unnamed
-out_named true false Unread b f unnamed = unnamed
-out_named true false Missing b f unnamed = unnamed
-out_named true false (Stands check) b f unnamed = unnamed
-out_named false true now b f unnamed = unnamed
-out_named false false now b f unnamed = unnamed
-
 gone_or_kept : (v : Bool) (o : Option Body) → is_some (cond v None o) ≡ true → is_some o ≡ true
 gone_or_kept true o is = absurd cc
 gone_or_kept false o is = is

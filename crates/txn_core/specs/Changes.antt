@@ -1,6 +1,6 @@
 -- What a change of a block asks, and what it does to a store.
-use Rattle.std.specs.Prelude.{◌≡◌, ◌⊎◌, ℕ, ◌+◌, ◌*◌, ◌<◌, ◌≤◌, true, false, List, length, Option, None, is_some, unwrap_or, Result, Ok, Err, IfSome}
-use Rattle.host_base.specs.Answers.{Cause, no_memory, failed}
+use Rattle.std.specs.Prelude.{◌≡◌, ◌⊎◌, ℕ, ◌+◌, ◌*◌, ◌<◌, ◌≤◌, Bool, true, false, List, length, Option, None, is_some, unwrap_or, Result, Ok, Err, IfSome}
+use Rattle.host_base.specs.Answers.{Cause, refused, no_memory, failed}
 use Rattle.disk_model.specs.declared.block.Block.{Block}
 use Rattle.disk_model.specs.declared.block.Body.{Body}
 use Rattle.disk_model.specs.Bytes.{written}
@@ -8,7 +8,9 @@ use Rattle.disk_model.specs.Content.{content_of}
 use Rattle.disk_model.specs.Sectors.{sector_of, sectors, are_rivals}
 use Rattle.fixup_record.specs.Spellings.{has_spelling}
 use Rattle.block_view.specs.declared.fault.ViewFault.{ViewFault}
-use Rattle.block_view.specs.declared.fault.ViewFault.TheVariants.{Fault, Memory}
+use Rattle.block_view.specs.declared.fault.ViewFault.TheVariants.{Fault as ViewFailed, Memory as ViewMemory}
+use Rattle.txn_core.specs.declared.fault.ChangeFault.{ChangeFault}
+use Rattle.txn_core.specs.declared.fault.ChangeFault.TheVariants.{Fault, Memory, Unspelled}
 use Rattle.block_pool.specs.Pools.{with_block}
 use Rattle.store_model.specs.Volumes.{is_known, ContentWindow}
 use Rattle.txn_model.specs.Values.{StoreFacts, own_of}
@@ -24,8 +26,19 @@ use Rattle.txn_core.specs.declared.changing.Present.{Present}
 
 -- why a change fails: a failure of the device, or want of memory
 abbrev pub view_cause : ViewFault → Cause (Unit {0})
-view_cause Fault = failed
-view_cause Memory = no_memory
+view_cause ViewFailed = failed
+view_cause ViewMemory = no_memory
+
+-- of a change: or a refusal of a body without a spelling
+abbrev pub change_cause : ChangeFault → Cause (Unit {0})
+change_cause Fault = failed
+change_cause Memory = no_memory
+change_cause Unspelled = refused tt
+
+-- what a view's fault is to a change
+abbrev pub change_fault : ViewFault → ChangeFault
+change_fault ViewFailed = Fault
+change_fault ViewMemory = Memory
 
 -- the present body of a block: the one that is kept, or what the device gives
 abbrev pub IsPresent : Option (List (List ℕ)) → StoreFacts → Block → Body → Type 0
@@ -51,19 +64,30 @@ pub record MayChangeNow (gives : Option (List (List ℕ))) (f : StoreFacts) (c :
   pub alone : (x : Block) → are_rivals c x ≡ true → f.before x ≡ None
   pub room : (x : Body) → HasSize c x → MayAppendAll f.log f.tx f.last (change_acts f c at new x)
 
--- The change of the present body was made; or the transaction was given up.
-abbrev pub HasChanged : Result (Unit {0}) ViewFault → Option (List (List ℕ)) → (f g : StoreFacts) → Block → ℕ → List ℕ → Type 0
-HasChanged (Ok u) gives f g c at new = (x : Body) × IsPresent gives f c x × (g ≡ changed_facts c at new x f)
+-- The change of the present body was made, which has a spelling then; or the transaction was given up.
+abbrev pub HasChanged : Result (Unit {0}) ChangeFault → Option (List (List ℕ)) → (f g : StoreFacts) → Block → ℕ → List ℕ → Type 0
+HasChanged (Ok u) gives f g c at new = (x : Body) × IsPresent gives f c x × (g ≡ changed_facts c at new x f) × (has_spelling c.kind (written at new x.bytes) ≡ true)
 HasChanged (Err e) gives f g c at new = g ≡ given_up_facts f
 
 -- and the window after either
-abbrev pub AfterChanging : Result (Unit {0}) ViewFault → Block → ℕ → List ℕ → ContentWindow → ContentWindow → Type 0
+abbrev pub AfterChanging : Result (Unit {0}) ChangeFault → Block → ℕ → List ℕ → ContentWindow → ContentWindow → Type 0
 AfterChanging (Ok u) c at new = AfterChange c at new
 AfterChanging (Err e) c at new = AfterGiveUp
 
--- What a change made of the state and of the words, where this was asked for the present body.
-abbrev pub IsDone : Result Present ViewFault → Result (Unit {0}) ViewFault → Block → ℕ → List ℕ → (f g : StoreFacts) → (old new : List (Block × CheckWord)) → Type 0
-IsDone (Ok p) (Ok u) c at bytes f g old new = (g ≡ changed_facts c at bytes (body_of_kept p.body) f) × (new ≡ with_block c p.word old)
-IsDone (Ok p) (Err e) c at bytes f g old new = (e ≡ Memory) × (g ≡ given_up_facts f) × ((new ≡ old) ⊎ (new ≡ with_block c p.word old))
-IsDone (Err asked) (Err e) c at bytes f g old new = (e ≡ asked) × (g ≡ given_up_facts f) × (new ≡ old)
+-- why the present body wasn't changed, where the body after the change has a spelling or not
+abbrev pub IsRefused : ChangeFault → Bool → Type 0
+IsRefused Fault spells = ⊥
+IsRefused Memory spells = Unit {0}
+IsRefused Unspelled spells = spells ≡ false
+
+-- What a change of the present body made of the state and of the words.
+abbrev pub IsPut : Present → Result (Unit {0}) ChangeFault → Block → ℕ → List ℕ → (f g : StoreFacts) → (old new : List (Block × CheckWord)) → Type 0
+IsPut p (Ok u) c at bytes f g old new = (g ≡ changed_facts c at bytes (body_of_kept p.body) f) × (new ≡ with_block c p.word old) × (has_spelling c.kind (written at bytes (body_of_kept p.body).bytes) ≡ true)
+IsPut p (Err e) c at bytes f g old new =
+    IsRefused e (has_spelling c.kind (written at bytes (body_of_kept p.body).bytes)) × (g ≡ given_up_facts f) × ((new ≡ old) ⊎ (new ≡ with_block c p.word old))
+
+-- And where this was asked for the present body.
+abbrev pub IsDone : Result Present ViewFault → Result (Unit {0}) ChangeFault → Block → ℕ → List ℕ → (f g : StoreFacts) → (old new : List (Block × CheckWord)) → Type 0
+IsDone (Ok p) result c at bytes f g old new = IsPut p result c at bytes f g old new
+IsDone (Err asked) (Err e) c at bytes f g old new = (e ≡ change_fault asked) × (g ≡ given_up_facts f) × (new ≡ old)
 IsDone (Err asked) (Ok u) c at bytes f g old new = ⊥

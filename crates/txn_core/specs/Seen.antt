@@ -1,10 +1,11 @@
 -- What contracts see of a store on a device, and what is always so of it.
-use Rattle.std.specs.Prelude.{◌≡◌, ◌≤◌, ℕ, true, List, None, is_some, IfSome, unwrap_or}
+use Rattle.std.specs.Prelude.{◌≡◌, ◌≤◌, ℕ, true, List, is_some, IfSome, unwrap_or}
 use Rattle.disk_model.specs.declared.block.Block.{Block}
 use Rattle.sector_device.specs.Moments.{Changes}
 use Rattle.store_model.specs.Volumes.{ContentWindow}
 use Rattle.block_pool.specs.Pools.{held}
 use Rattle.txn_state.specs.States.{StateOf, facts_of}
+use Rattle.txn_core.specs.Kept.{IsKept}
 use Rattle.txn_laws.specs.Windows.{HasMachine, Simulates}
 use Rattle.device_blocks.specs.declared.word.CheckWord.{CheckWord}
 use Rattle.device_blocks.specs.declared.word.CheckWord.TheVariants.{Unread}
@@ -23,7 +24,7 @@ word_of words b = unwrap_or (held words b) Unread
 -- What is always so of a store: its log lies inside the device, a block whose body is kept has a word, and where the disk is known, a sound machine stands behind it.
 pub record StandsOn (count : ℕ) (changes : Changes) (state : StateOf) (words : List (Block × CheckWord)) : Type 0 where
   pub place : (facts_of state).place.device ≤ count
-  pub unnamed : (facts_of state).log.named ≡ None
+  pub kept : IsKept (facts_of state)
   pub worded : (b : Block) → is_some ((facts_of state).body b) ≡ true → is_some (held words b) ≡ true
   pub fit : (b : Block) → IfSome (held words b) IsFitWord
   pub machine : HasMachine changes (facts_of state)

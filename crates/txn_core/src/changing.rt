@@ -1,23 +1,27 @@
 //! Changes of blocks in a transaction.
-ghost use Rattle.std.specs.Prelude.{◌≡◌, ◌⊎◌, ◌≤◌, ◌+◌, true, false, Some, OnOk, OnErr, IfOk, IfErr, IfSome, is_some};
+ghost use Rattle.std.specs.Prelude.{◌≡◌, ◌⊎◌, ◌≤◌, ◌+◌, ◌*◌, true, false, length, None, Some, OnOk, OnErr, IfOk, IfErr, IfSome, is_some};
+ghost use Rattle.disk_model.specs.Bytes.{written};
+ghost use Rattle.fixup_record.specs.Spellings.{has_spelling};
 ghost use Rattle.disk_model.specs.Content.{content_of};
 ghost use Rattle.disk_model.specs.Sectors.{sector_of, sectors};
 ghost use Rattle.block_pool.specs.Pools.{with_block};
-ghost use Rattle.block_view.specs.declared.fault.ViewFault.TheVariants.{Memory};
 ghost use Rattle.device_view.specs.Devices.{CountsOnDevice};
 ghost use Rattle.device_blocks.specs.Words.{IsToldOf, changed_word, IsFitWord};
 ghost use Rattle.store_pools.specs.Pools.{body_of_kept};
 ghost use Rattle.txn_model.specs.Calls.{changed_facts, given_up_facts};
 ghost use Rattle.txn_state.specs.States.{facts_of, HasSize, MayChange};
-ghost use Rattle.txn_core.specs.Changes.{view_cause, IsPresent, WordIsPut, MayChangeNow, HasChanged, AfterChanging, IsDone};
+ghost use Rattle.txn_core.specs.declared.fault.ChangeFault.TheVariants.{Unspelled};
+ghost use Rattle.txn_core.specs.Changes.{view_cause, change_cause, change_fault, IsPut, IsPresent, WordIsPut, MayChangeNow, HasChanged, AfterChanging, IsDone};
 ghost use Rattle.txn_core.specs.Seen.{word_of, TakesStep};
 
+use crate::fault::ChangeFault;
 use crate::store::Store;
 use crate::writing::word_of;
 use block_pool::Pool;
 use block_view::ViewFault;
 use device_blocks::{CheckWord, read_block};
-use disk_model::{Block, Body};
+use disk_model::{Block, Body, put_bytes};
+use fixup_record::has_spelling;
 use host_base::{Bytes, Failed};
 use sector_device::Device;
 use std::alloc::{AllocError, Global};
@@ -117,7 +121,52 @@ fn find_present<D: Device>(
     }
 }
 
+// Whether the body with these bytes over its own from `at` on has a spelling. The error is want of
+// memory.
+fn is_spelled_with(
+    alloc: Global,
+    block: Block,
+    at: usize,
+    new: &[u8],
+    body: &KeptBody,
+) -> Result<bool, AllocError>
+    requires size { HasSize block (body_of_kept body.now) }
+    requires fits { at + length new.now ≤ 512 * sectors block.kind }
+    ensures { IfOk result (λ v. v ≡ has_spelling block.kind (written at new.now (body_of_kept body.now).bytes)) }
+{
+    let mut bytes = Vec::from_slice(alloc, body.bytes.as_slice())?;
+    put_bytes(&mut bytes, at, new);
+    Ok(has_spelling(block.kind, &bytes))
+}
+
 // The change of the present body in memory, and its word is kept; or the transaction is given up.
+fn put_present(
+    state: &mut StoreState,
+    words: &mut Pool<CheckWord>,
+    alloc: Global,
+    block: Block,
+    at: usize,
+    new: &[u8],
+    present: Present,
+) -> Result<(), AllocError>
+    requires may { MayChange (facts_of state.old) block at new.now (body_of_kept present.body) }
+    ensures ok { OnOk result (facts_of state.new ≡ changed_facts block at new.now (body_of_kept present.body) (facts_of state.old)) }
+    ensures err { OnErr result (facts_of state.new ≡ given_up_facts (facts_of state.old)) }
+    ensures words { OnOk result (words.new ≡ with_block block present.word words.old) }
+    ensures left { OnErr result ((words.new ≡ words.old) ⊎ (words.new ≡ with_block block present.word words.old)) }
+{
+    let Present { body, word } = present;
+    match words.put(block, word) {
+        Ok(()) => {}
+        Err(fault) => {
+            state.give_up();
+            return Err(fault);
+        }
+    }
+    state.change(alloc, block, at, new, body)
+}
+
+// The same where the body after it has a spelling, or no memory is left to tell.
 fn change_present(
     state: &mut StoreState,
     words: &mut Pool<CheckWord>,
@@ -126,25 +175,33 @@ fn change_present(
     at: usize,
     new: &[u8],
     present: Present,
-) -> Result<(), ViewFault>
+) -> Result<(), ChangeFault>
     requires may { MayChange (facts_of state.old) block at new.now (body_of_kept present.body) }
-    ensures ok { OnOk result (facts_of state.new ≡ changed_facts block at new.now (body_of_kept present.body) (facts_of state.old)) }
-    ensures err { OnErr result (facts_of state.new ≡ given_up_facts (facts_of state.old)) }
-    ensures words { OnOk result (words.new ≡ with_block block present.word words.old) }
-    ensures left { OnErr result ((words.new ≡ words.old) ⊎ (words.new ≡ with_block block present.word words.old)) }
-    ensures memory { IfErr result (λ fault. fault ≡ Memory) }
+    ensures done { IsPut present result block at new.now (facts_of state.old) (facts_of state.new) words.old words.new }
 {
-    let Present { body, word } = present;
-    match words.put(block, word) {
-        Ok(()) => {}
+    match is_spelled_with(alloc, block, at, new, &present.body) {
+        Ok(true) => match put_present(state, words, alloc, block, at, new, present) {
+            Ok(()) => Ok(()),
+            Err(AllocError) => Err(ChangeFault::Memory),
+        },
+        Ok(false) => {
+            state.give_up();
+            Err(ChangeFault::Unspelled)
+        }
         Err(AllocError) => {
             state.give_up();
-            return Err(ViewFault::Memory);
+            Err(ChangeFault::Memory)
         }
     }
-    match state.change(alloc, block, at, new, body) {
-        Ok(()) => Ok(()),
-        Err(AllocError) => Err(ViewFault::Memory),
+}
+
+// What a view's fault is to a change.
+fn change_fault(fault: ViewFault) -> ChangeFault
+    ensures { result ≡ change_fault fault }
+{
+    match fault {
+        ViewFault::Fault => ChangeFault::Fault,
+        ViewFault::Memory => ChangeFault::Memory,
     }
 }
 
@@ -157,7 +214,7 @@ fn change_asked(
     at: usize,
     new: &[u8],
     asked: Result<Present, ViewFault>,
-) -> Result<(), ViewFault>
+) -> Result<(), ChangeFault>
     requires opened { (facts_of state.old).is_open ≡ true }
     requires may { IfOk asked (λ p. MayChange (facts_of state.old) block at new.now (body_of_kept p.body)) }
     ensures done { IsDone asked result block at new.now (facts_of state.old) (facts_of state.new) words.old words.new }
@@ -166,7 +223,7 @@ fn change_asked(
         Ok(present) => change_present(state, words, alloc, block, at, new, present),
         Err(fault) => {
             state.give_up();
-            Err(fault)
+            Err(change_fault(fault))
         }
     }
 }
@@ -176,8 +233,10 @@ impl<D: Device> Store<D> {
     /// body, which is read where it isn't kept. What it logs is appended to the log, and nothing is
     /// written to the device. Dirty rivals of the block are dead.
     ///
-    /// [`ViewFault::Fault`]: the device failed, only where the body was read;
-    /// [`ViewFault::Memory`]: want of memory. Then the transaction is given up. At most one call of the device;
+    /// [`ChangeFault::Fault`]: the device failed, only where the body was read;
+    /// [`ChangeFault::Memory`]: want of memory; [`ChangeFault::Unspelled`]: the body after the change
+    /// has no spelling, which comes only where what the device gives isn't known. Then the
+    /// transaction is given up. At most one call of the device;
     /// logarithmic in the number of blocks that have marks or bodies, and linear in the body.
     pub fn change(
         &mut self,
@@ -185,20 +244,21 @@ impl<D: Device> Store<D> {
         block: Block,
         at: usize,
         new: &[u8],
-    ) -> Result<(), ViewFault>
+    ) -> Result<(), ChangeFault>
         requires may { MayChangeNow (D.gives self.old.device) (facts_of self.old.state) block at new.now }
         ensures facts { HasChanged result (D.gives self.old.device) (facts_of self.old.state) (facts_of self.new.state) block at new.now }
+        ensures unspelled { IfErr result (λ fault. fault ≡ Unspelled → D.gives self.old.device ≡ None) }
         ensures words { OnOk result (WordIsPut (D.gives self.old.device) (facts_of self.old.state) block self.old.words self.new.words) }
         ensures gives { D.gives self.new.device ≡ D.gives self.old.device }
         ensures changes { D.changes_of self.new.device ≡ D.changes_of self.old.device }
         ensures sectors { D.sector_count self.new.device ≡ D.sector_count self.old.device }
         ensures later { D.moment_of self.old.device ≤ D.moment_of self.new.device }
-        ensures cause { CountsOnDevice view_cause (D.fault_count self.old.device) (D.fault_count self.new.device) (D.moment_of self.new.device) result }
+        ensures cause { CountsOnDevice change_cause (D.fault_count self.old.device) (D.fault_count self.new.device) (D.moment_of self.new.device) result }
         ensures step { TakesStep D.sector_count D.moment_of D.changes_of (AfterChanging result block at new.now) self.old self.new }
     {
         self.state.known();
         let asked = find_present(&mut self.device, &self.state, &self.words, alloc, block);
-        change_asked(
+        let result = change_asked(
             &mut self.state,
             &mut self.words,
             alloc,
@@ -206,6 +266,8 @@ impl<D: Device> Store<D> {
             at,
             new,
             asked,
-        )
+        );
+        self.told.after_change(&self.state, result.is_ok());
+        result
     }
 }

@@ -7,14 +7,22 @@
 #![tactic(auto)]
 
 mod changing;
+mod checkpoints;
 mod counting;
+mod fault;
+mod laws;
 mod opening;
 mod steps;
 mod store;
+mod telling;
+mod told;
 mod transactions;
+mod turning;
 mod view;
 mod writing;
 
+pub use fault::ChangeFault;
+pub use laws::steps_lead_on;
 pub use opening::open_log;
 pub use store::Store;
 pub use view::StoreView;

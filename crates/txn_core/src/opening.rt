@@ -7,6 +7,7 @@ ghost use Rattle.log_reading.specs.Rings.{IsRingPlace};
 ghost use Rattle.log_area.specs.Areas.{IsOldest, lap_at, next_number, new_area, named_area, synced_area};
 ghost use Rattle.txn_laws.specs.Laws.{opened_area};
 ghost use Rattle.txn_core.specs.Changes.{view_cause};
+ghost use Rattle.txn_core.specs.Kept.{IsBegun};
 ghost use Rattle.txn_core.specs.Openings.{OpensOn, NamesAndSyncs, StartsThen};
 
 use block_view::ViewFault;
@@ -76,6 +77,7 @@ pub fn open_log<D: Device>(
     requires inside { place.now.device ≤ D.sector_count device.old }
     requires stands { IfSome (D.changes_of device.old).disk (OpensOn place.now lap restart opens) }
     ensures log { IfOk result (λ log. log ≡ opened_area place.now lap restart opens) }
+    ensures begun { IfOk result IsBegun }
     ensures starts { OnOk result (StartsThen D.changes_of place.now (opened_area place.now lap restart opens) device.new) }
     ensures sectors { D.sector_count device.new ≡ D.sector_count device.old }
     ensures cause { CountsOnDevice view_cause (D.fault_count device.old) (D.fault_count device.new) (D.moment_of device.new) result }

@@ -48,6 +48,8 @@ impl<D: Device> Store<D> {
         ensures cause { FailsByCause (D.fault_count self.old.device) (D.fault_count self.new.device) (D.moment_of self.new.device) result }
         ensures step { TakesStep D.sector_count D.moment_of D.changes_of (AfterSync result (facts_of self.old.state)) self.old self.new }
     {
-        self.state.sync(&mut self.device)
+        let result = self.state.sync(&mut self.device);
+        self.told.after_sync(&self.state, result.is_ok());
+        result
     }
 }

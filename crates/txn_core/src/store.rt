@@ -1,12 +1,14 @@
 //! A store on a device.
-ghost use Rattle.std.specs.Prelude.{◌≡◌, ◌≤◌, None, Some};
+ghost use Rattle.std.specs.Prelude.{◌≡◌, ◌≤◌, Some};
 ghost use Rattle.disk_model.specs.Content.{content_of};
 ghost use Rattle.sector_device.specs.Disks.{Disk, seen};
 ghost use Rattle.txn_model.specs.Calls.{first_facts};
 ghost use Rattle.txn_state.specs.States.{facts_of};
 ghost use Rattle.txn_laws.specs.Windows.{HasStart};
+ghost use Rattle.txn_core.specs.Kept.{IsBegun};
 ghost use Rattle.txn_core.specs.Openings.{StartsThen};
 
+use crate::telling::Telling;
 use block_pool::Pool;
 use device_blocks::CheckWord;
 use sector_device::Device;
@@ -21,16 +23,19 @@ pub struct Store<D: Device> {
     pub(crate) state: StoreState,
     // What is known of the check words of the blocks whose bodies are kept.
     pub(crate) words: Pool<CheckWord>,
+    pub(crate) told: Telling,
 }
 
 impl<D: Device> Model for Store<D> {
+    ghost use Rattle.txn_state.specs.States.{facts_of};
     ghost use Rattle.txn_core.specs.Seen.{Seen, StandsOn};
+    ghost use Rattle.txn_core.specs.Tells.{IsTold};
 
     ghost Value = { Seen D };
 
     ghost view = { λ s. record { device = s.device; state = s.state; words = s.words } };
 
-    ghost invariant = { λ s. StandsOn (D.sector_count s.device) (D.changes_of s.device) s.state s.words };
+    ghost invariant = { λ s. StandsOn (D.sector_count s.device) (D.changes_of s.device) s.state s.words × IsTold (facts_of s.state) s.told };
 }
 
 impl<D: Device> Store<D> {
@@ -38,7 +43,7 @@ impl<D: Device> Store<D> {
     /// opened there. It takes no memory.
     pub fn on(alloc: Global, device: D, state: StoreState) -> Self
         requires place { state.place.device ≤ D.sector_count device }
-        requires unnamed { state.log.named ≡ None }
+        requires begun { IsBegun state.log }
         requires first { facts_of state ≡ first_facts state.place state.log state.found }
         requires starts { StartsThen D.changes_of state.place state.log device }
         ensures device { result.device ≡ device }
@@ -50,6 +55,7 @@ impl<D: Device> Store<D> {
             device,
             state,
             words,
+            told: Telling::new(),
         }
     }
 

@@ -40,11 +40,13 @@ impl<D: Device> Store<D> {
         ensures words { self.new.words ≡ self.old.words }
         ensures step { TakesStep D.sector_count D.moment_of D.changes_of AfterCommit self.old self.new }
     {
+        self.state.known();
         self.state.commit()
     }
 
     /// Gives up the open transaction: its blocks have the bodies from before it again, and are
-    /// dirty. It takes no memory and makes no call of the device; near-linear in these blocks.
+    /// dirty. It takes no memory and makes no call of the device; near-linear in the blocks that have
+    /// marks.
     pub fn give_up(&mut self)
         requires opened { self.old.state.is_open ≡ true }
         ensures facts { facts_of self.new.state ≡ given_up_facts (facts_of self.old.state) }
@@ -54,6 +56,7 @@ impl<D: Device> Store<D> {
     {
         self.state.known();
         self.state.give_up();
+        self.told.seek(&self.state);
     }
 
     /// Seals the page of the log that is filled, if it has an entry: no entry goes into it any

@@ -124,11 +124,13 @@ impl<D: Device> Store<D> {
     {
         self.state.known();
         let spelled = is_spelled(&self.state, block);
+        let anew = self.state.owes_rival(block);
         let mut word = word_of(&self.words, block);
         let result = send_out(&mut self.device, &self.state, block, &mut word, spelled);
         let ok = result.is_ok();
         settle_out(&mut self.state, block, word, spelled, ok);
         settle_word(&mut self.words, block, word, ok);
+        self.told.after_write(&self.state, block, anew);
         result
     }
 }

@@ -65,7 +65,7 @@ next_may_be_taken f told step keeps says closed e = by step (may_be_taken told s
           page.0,
           record {
             noted = page.1;
-            paid = none_left f says.left (sym says.noted_left ∙ none) says.are_left;
+            paid = none_left f says.left (omega (arith, says.noted_left, none)) says.are_left;
             durable = omega (arith, sealed, synced.sealed, says.sealed, all.pages);
             unnamed = all.unnamed;
           },

@@ -23,7 +23,7 @@ count_cons : (b x : Block) (xs : List Block) → count b (x ∷ xs) ≡ cond (sa
 count_cons b x xs = sum_by-cons (λ (y : Block). cond {A = ℕ} (same_block b y) 1 0) x xs
 
 -- the list without the block's first place
-abbrev take_out : Block → List Block → List Block
+abbrev pub take_out : Block → List Block → List Block
 take_out b [] = []
 take_out b (y ∷ ys) = cond (same_block b y) ys (y ∷ take_out b ys)
 
@@ -31,7 +31,7 @@ behind : (v : Bool) (n : ℕ) → v ≡ false → 0 < cond v 1 0 + n → 0 < n
 behind true n e lt = absurd (true≢false e)
 behind false n e lt = omega (arith, lt)
 
-out_length : (b : Block) (ys : List Block) → 0 < count b ys → length (take_out b ys) + 1 ≡ length ys
+pub out_length : (b : Block) (ys : List Block) → 0 < count b ys → length (take_out b ys) + 1 ≡ length ys
 out_length b [] lt = absurd (omega (arith, lt))
 out_length b (y ∷ ys) lt = by (λ less. out_length b ys less) (same_block b y) refl
   where
@@ -39,7 +39,7 @@ out_length b (y ∷ ys) lt = by (λ less. out_length b ys less) (same_block b y)
     by more true e = omega arith
     by more false e = let rest = more (behind (same_block b y) (count b ys) e (omega (arith, lt, count_cons b y ys))) in omega (arith, rest)
 
-out_count : (b c : Block) (ys : List Block) → 0 < count b ys → count c (take_out b ys) + cond (same_block c b) 1 0 ≡ count c ys
+pub out_count : (b c : Block) (ys : List Block) → 0 < count b ys → count c (take_out b ys) + cond (same_block c b) 1 0 ≡ count c ys
 out_count b c [] lt = absurd (omega (arith, lt))
 out_count b c (y ∷ ys) lt = by (λ less. out_count b c ys less) (same_block b y) refl
   where
@@ -59,7 +59,7 @@ counted_here : (x : Block) (xs : List Block) → 0 < count x (x ∷ xs)
 counted_here x xs = let one : ◌≡◌ {A = ℕ} (cond (same_block x x) 1 0) 1 = ap (λ (v : Bool). cond v 1 0) (same_as_itself x) in omega (arith, one, count_cons x x xs)
 
 -- a list that has no block more often than another one isn't longer
-fewer : (xs ys : List Block) → ((b : Block) → count b xs ≤ count b ys) → length xs ≤ length ys
+pub fewer : (xs ys : List Block) → ((b : Block) → count b xs ≤ count b ys) → length xs ≤ length ys
 fewer [] ys le = omega arith
 fewer (x ∷ xs) ys le =
     let own = le x in

@@ -1,5 +1,5 @@
 -- What a store tells of itself, and when its next step may be taken.
-use Rattle.std.specs.Prelude.{◌≡◌, ℕ, ◌+◌, ◌-◌, ◌<◌, ◌≤◌, ◌&&◌, ◌||◌, not, nat_lt, Bool, true, false, if◌then◌else◌, List, length, count_by, Some, None, IfSome, is_some, unwrap_or}
+use Rattle.std.specs.Prelude.{◌≡◌, ℕ, ◌+◌, ◌-◌, ◌^◌, min, ◌<◌, ◌≤◌, ◌&&◌, ◌||◌, not, nat_lt, Bool, true, false, if◌then◌else◌, List, length, count_by, Some, None, IfSome, is_some, unwrap_or}
 use Rattle.disk_model.specs.declared.block.Block.{Block}
 use Rattle.disk_model.specs.Sectors.{same_block}
 use Rattle.block_pool.specs.Numbers.{block_number}
@@ -44,7 +44,8 @@ pub record FactsTold (f : StoreFacts) (told : Facts) : Type 0 where
   pub fresh : told.fresh ≡ is_fresh f
   pub left : List Block
   pub are_left : AreLeft f left
-  pub noted_left : told.noted_left ≡ length left
+  -- a count that stays at its type's end
+  pub noted_left : told.noted_left ≡ min (length left) (2 ^ 64 - 1)
   pub used : told.pages_used ≡ used_pages f.log
   pub pages : told.pages ≡ ring_size f.log
   pub next : told.next ≡ next_lsn f.log 0x58

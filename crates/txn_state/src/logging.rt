@@ -1,8 +1,10 @@
 //! The log's steps.
-ghost use Rattle.std.specs.Prelude.{◌≡◌, ◌<◌, ◌≤◌, None, OnOk, OnErr, is_some, if◌then◌else◌};
+ghost use Rattle.std.specs.Prelude.{◌≡◌, ◌<◌, ◌≤◌, None, OnOk, OnErr, IfSome, ◌^◌, is_some, if◌then◌else◌};
 ghost use Rattle.fixup_record.specs.Protecting.{protected_bytes};
 ghost use Rattle.host_base.specs.Causes.{FailsByCause};
-ghost use Rattle.log_area.specs.Areas.{page_sector, held_page, made_page};
+ghost use Rattle.log_area.specs.Areas.{page_sector, held_page, made_page, IsOldest, lap_at, next_number, restart_sector, sent_word, page_to_send, named_area};
+ghost use Rattle.log_page.specs.Places.{sequence_bits};
+ghost use Rattle.log_page.specs.Restarts.{restart_spelling};
 ghost use Rattle.log_area.specs.Calls.{IsSentOrNot};
 ghost use Rattle.sector_device.specs.Moments.{moment_after, Syncs};
 ghost use Rattle.txn_model.specs.Calls.{sealed_facts, noted_facts, written_facts, durable_after, synced_facts};
@@ -49,6 +51,33 @@ impl StoreState {
         ensures cause { FailsByCause (D.fault_count device.old) (D.fault_count device.new) (D.moment_of device.new) result }
     {
         self.log.write_next(device)
+    }
+
+    /// Writes the restart page that names this place of the log as the oldest one; its flag says
+    /// whether the log is closed. A call after one that failed behind its read writes the same bytes,
+    /// and takes the same place and flag.
+    ///
+    /// The error is a failure of the device: then any sectors of the page may stand. At most two
+    /// calls of the device.
+    pub fn write_restart<D: Device>(
+        &mut self,
+        device: &mut D,
+        oldest: u64,
+        clean: bool,
+    ) -> Result<(), Failed>
+        requires synced { self.old.log.named ≡ None }
+        requires place { IsOldest self.old.log oldest }
+        requires lap { lap_at self.old.log (next_number self.old.log 0x58) < 2 ^ sequence_bits self.old.log.pages }
+        requires again { IfSome self.old.log.sent (λ s. (s.page.oldest ≡ oldest) × (s.page.clean ≡ clean)) }
+        requires within { self.old.place.device ≤ D.sector_count device.old }
+        ensures ok { OnOk result (self.new ≡ record self.old { log = named_area oldest self.old.log }) }
+        ensures err { OnErr result (self.new ≡ record self.old { log = record self.old.log { sent = self.new.log.sent } }) }
+        ensures page { OnErr result (IfSome self.new.log.sent (λ s. s.page ≡ page_to_send self.old.log oldest clean)) }
+        ensures sent { IsSentOrNot D.gives D.changes_of D.moment_of (sent_word self.old.log.sent) (sent_word self.new.log.sent) (restart_sector self.old.log) (protected_bytes (restart_spelling (page_to_send self.old.log oldest clean))) result device.old device.new }
+        ensures sectors { D.sector_count device.new ≡ D.sector_count device.old }
+        ensures cause { FailsByCause (D.fault_count device.old) (D.fault_count device.new) (D.moment_of device.new) result }
+    {
+        self.log.write_restart(device, oldest, clean)
     }
 
     // How many commits are known durable once what was written of the log is.

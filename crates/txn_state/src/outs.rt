@@ -1,9 +1,10 @@
 //! Blocks are written out.
 ghost use Rattle.std.specs.Prelude.{◌≡◌, Bool, true, false, ◌||◌, None, if◌then◌else◌};
+ghost use Rattle.std.specs.List.{list_any};
 ghost use Rattle.disk_model.specs.Sectors.{same_block};
 ghost use Rattle.log_model.specs.Logs.{is_in_grid};
 ghost use Rattle.store_pools.specs.Pools.{marks_of};
-ghost use Rattle.txn_model.specs.Calls.{is_noted, is_ready, written_out_facts, sent_out_facts, again_facts};
+ghost use Rattle.txn_model.specs.Calls.{is_noted, is_ready, rivals_of, written_out_facts, sent_out_facts, again_facts};
 ghost use Rattle.txn_state.specs.States.{facts_of};
 
 use crate::marks::{mark_of, set_mark};
@@ -59,6 +60,15 @@ fn written_mark(mark: Mark, is_noted: bool) -> Mark
 }
 
 impl StoreState {
+    /// Whether a checkpoint waits for a rival of a block to be written out, in time logarithmic in
+    /// the number of marks.
+    pub fn owes_rival(&self, block: Block) -> bool
+        requires { is_in_grid block ≡ true }
+        ensures { result ≡ list_any (λ c. ((facts_of self.now).mark c).owed) (rivals_of block) }
+    {
+        owes_rival(&self.marks, block)
+    }
+
     /// A block was written out that was ready: its body is the disk's, and so are those of its
     /// rivals. It takes no memory, and time logarithmic in the number of marks and bodies.
     pub fn written_out(&mut self, block: Block)

@@ -1,0 +1,56 @@
+-- What a store keeps beside its state, so that it can tell of itself without a walk.
+use Rattle.std.specs.Prelude.{◌≡◌, ℕ, ◌-◌, ◌^◌, ◌<◌, ◌≤◌, Bool, true, false, min, if◌then◌else◌, List, length, count_by, Option, Some, None, IfSome, is_some}
+use Rattle.disk_model.specs.declared.block.Block.{Block}
+use Rattle.disk_model.specs.Sectors.{same_block}
+use Rattle.log_page.specs.Places.{sequence_bits}
+use Rattle.log_area.specs.Areas.{LogAreaOf, lap_at, next_number}
+use Rattle.block_pool.specs.Numbers.{block_number}
+use Rattle.txn_model.specs.declared.mark.Mark.{Mark}
+use Rattle.txn_model.specs.Values.{StoreFacts}
+use Rattle.txn_model.specs.Calls.{front_lsn, is_ready}
+use Rattle.txn_model.specs.Told.{is_left}
+use Rattle.txn_core.specs.declared.telling.Telling.{Telling}
+
+-- some block was written since the last sync, or none
+pub record TellsWet (mark : Block → Mark) (wrote : Bool) : Type 0 where
+  pub dry : wrote ≡ false → (b : Block) → (mark b).wet ≡ false
+  pub some : wrote ≡ true → (b : Block) × ((mark b).wet ≡ true)
+
+-- so many blocks does a checkpoint wait for, by a count that stays at its type's end
+pub record TellsLeft (mark : Block → Mark) (count : ℕ) : Type 0 where
+  pub blocks : List Block
+  pub each : (b : Block) → count_by (same_block b) blocks ≡ (if is_left (mark b) then 1 else 0)
+  pub counted : count ≡ min (length blocks) (2 ^ 64 - 1)
+
+-- the lowest of the blocks that pass from this number on, if any
+abbrev pub IsLowestFrom : (Block → Bool) → ℕ → Option Block → Type 0
+IsLowestFrom ready n (Some b) = (n ≤ block_number b) × (ready b ≡ true) × ((c : Block) → n ≤ block_number c → ready c ≡ true → block_number b ≤ block_number c)
+IsLowestFrom ready n None = (c : Block) → n ≤ block_number c → ready c ≡ false
+
+abbrev pub IsLowest : (Block → Bool) → Option Block → Type 0
+IsLowest ready o = IsLowestFrom ready 0 o
+
+-- where this was the lowest of some blocks, and no more pass now, that one is the lowest now
+abbrev pub StaysLowest : (Block → Bool) → Option Block → Option Block → Type 0
+StaysLowest ready old new = (before : Block → Bool) → IsLowest before old → ((b : Block) → ready b ≡ true → before b ≡ true) → IsLowest ready new
+
+-- The place that a checkpoint noted has this LSN, and a restart page that was sent names it.
+pub record TellsFront (a : LogAreaOf) (noted : Option ℕ) (front : ℕ) : Type 0 where
+  pub page : IfSome noted (λ n. lap_at a n < 2 ^ sequence_bits a.pages → front ≡ front_lsn a n)
+  pub sent : IfSome a.sent (λ x. (is_some noted ≡ true) × (x.page.oldest ≡ front))
+  pub apart : is_some a.named ≡ true → a.sent ≡ None
+
+pub record IsTold (f : StoreFacts) (t : Telling) : Type 0 where
+  pub wet : TellsWet f.mark t.wrote
+  pub left : TellsLeft f.mark t.left
+  pub ready : IsLowest (is_ready f) t.ready
+  pub front : TellsFront f.log f.noted t.front
+
+-- what was written of the log is durable
+pub record IsAllDone (a : LogAreaOf) : Type 0 where
+  pub pages : a.done ≡ a.synced
+  pub unnamed : a.named ≡ None
+
+-- the least entry, a commit, has a lap
+abbrev pub HasLap : LogAreaOf → Type 0
+HasLap a = lap_at a (next_number a 0x58) < 2 ^ sequence_bits a.pages

@@ -1,0 +1,67 @@
+//! Checkpoints begin and end.
+ghost use Rattle.std.specs.Prelude.{◌≡◌, None, OnErr, IfSome, false};
+ghost use Rattle.host_base.specs.Causes.{FailsByCause};
+ghost use Rattle.txn_model.specs.Calls.{noted_facts};
+ghost use Rattle.txn_state.specs.States.{facts_of};
+ghost use Rattle.txn_laws.specs.Windows.{AfterWrite};
+ghost use Rattle.txn_core.specs.Seen.{TakesStep};
+ghost use Rattle.txn_core.specs.Turns.{MayRestart, restart_page, restart_facts, SendsRestartPage};
+
+use crate::store::Store;
+use host_base::Failed;
+use sector_device::Device;
+use txn_state::StoreState;
+
+// The flag of the restart page that goes out: that of the page that was sent already, or this one.
+fn flag_of(state: &StoreState, clean: bool) -> bool
+    ensures sent { IfSome state.now.log.sent (λ s. s.page.clean ≡ result) }
+    ensures none { state.now.log.sent ≡ None → result ≡ clean }
+{
+    match state.log().sent() {
+        Some(sent) => sent.page.clean,
+        None => clean,
+    }
+}
+
+impl<D: Device> Store<D> {
+    /// Begins a checkpoint, where none has begun: the page that is filled is sealed, the next place
+    /// of the log is noted, and with it the blocks that are dirty, dead, or written since the last
+    /// sync; each block's next change logs it whole. No transaction is open. It takes no memory and
+    /// makes no call of the device; near-linear in the blocks that have marks.
+    pub fn begin_checkpoint(&mut self)
+        requires closed { self.old.state.is_open ≡ false }
+        requires none { self.old.state.noted ≡ None }
+        ensures facts { facts_of self.new.state ≡ noted_facts (facts_of self.old.state) }
+        ensures device { self.new.device ≡ self.old.device }
+        ensures words { self.new.words ≡ self.old.words }
+        ensures step { TakesStep D.sector_count D.moment_of D.changes_of AfterWrite self.old self.new }
+    {
+        self.state.known();
+        self.state.begin_checkpoint();
+        self.told.after_begin(&self.state);
+    }
+
+    /// Writes the restart page that names the place which a checkpoint noted: nothing that it noted
+    /// is still to be written out or synced, the pages sealed before it are durable, and no restart
+    /// page was written since the last sync. The next sync that succeeds frees the ring up to there.
+    /// The page's flag says whether the log is closed. A call after one that failed behind its read
+    /// writes the same bytes, with the flag that they had.
+    ///
+    /// The error is a failure of the device: then any sectors of the page may stand, and the
+    /// checkpoint hasn't ended. At most two calls of the device.
+    pub fn write_restart(&mut self, clean: bool) -> Result<(), Failed>
+        requires may { MayRestart (facts_of self.old.state) }
+        ensures facts { facts_of self.new.state ≡ restart_facts result self.new.state.log.sent (facts_of self.old.state) }
+        ensures page { OnErr result (IfSome self.new.state.log.sent (λ s. s.page ≡ restart_page clean (facts_of self.old.state))) }
+        ensures sent { SendsRestartPage D.gives D.changes_of D.moment_of clean (facts_of self.old.state) (facts_of self.new.state) result self.old.device self.new.device }
+        ensures words { self.new.words ≡ self.old.words }
+        ensures sectors { D.sector_count self.new.device ≡ D.sector_count self.old.device }
+        ensures cause { FailsByCause (D.fault_count self.old.device) (D.fault_count self.new.device) (D.moment_of self.new.device) result }
+        ensures step { TakesStep D.sector_count D.moment_of D.changes_of AfterWrite self.old self.new }
+    {
+        self.state.known();
+        let flag = flag_of(&self.state, clean);
+        self.state
+            .write_restart(&mut self.device, self.told.front, flag)
+    }
+}
