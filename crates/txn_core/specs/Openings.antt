@@ -1,12 +1,20 @@
 -- How a store begins on a device.
-use Rattle.std.specs.Prelude.{◌≡◌, ℕ, false, List, [], Option, Some, Ok}
+use Rattle.std.specs.Prelude.{◌≡◌, ℕ, ◌-◌, ◌^◌, ◌<◌, ◌≤◌, true, false, List, [], Option, Some, None, Ok}
 use Rattle.disk_model.specs.declared.block.Block.{Block}
-use Rattle.sector_device.specs.Disks.{Disk}
+use Rattle.sector_device.specs.Disks.{Disk, IsSettled, IsSized, seen}
 use Rattle.sector_device.specs.Moments.{Changes}
 use Rattle.log_page.specs.declared.places.LogPlace.{LogPlace}
+use Rattle.log_page.specs.declared.restart.Restart.{Restart}
+use Rattle.log_page.specs.Places.{lap_of, sequence_bits}
+use Rattle.log_page.specs.LiveLogs.{said_lsn}
+use Rattle.log_page.specs.Restarts.{is_blank}
+use Rattle.log_reading.specs.Rings.{IsRingPlace}
 use Rattle.log_area.specs.Areas.{LogAreaOf, new_area}
 use Rattle.store_model.specs.Rings.{Ring, Restarts}
-use Rattle.ring_laws.specs.RestartPages.{RestartFields}
+use Rattle.store_model.specs.Geometry.{SectorBytes}
+use Rattle.ring_laws.specs.Numbers.{IsInRing}
+use Rattle.ring_laws.specs.PageBytes.{raw_page}
+use Rattle.ring_laws.specs.RestartPages.{RestartFields, IsBelow, said_restart}
 use Rattle.area_laws.specs.Standing.{Stands}
 use Rattle.area_laws.specs.Laws.{SendsRestart}
 use Rattle.txn_laws.specs.Laws.{SyncsNow, StartsOn}
@@ -17,6 +25,19 @@ pub record OpensOn (place : LogPlace) (lap restart opens : ℕ) (disk : Disk) : 
   pub restarts : Restarts
   pub fields : RestartFields
   pub stands : Stands (record { place = place; lap = lap }) (new_area place lap restart opens) ring restarts [] fields disk
+
+-- What is read of a log before a session of this lap, whose next restart page goes to this place, 0 or 1: no page of the ring says this lap or a later one; and of
+-- the restart pages the other one is the newer, and earlier than this lap, or it is all FF, as in a log that was emptied.
+pub record IsBefore (place : LogPlace) (lap restart : ℕ) (at : SectorBytes) : Type 0 where
+  pub laps : (k lsn : ℕ) → IsInRing place k → said_lsn (raw_page place at k) ≡ Some lsn → lap_of place.pages lsn < lap
+  pub newer : IsBelow (said_restart (raw_page place at restart)) (said_restart (raw_page place at (1 - restart)))
+  pub blank : said_restart (raw_page place at (1 - restart)) ≡ None → is_blank (raw_page place at (1 - restart)) ≡ true
+  pub early : (c : Restart) → said_restart (raw_page place at (1 - restart)) ≡ Some c → lap_of place.pages c.current < lap
+
+-- On a disk on which nothing is unsynced, and where this is read of the log, the session may be opened.
+abbrev pub LogsOpen : Type 0
+LogsOpen = (place : LogPlace) (lap restart opens : ℕ) (disk : Disk) → IsRingPlace place → 1 ≤ lap → lap < 2 ^ sequence_bits place.pages → restart ≤ 1 → IsSized disk → IsSettled disk → IsBefore place lap restart (seen disk)
+    → OpensOn place lap restart opens disk
 
 -- A restart page was sent that names this place, and then the device was synced.
 pub record NamesAndSyncs {D : Type 0} (gives : D → Option (List (List ℕ))) (changes : D → Changes) (moment : D → ℕ) (a : LogAreaOf) (oldest : ℕ) (old new : D) : Type 0 where

@@ -22,7 +22,7 @@ mod view;
 mod writing;
 
 pub use fault::ChangeFault;
-pub use laws::steps_lead_on;
+pub use laws::{logs_open, steps_lead_on};
 pub use opening::open_log;
 pub use store::Store;
 pub use view::StoreView;

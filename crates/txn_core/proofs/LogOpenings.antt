@@ -1,0 +1,23 @@
+-- A session is opened on a log of a disk on which nothing is unsynced.
+use Rattle.std.proofs.Common.{◌≡◌, ℕ, ◌+◌, ◌-◌, ◌^◌, ◌<◌, ◌≤◌, [], refl, arith}
+use Rattle.sector_device.specs.Disks.{Disk, IsSettled, IsSized, seen}
+use Rattle.log_page.specs.declared.places.LogPlace.{LogPlace}
+use Rattle.log_page.specs.Places.{sequence_bits}
+use Rattle.log_reading.specs.Rings.{IsRingPlace}
+use Rattle.log_area.specs.Areas.{new_area}
+use Rattle.ring_laws.specs.Numbers.{LogSession}
+use Rattle.ring_laws.specs.PageBytes.{page_sector, raw_page}
+use Rattle.ring_laws.specs.RestartPages.{RestartFields, said_restart}
+use Rattle.area_laws.proofs.Joined.{starts}
+use Rattle.txn_core.specs.Openings.{OpensOn, IsBefore, LogsOpen}
+
+pub logs_open : LogsOpen
+logs_open place lap restart opens disk lies begun small two sized still before = record {
+  ring = _;
+  restarts = _;
+  fields = fields;
+  stands = starts (record { place = place; lap = lap }) restart opens fields disk lies begun small (omega (arith, two)) sized (λ k inside i few. still (page_sector place k + i)) before.laps refl before.newer before.blank before.early;
+}
+  where
+    fields : RestartFields
+    fields n = said_restart (raw_page place (seen disk) n)
