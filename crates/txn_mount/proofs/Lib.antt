@@ -1,0 +1,4 @@
+pub mod Reading
+pub mod Frames
+pub mod Finding
+pub mod Starting
