@@ -2,3 +2,5 @@ pub mod Reading
 pub mod Frames
 pub mod Finding
 pub mod Starting
+pub mod Blocks
+pub mod Alike
