@@ -4,3 +4,5 @@ pub mod Finding
 pub mod Starting
 pub mod Blocks
 pub mod Alike
+pub mod Putting
+pub mod Naming
