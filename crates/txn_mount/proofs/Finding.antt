@@ -60,7 +60,7 @@ front_made first second readable =
 -- the next restart page goes to this place, and the chosen one stands at the other
 pub record Finds (raw : ℕ → List ℕ) (chosen : Option Restart) (next : ℕ) : Type 0 where
   pub said : said_restart (raw (1 - next)) ≡ chosen
-  pub below : IsBelow (said_restart (raw next)) chosen
+  pub below : OneIsNewer (said_restart (raw 0)) (said_restart (raw 1)) → IsBelow (said_restart (raw next)) chosen
   pub blank : chosen ≡ None → is_blank (raw (1 - next)) ≡ true
   pub small : next < 2
 
@@ -68,10 +68,10 @@ abbrev pick : (chosen : Option Restart) (second u v : Bool) → ℕ
 pick chosen second u v = if is_some chosen then (if second then 0 else 1) else (if u && not v then 1 else 0)
 
 module _ (raw : ℕ → List ℕ) where
-  first_one : (a : Restart) (b : Option Restart) → said_restart (raw 0) ≡ Some a → said_restart (raw 1) ≡ b → IsBelow b (Some a) → Finds raw (Some a) 1
+  first_one : (a : Restart) (b : Option Restart) → said_restart (raw 0) ≡ Some a → said_restart (raw 1) ≡ b → (OneIsNewer (said_restart (raw 0)) (said_restart (raw 1)) → IsBelow b (Some a)) → Finds raw (Some a) 1
   first_one a b is other below = record {
     said = is;
-    below = subst (λ (o : Option Restart). IsBelow o (Some a)) (sym other) below;
+    below = λ alone. subst (λ (o : Option Restart). IsBelow o (Some a)) (sym other) (below alone);
     blank = λ none. absurd cc;
     small = omega arith;
   }
@@ -79,37 +79,43 @@ module _ (raw : ℕ → List ℕ) where
   second_one : (a : Option Restart) (b : Restart) → said_restart (raw 0) ≡ a → said_restart (raw 1) ≡ Some b → IsBelow a (Some b) → Finds raw (Some b) 0
   second_one a b other is below = record {
     said = is;
-    below = subst (λ (o : Option Restart). IsBelow o (Some b)) (sym other) below;
+    below = λ alone. subst (λ (o : Option Restart). IsBelow o (Some b)) (sym other) below;
     blank = λ none. absurd cc;
     small = omega arith;
   }
 
   neither : said_restart (raw 0) ≡ None → said_restart (raw 1) ≡ None → (u v : Bool) → is_blank (raw 0) ≡ u → is_blank (raw 1) ≡ v → (u || v) ≡ true → Finds raw None (if u && not v then 1 else 0)
-  neither none none' true true is is' some = record { said = none'; below = subst (λ (o : Option Restart). IsBelow o None) (sym none) tt; blank = λ e. is'; small = omega arith }
-  neither none none' true false is is' some = record { said = none; below = subst (λ (o : Option Restart). IsBelow o None) (sym none') tt; blank = λ e. is; small = omega arith }
-  neither none none' false true is is' some = record { said = none'; below = subst (λ (o : Option Restart). IsBelow o None) (sym none) tt; blank = λ e. is'; small = omega arith }
+  neither none none' true true is is' some = record { said = none'; below = λ alone. subst (λ (o : Option Restart). IsBelow o None) (sym none) tt; blank = λ e. is'; small = omega arith }
+  neither none none' true false is is' some = record { said = none; below = λ alone. subst (λ (o : Option Restart). IsBelow o None) (sym none') tt; blank = λ e. is; small = omega arith }
+  neither none none' false true is is' some = record { said = none'; below = λ alone. subst (λ (o : Option Restart). IsBelow o None) (sym none) tt; blank = λ e. is'; small = omega arith }
   neither none none' false false is is' some = absurd cc
 
-  both : (a b : Restart) → said_restart (raw 0) ≡ Some a → said_restart (raw 1) ≡ Some b → (is_newer a b ≡ true) ⊎ (is_newer b a ≡ true) → (v : Bool) → is_newer a b ≡ v → (x y : Bool)
-      → Finds raw (if v then Some b else Some a) (pick (if v then Some b else Some a) v x y)
-  both a b is is' alone true newer x y = second_one (Some a) b is is' newer
-  both a b is is' (inl newer) false older x y = absurd cc
-  both a b is is' (inr newer) false older x y = first_one a (Some b) is is' newer
+  newer_one : (a b : Restart) → said_restart (raw 0) ≡ Some a → said_restart (raw 1) ≡ Some b → is_newer a b ≡ false → OneIsNewer (said_restart (raw 0)) (said_restart (raw 1)) → IsBelow (Some b) (Some a)
+  newer_one a b is is' older alone = go (subst (λ (o : Option Restart). OneIsNewer (Some a) o) is' (subst (λ (o : Option Restart). OneIsNewer o (said_restart (raw 1))) is alone))
+    where
+      go : (is_newer a b ≡ true) ⊎ (is_newer b a ≡ true) → is_newer b a ≡ true
+      go (inl newer) = absurd cc
+      go (inr newer) = newer
 
-  by_pages : (a b : Result Restart PageFault) → restart_of (raw 0) ≡ a → restart_of (raw 1) ≡ b → OneIsNewer (whole_one a) (whole_one b) → (is_none (chosen a b) ≡ true → (is_blank (raw 0) || is_blank (raw 1)) ≡ true)
+  both : (a b : Restart) → said_restart (raw 0) ≡ Some a → said_restart (raw 1) ≡ Some b → (v : Bool) → is_newer a b ≡ v → (x y : Bool)
+      → Finds raw (if v then Some b else Some a) (pick (if v then Some b else Some a) v x y)
+  both a b is is' true newer x y = second_one (Some a) b is is' newer
+  both a b is is' false older x y = first_one a (Some b) is is' (λ alone. newer_one a b is is' older alone)
+
+  by_pages : (a b : Result Restart PageFault) → restart_of (raw 0) ≡ a → restart_of (raw 1) ≡ b → (is_none (chosen a b) ≡ true → (is_blank (raw 0) || is_blank (raw 1)) ≡ true)
       → Finds raw (chosen a b) (pick (chosen a b) (is_second_chosen a b) (is_blank (raw 0)) (is_blank (raw 1)))
-  by_pages (Ok a) (Ok b) is is' alone blank = both a b (ap whole_one is) (ap whole_one is') alone (is_newer a b) refl (is_blank (raw 0)) (is_blank (raw 1))
-  by_pages (Ok a) (Err e) is is' alone blank = first_one a None (ap whole_one is) (ap whole_one is') tt
-  by_pages (Err e) (Ok b) is is' alone blank = second_one None b (ap whole_one is) (ap whole_one is') tt
-  by_pages (Err e) (Err f) is is' alone blank = neither (ap whole_one is) (ap whole_one is') (is_blank (raw 0)) (is_blank (raw 1)) refl refl (blank refl)
+  by_pages (Ok a) (Ok b) is is' blank = both a b (ap whole_one is) (ap whole_one is') (is_newer a b) refl (is_blank (raw 0)) (is_blank (raw 1))
+  by_pages (Ok a) (Err e) is is' blank = first_one a None (ap whole_one is) (ap whole_one is') (λ alone. tt)
+  by_pages (Err e) (Ok b) is is' blank = second_one None b (ap whole_one is) (ap whole_one is') tt
+  by_pages (Err e) (Err f) is is' blank = neither (ap whole_one is) (ap whole_one is') (is_blank (raw 0)) (is_blank (raw 1)) refl refl (blank refl)
 
   emptied_blank : (o : Option Restart) → chosen_in (raw 0) (raw 1) ≡ o → is_readable o (raw 0) (raw 1) ≡ Ok tt → is_none o ≡ true → (is_blank (raw 0) || is_blank (raw 1)) ≡ true
   emptied_blank (Some r) is readable none = absurd cc
   emptied_blank None is readable none = and_right (is_none (chosen_in (raw 0) (raw 1))) (is_blank (raw 0) || is_blank (raw 1)) (needs_true (is_emptied (raw 0) (raw 1)) NoRestart tt readable)
 
-  pub finds_pages : OneIsNewer (said_restart (raw 0)) (said_restart (raw 1)) → is_readable (chosen_in (raw 0) (raw 1)) (raw 0) (raw 1) ≡ Ok tt → Finds raw (chosen_in (raw 0) (raw 1)) (next_restart (raw 0) (raw 1))
+  pub finds_pages : is_readable (chosen_in (raw 0) (raw 1)) (raw 0) (raw 1) ≡ Ok tt → Finds raw (chosen_in (raw 0) (raw 1)) (next_restart (raw 0) (raw 1))
   unfolding next_restart
-  finds_pages alone readable = by_pages (restart_of (raw 0)) (restart_of (raw 1)) refl refl alone (emptied_blank (chosen_in (raw 0) (raw 1)) refl readable)
+  finds_pages readable = by_pages (restart_of (raw 0)) (restart_of (raw 1)) refl refl (emptied_blank (chosen_in (raw 0) (raw 1)) refl readable)
 
 -- ---- laps
 
@@ -172,11 +178,11 @@ module _ (place : LogPlace) (ring : IsRingPlace place) (kept : List Block) (firs
   pub opens_small : state.opens ≤ 2 ^ 31
   opens_small = subst (λ (n : ℕ). n ≤ 2 ^ 31) (sym (r.opens ∙ (front_parts (raw 0) (raw 1) r.front fronted_raw).2)) (opens_few (chosen_in (raw 0) (raw 1)))
 
-  module _ (alone : OneIsNewer (said_restart (raw 0)) (said_restart (raw 1))) where
-    pub found : Finds raw r.front.chosen state.restart
-    found = subst (λ (o : Option Restart). Finds raw o state.restart) (sym chosen_raw)
-        (subst (λ (n : ℕ). Finds raw (chosen_in (raw 0) (raw 1)) n) (sym (r.restart ∙ (front_parts (raw 0) (raw 1) r.front fronted_raw).1)) (finds_pages raw alone readable_raw))
+  pub found : Finds raw r.front.chosen state.restart
+  found = subst (λ (o : Option Restart). Finds raw o state.restart) (sym chosen_raw)
+      (subst (λ (n : ℕ). Finds raw (chosen_in (raw 0) (raw 1)) n) (sym (r.restart ∙ (front_parts (raw 0) (raw 1) r.front fronted_raw).1)) (finds_pages raw readable_raw))
 
+  module _ (alone : OneIsNewer (said_restart (raw 0)) (said_restart (raw 1))) where
     module _ (disk : Disk) (sized : IsSized disk) (still : (k : ℕ) → k < place.pages → IsStill place disk k) (alike : (k : ℕ) → k < place.pages → raw_page place (seen disk) k ≡ raw k) where
       small_page : (k : ℕ) → k < 2 → k < place.pages
       small_page k lt = let some = ring.ring in omega (arith, lt, some)
@@ -186,6 +192,6 @@ module _ (place : LogPlace) (ring : IsRingPlace place) (kept : List Block) (firs
           starts (record { place = place; lap = state.next_lap }) state.restart state.opens (λ n. r.front.chosen) disk ring lap_some lap_small found.small sized still
           (λ k lsn inside said. laps_below lsn (inr (record { page = k; begun = inside.begun; inside = inside.inside; says = ap said_lsn (read_is_raw place (seen first) k ring inside.inside ∙ sym (alike k inside.inside)) ∙ said })))
           (ap said_restart (alike (1 - state.restart) (small_page (1 - state.restart) (omega arith))) ∙ found.said)
-          (subst (λ (o : Option Restart). IsBelow o r.front.chosen) (sym (ap said_restart (alike state.restart (small_page state.restart found.small)))) found.below)
+          (subst (λ (o : Option Restart). IsBelow o r.front.chosen) (sym (ap said_restart (alike state.restart (small_page state.restart found.small)))) (found.below alone))
           (λ none. ap is_blank (alike (1 - state.restart) (small_page (1 - state.restart) (omega arith))) ∙ found.blank none)
           (λ x is. laps_below x.current (inl (record { restart = x; is = is; says = refl })))

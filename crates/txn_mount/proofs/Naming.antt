@@ -58,11 +58,11 @@ use Rattle.txn_laws.proofs.PageWrites.{page_is_own}
 use Rattle.txn_laws.proofs.Syncs.{and_left}
 use Rattle.txn_model.specs.Values.{is_own}
 use Rattle.txn_mount.specs.Contents.{mounted_content, UpdatesKnown, ReadsLog, ReadsWell}
-use Rattle.txn_mount.specs.Images.{RecoversAlike, Spares, MountsOn, OneIsNewer}
+use Rattle.txn_mount.specs.Images.{RecoversAlike, Spares, MountsOn, OneIsNewer, left_of}
 use Rattle.txn_mount.proofs.Frames.{entries_alike, live_alike}
 use Rattle.txn_mount.proofs.Finding.{front_made, fronted_raw, chosen_raw, readable_raw, found, ring_stands}
 use Rattle.txn_mount.proofs.Alike.{page_still, seen_alike, page_alike, raw_alike, laps_alike, recovers_now, whole_now, may_write_now}
-use Rattle.txn_mount.proofs.Putting.{alike_on, left_of, fewer_left}
+use Rattle.txn_mount.proofs.Putting.{alike_on}
 
 some_inj : (a b : Restart) → Some a ≡ Some b → a ≡ b
 some_inj a b e = cc
@@ -123,7 +123,7 @@ module _ (place : LogPlace) (ring : IsRingPlace place) (kept : List Block) (firs
   page = page_to_send a lsn false
 
   small : state.restart < 2
-  small = (found place ring kept first state r alone).small
+  small = (found place ring kept first state r).small
 
   inside : state.restart < place.pages
   inside = let some = ring.ring in let lt = small in omega (arith, some, lt)

@@ -44,7 +44,7 @@ use Rattle.device_blocks.specs.declared.word.CheckWord.TheVariants.{Unread, Miss
 use Rattle.device_blocks.specs.Words.{stood_check, next_word}
 use Rattle.device_blocks.specs.Calls.{IsNextOf, PutOrAsked}
 use Rattle.txn_mount.specs.Contents.{mounted_content, ReadsLog, ReadsWell}
-use Rattle.txn_mount.specs.Images.{RecoversAlike, Spares, MountsOn, LeavesAlike}
+use Rattle.txn_mount.specs.Images.{RecoversAlike, Spares, MountsOn, LeavesAlike, IsItem, AreItems, left_of}
 use Rattle.txn_mount.specs.Calls.{PutsBack, PutsAll}
 use Rattle.txn_mount.proofs.Blocks.{out_updated, out_claimed, out_covered, out_spelled, out_known}
 use Rattle.txn_mount.proofs.Alike.{alike_now, page_still}
@@ -87,10 +87,6 @@ some_sectors Plain = omega arith
 some_sectors FileRec = omega arith
 some_sectors Index = omega arith
 
--- the blocks of these items
-abbrev pub left_of : List RecoveredBlock → Block → Bool
-left_of rs b = list_any (λ (r : RecoveredBlock). same_block b r.block) rs
-
 module _ (place : LogPlace) (ring : IsRingPlace place) (kept : List Block) (first : Disk) (still : IsSettled first) (state : LogState) (r : ReadsLog (content_of (seen first)) place kept state) (well : ReadsWell state.log) where
   abbrev own : ℕ → Bool
   own = is_own place kept
@@ -103,15 +99,6 @@ module _ (place : LogPlace) (ring : IsRingPlace place) (kept : List Block) (firs
 
   abbrev t : Content
   t = mounted_content (content_of (seen first)) state.log
-
-  -- an item is a block that is put out, with its body
-  pub record IsItem (x : RecoveredBlock) : Type 0 where
-    pub out : is_put_out c list x.block ≡ true
-    pub bytes : x.body.bytes ≡ (t x.block).bytes
-
-  abbrev pub AreItems : List RecoveredBlock → Type 0
-  AreItems [] = Unit {0}
-  AreItems (x ∷ xs) = IsItem x × AreItems xs
 
   -- ---- one block
 
@@ -246,7 +233,7 @@ module _ (place : LogPlace) (ring : IsRingPlace place) (kept : List Block) (firs
     torn_disk : (begun : ℕ) (b : Block) (new : List (List ℕ)) (disk : Disk) (old now : Option Disk) → old ≡ Some disk → IsTornDisk b.first new old now → (e : Disk) × (now ≡ Some e) × IsBetween disk (put b.first new disk) e
     torn_disk begun b new disk old now is torn = torn_known b.first new disk now (subst (λ (o : Option Disk). IsTornDisk b.first new o now) is torn)
 
-    module _ (x : RecoveredBlock) (xs : List RecoveredBlock) (item : IsItem x) (old : D) (stage : Stage (left_of (x ∷ xs)) old) where
+    module _ (x : RecoveredBlock) (xs : List RecoveredBlock) (item : IsItem c list x) (old : D) (stage : Stage (left_of (x ∷ xs)) old) where
       waiting : left_of (x ∷ xs) x.block ≡ true
       waiting = ap (λ (v : Bool). v || left_of xs x.block) (same_self x.block)
 
@@ -298,7 +285,7 @@ module _ (place : LogPlace) (ring : IsRingPlace place) (kept : List Block) (firs
       pub one_fails : (fault : Failed) (new : D) → PutsBack gives changes moment x (Err fault) old new → Leaves (moment old) (changes old) (changes new)
       one_fails fault new puts = fails_by fault new puts.now puts.put.failed
 
-    pub all_put : (xs : List RecoveredBlock) → AreItems xs → (u : Unit {0}) (old new : D) → Stage (left_of xs) old → PutsAll gives changes moment xs (Ok u) old new → Stage (left_of []) new × Leaves (moment old) (changes old) (changes new) × (moment old ≤ moment new)
+    pub all_put : (xs : List RecoveredBlock) → AreItems c list xs → (u : Unit {0}) (old new : D) → Stage (left_of xs) old → PutsAll gives changes moment xs (Ok u) old new → Stage (left_of []) new × Leaves (moment old) (changes old) (changes new) × (moment old ≤ moment new)
     all_put [] items u old new stage same =
         (subst (λ (d : D). Stage (left_of []) d) (sym same) stage, leaves_same (moment old) (changes old) (changes new) (ap changes same), (let e : moment new ≡ moment old = ap moment same in omega (arith, e)))
     all_put (x ∷ xs) items u old new stage puts =
@@ -308,7 +295,7 @@ module _ (place : LogPlace) (ring : IsRingPlace place) (kept : List Block) (firs
         let later' = rest.2 in
         (rest.0, leaves_on (moment old) (moment puts.0) (changes old) (changes puts.0) (changes new) later one.1 rest.1, omega (arith, later, later'))
 
-    pub all_fail : (xs : List RecoveredBlock) → AreItems xs → (fault : Failed) (old new : D) → Stage (left_of xs) old → PutsAll gives changes moment xs (Err fault) old new → Leaves (moment old) (changes old) (changes new)
+    pub all_fail : (xs : List RecoveredBlock) → AreItems c list xs → (fault : Failed) (old new : D) → Stage (left_of xs) old → PutsAll gives changes moment xs (Err fault) old new → Leaves (moment old) (changes old) (changes new)
     all_fail [] items fault old new stage puts = absurd puts
     all_fail (x ∷ xs) items fault old new stage (inl here) = one_fails x xs items.0 old stage fault new here
     all_fail (x ∷ xs) items fault old new stage (inr puts) =

@@ -1,14 +1,16 @@
 -- What a crash leaves of a device that is being mounted.
-use Rattle.std.specs.Prelude.{◌≡◌, ◌⊎◌, ⊤, ℕ, ◌≤◌, Bool, true, false, List, [], Option, Some, None, Ok}
+use Rattle.std.specs.Prelude.{◌≡◌, ◌⊎◌, ⊤, ℕ, ◌≤◌, Bool, true, false, List, [], ◌∷◌, Option, Some, None, Ok}
 use Rattle.disk_model.specs.declared.block.Block.{Block}
 use Rattle.disk_model.specs.Content.{Content, content_of}
-use Rattle.disk_model.specs.Sectors.{sectors, sector_of}
+use Rattle.std.specs.List.{list_any}
+use Rattle.disk_model.specs.Sectors.{sectors, sector_of, same_block}
 use Rattle.fixup_record.specs.Spellings.{has_spelling}
 use Rattle.sector_device.specs.Disks.{Disk, seen, is_within}
 use Rattle.sector_device.specs.Moments.{Changes, LeftSince}
 use Rattle.log_laws.specs.NextLaps.{IsSaid}
 use Rattle.log_model.specs.declared.entry.Entry.{Entry}
-use Rattle.log_model.specs.Logs.{is_shadowed, first_partial}
+use Rattle.log_model.specs.Logs.{is_shadowed, first_partial, recovered}
+use Rattle.log_recovery.specs.declared.found.RecoveredBlock.{RecoveredBlock}
 use Rattle.log_page.specs.declared.places.LogPlace.{LogPlace}
 use Rattle.log_page.specs.declared.restart.Restart.{Restart}
 use Rattle.log_page.specs.Places.{lap_of}
@@ -61,3 +63,16 @@ abbrev pub OneIsNewer : Option Restart → Option Restart → Type 0
 OneIsNewer (Some a) (Some b) = (is_newer a b ≡ true) ⊎ (is_newer b a ≡ true)
 OneIsNewer (Some a) None = ⊤
 OneIsNewer None other = ⊤
+
+-- a block that is put out, with its body
+pub record IsItem (c : Content) (list : List Entry) (x : RecoveredBlock) : Type 0 where
+  pub out : is_put_out c list x.block ≡ true
+  pub bytes : x.body.bytes ≡ (recovered c list x.block).bytes
+
+abbrev pub AreItems : Content → List Entry → List RecoveredBlock → Type 0
+AreItems c list [] = ⊤
+AreItems c list (x ∷ xs) = IsItem c list x × AreItems c list xs
+
+-- these blocks
+abbrev pub left_of : List RecoveredBlock → Block → Bool
+left_of rs b = list_any (λ (r : RecoveredBlock). same_block b r.block) rs
