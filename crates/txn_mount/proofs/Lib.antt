@@ -6,3 +6,5 @@ pub mod Blocks
 pub mod Alike
 pub mod Putting
 pub mod Naming
+pub mod Beginning
+pub mod Ending

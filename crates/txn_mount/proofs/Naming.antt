@@ -1,6 +1,8 @@
 -- The new session's first restart page is written: whatever a crash leaves recovers alike.
 use Rattle.std.proofs.Common.{◌≡◌, ◌≢◌, ◌⊎◌, subst, ℕ, zero, suc, ◌+◌, ◌-◌, ◌*◌, ◌/◌, ◌%◌, ◌^◌, ◌<◌, ◌≤◌, Bool, true, false, cond, List, [], ◌∷◌, length, take, Option, Some, None, Result, Ok, Err, refl, sym, ap, ap₂, ◌∙◌, inl, inr, arith}
-use Rattle.std.specs.Prelude.{Contains, ◌&&◌, ◌||◌, not, nat_lt, ◌==◌, IfSome, if◌then◌else◌, slice_index}
+use Rattle.std.specs.Prelude.{Contains, ◌&&◌, ◌||◌, not, nat_lt, ◌==◌, IfSome, if◌then◌else◌, slice_index, map}
+use Rattle.std.specs.List.{range_with_len}
+use Rattle.std.proofs.lemmas.List.FromFn.{get_or-map-range_with_len}
 use Rattle.std.specs.Option.{option_map, option_or}
 use Rattle.std.proofs.lemmas.Bool.{cases_Bool}
 use native.Mathlib.Nat.{zero-div, zero-mod}
@@ -32,7 +34,7 @@ use Rattle.log_reading.specs.LogPages.{page_in}
 use Rattle.log_reading.specs.Rings.{IsRingPlace}
 use Rattle.log_recovery.specs.LogStates.{LogState, own_entries, entries_by, live_entries_in}
 use Rattle.log_recovery.specs.Writing.{is_put_out}
-use Rattle.log_area.specs.Areas.{LogAreaOf, new_area, next_lsn, number_lsn, restart_sector, page_to_send}
+use Rattle.log_area.specs.Areas.{LogAreaOf, page_first, new_area, next_lsn, number_lsn, restart_sector, page_to_send}
 use Rattle.store_model.specs.Logs.{has_update}
 use Rattle.store_model.specs.Geometry.{SectorBytes, CanLeave}
 use Rattle.store_model.specs.Rings.{Ring, Restarts, entries_on}
@@ -67,6 +69,10 @@ use Rattle.txn_mount.proofs.Putting.{alike_on}
 some_inj : (a b : Restart) → Some a ≡ Some b → a ≡ b
 some_inj a b e = cc
 
+pub first_placed : (place : LogPlace) (k : ℕ) → k < place.pages → slice_index (map (page_first place) (range_with_len 0 place.pages)) k ≡ page_sector place k
+unfolding page_sector
+first_placed place k lt = get_or-map-range_with_len (page_first place) 0 place.pages k k 0 lt (omega arith)
+
 -- ---- no entries
 
 none_shadowed : (b : Block) → is_shadowed [] b ≡ false
@@ -90,8 +96,10 @@ none_put c b out = absurd (true≢false (sym out))
 
 -- ---- the restart page that is sent
 
-module _ (place : LogPlace) (ring : IsRingPlace place) (kept : List Block) (first : Disk) (still : IsSettled first) (state : LogState) (r : ReadsLog (content_of (seen first)) place kept state) (well : ReadsWell state.log)
-    (alone : OneIsNewer (said_restart (raw_page place (seen first) 0)) (said_restart (raw_page place (seen first) 1))) where
+module _ (place : LogPlace) (ring : IsRingPlace place) (kept : List Block) (first : Disk) (still : IsSettled first) (state : LogState) (r : ReadsLog (content_of (seen first)) place kept state) (well : ReadsWell state.log) where
+  abbrev Alone : Type 0
+  Alone = OneIsNewer (said_restart (raw_page place (seen first) 0)) (said_restart (raw_page place (seen first) 1))
+
   abbrev own : ℕ → Bool
   own = is_own place kept
 
@@ -129,11 +137,11 @@ module _ (place : LogPlace) (ring : IsRingPlace place) (kept : List Block) (firs
   inside = let some = ring.ring in let lt = small in omega (arith, some, lt)
 
   module _ (disk : Disk) (on : MountsOn place kept list first 0 (left_of []) disk) (done : IsSettled disk) (sized : IsSized disk) where
-    pub stands : Stands s a (first_ring s) q [] fields disk
-    stands = ring_stands place ring kept first state r alone disk sized (λ k lt. page_still place ring kept first still state r well 0 disk on.pages k (omega arith) lt) (λ k lt. seen_alike place ring kept first still state r well 0 disk on.pages k (omega arith) lt)
+    pub stands : Alone → Stands s a (first_ring s) q [] fields disk
+    stands alone = ring_stands place ring kept first state r alone disk sized (λ k lt. page_still place ring kept first still state r well 0 disk on.pages k (omega arith) lt) (λ k lt. seen_alike place ring kept first still state r well 0 disk on.pages k (omega arith) lt)
 
     sector_is : restart_sector a ≡ page_sector place state.restart
-    sector_is = stands.ring.session.firsts state.restart inside
+    sector_is = first_placed place state.restart inside
 
     abbrev new : ℕ → List (List ℕ)
     new word = sectors_of (protected_bytes (restart_spelling page) word)
@@ -175,7 +183,7 @@ module _ (place : LogPlace) (ring : IsRingPlace place) (kept : List Block) (firs
 
       -- ---- what a crash leaves
 
-      module _ (later : LogAreaOf) (restarts : Restarts) (sure : restarts.sure ≡ q.sure) (told : RestartFields) (said : told (suc q.sure) ≡ Some page) (others : (m : ℕ) → m ≢ suc q.sure → told m ≡ fields m) (rings : Stands s later (first_ring s) restarts [] told now)
+      module _ (alone : Alone) (later : LogAreaOf) (restarts : Restarts) (sure : restarts.sure ≡ q.sure) (told : RestartFields) (said : told (suc q.sure) ≡ Some page) (others : (m : ℕ) → m ≢ suc q.sure → told m ≡ fields m) (rings : Stands s later (first_ring s) restarts [] told now)
           (at : SectorBytes) (can : CanLeave now at) (whole : AreWhole at) where
         choice : ChoosesRestart place restarts told at
         choice = chooses place restarts _ told now rings.restarts.restarts at can
@@ -211,7 +219,7 @@ module _ (place : LogPlace) (ring : IsRingPlace place) (kept : List Block) (firs
 
         -- the new one is
         first_is : lsn ≡ lsn_of_page s 0
-        first_is = is_first s a (first_ring s) q [] fields disk stands 0
+        first_is = is_first s a (first_ring s) q [] fields disk (stands alone) 0
 
         none_read : live_log place.pages (page_in (content_of at) place) lsn ≡ record { entries = []; foreign = None }
         none_read =

@@ -1,5 +1,5 @@
 -- What a crash leaves of a device that is being mounted.
-use Rattle.std.specs.Prelude.{◌≡◌, ◌⊎◌, ⊤, ℕ, ◌≤◌, Bool, true, false, List, [], ◌∷◌, Option, Some, None, Ok}
+use Rattle.std.specs.Prelude.{◌≡◌, ◌⊎◌, ⊤, ℕ, ◌*◌, ◌≤◌, length, Bool, true, false, List, [], ◌∷◌, Option, Some, None, Ok}
 use Rattle.disk_model.specs.declared.block.Block.{Block}
 use Rattle.disk_model.specs.Content.{Content, content_of}
 use Rattle.std.specs.List.{list_any}
@@ -68,6 +68,7 @@ OneIsNewer None other = ⊤
 pub record IsItem (c : Content) (list : List Entry) (x : RecoveredBlock) : Type 0 where
   pub out : is_put_out c list x.block ≡ true
   pub bytes : x.body.bytes ≡ (recovered c list x.block).bytes
+  pub sized : length x.body.bytes ≡ 512 * sectors x.block.kind
 
 abbrev pub AreItems : Content → List Entry → List RecoveredBlock → Type 0
 AreItems c list [] = ⊤

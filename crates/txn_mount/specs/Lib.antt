@@ -1,3 +1,4 @@
 pub mod Contents
 pub mod Images
 pub mod Calls
+pub mod Laws

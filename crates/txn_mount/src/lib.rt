@@ -3,4 +3,4 @@
 
 mod laws;
 
-pub use laws::reads_level;
+pub use laws::{mounts_recover, reads_level};
