@@ -8,3 +8,4 @@ pub mod Putting
 pub mod Naming
 pub mod Beginning
 pub mod Ending
+pub mod Items

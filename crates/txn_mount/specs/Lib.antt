@@ -2,3 +2,4 @@ pub mod Contents
 pub mod Images
 pub mod Calls
 pub mod Laws
+pub mod Puts
