@@ -31,8 +31,8 @@ use Rattle.txn_laws.specs.Mounting.{StandsAt, IsMounting}
 use Rattle.txn_laws.proofs.Mounting.{mounts_go_on_law}
 use Rattle.txn_laws.proofs.Syncs.{and_left, and_right}
 use Rattle.txn_model.specs.Values.{is_own}
-use Rattle.txn_mount.specs.Contents.{mounted_content, UpdatesKnown, ReadsLog, ReadsWell}
-use Rattle.txn_mount.specs.Images.{RecoversAlike, Spares, MountsOn}
+use Rattle.txn_mount.specs.Contents.{mounted_content, stays_torn, UpdatesKnown, ReadsLog, ReadsWell}
+use Rattle.txn_mount.specs.Images.{RecoversAlike, Spares, MountsOn, IsMountedAs}
 use Rattle.txn_mount.proofs.Frames.{entries_alike, none_partial, updated_whole}
 use Rattle.txn_mount.proofs.Blocks.{out_updated, out_claimed, out_covered, out_spelled, out_known}
 use Rattle.txn_mount.proofs.Starting.{out_written, out_parts, not_other}
@@ -120,6 +120,48 @@ module _ (place : LogPlace) (ring : IsRingPlace place) (kept : List Block) (firs
         go false claimed true out = part_covered b (out_covered place ring kept c state r well b out)
         go false claimed false none = partial_same list b (content_of at) c (spared_at b known has claimed none) ∙ updated_whole c list b r.whole has
 
+    -- a block that stays torn was torn at first, and stays so
+    torn_now : (b : Block) → is_known own b ≡ true → is_shadowed list b ≡ false → stays_torn (content_of at) list b ≡ true → (t b).torn ≡ true
+    torn_now b known claimed torn = go (is_put_out c list b) refl
+      where
+        written : is_written_out (content_of at) list b ≡ true
+        written = and_left (is_written_out (content_of at) list b) (not (is_put_out (content_of at) list b)) torn
+
+        not_true : (x : Bool) → not x ≡ true → x ≡ false
+        not_true true is = absurd cc
+        not_true false is = refl
+
+        none_at : is_put_out (content_of at) list b ≡ false
+        none_at = not_true (is_put_out (content_of at) list b) (and_right (is_written_out (content_of at) list b) (not (is_put_out (content_of at) list b)) torn)
+
+        has : has_update list b ≡ true
+        has = written_updated list b (content_of at) written
+
+        or_right : (x y : Bool) → y ≡ true → (x || y) ≡ true
+        or_right true y is = refl
+        or_right false y is = is
+
+        go : (v : Bool) → is_put_out c list b ≡ v → (t b).torn ≡ true
+        go true put =
+            let parts = out_parts (content_of at) list b none_at written in
+            absurd (true≢false (sym (ap (has_spelling b.kind) (recovers_now b known claimed).bytes ∙ out_spelled place ring kept c state r well b put) ∙ parts.0))
+        go false none =
+            let same = spared_at b known has claimed none in
+            or_right (recovered c list b).torn (stays_torn c list b) (ap₂ (λ (x : Bool) (y : Bool). x && not y) (sym (written_same list b (content_of at) c same) ∙ written) none)
+
+    or_cases : (x y : Bool) → (x || y) ≡ true → (x ≡ true) ⊎ (y ≡ true)
+    or_cases true y is = inl refl
+    or_cases false y is = inr is
+
+    pub mounts_now : (b : Block) → is_known own b ≡ true → is_shadowed list b ≡ false → IsMountedAs list at t b
+    mounts_now b known claimed = record {
+      bytes = (recovers_now b known claimed).bytes;
+      torn = λ torn. elim (or_cases (recovered (content_of at) list b).torn (stays_torn (content_of at) list b) torn) [
+        | inl is ↦ (recovers_now b known claimed).torn is
+        | inr is ↦ torn_now b known claimed is
+      ];
+    }
+
     pub whole_now : UpdatesKnown own list → first_partial (content_of at) list ≡ None
     whole_now known = none_partial (content_of at) list (λ b has. none_in_part b (known b has) has)
 
@@ -171,7 +213,7 @@ module _ (place : LogPlace) (ring : IsRingPlace place) (kept : List Block) (firs
         entries = list;
         reads = entries_alike place (content_of at) c r.front.chosen (λ k low lt. page_alike 0 now h.pages at can k (omega arith) lt) ∙ r.entries;
         same = inl refl;
-        recovers = recovers_now left now h.mounting h.spares at can whole;
+        recovers = mounts_now left now h.mounting h.spares at can whole;
         whole = whole_now left now h.mounting h.spares at can whole;
         may_write = may_write_now left now h.mounting h.spares at can whole;
         laps = λ lsn said. laps_alike 0 now h.pages at can lsn (omega arith) said;

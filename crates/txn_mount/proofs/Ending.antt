@@ -106,16 +106,16 @@ module _ {D : Type 0} (gives : D → Option (List (List ℕ))) (changes : D → 
 
     -- ---- a store begins
 
-    pub record Begins (new : D) : Type 0 where
+    pub record Begins (by : List Block) (new : D) : Type 0 where
       pub disk : Disk
       pub known : (changes new).disk ≡ Some disk
-      pub start : HasStart (changes new) (first_facts place (opened_area place state.next_lap state.restart state.opens) kept) (content_of (seen disk))
+      pub start : HasStart (changes new) (first_facts place (opened_area place state.next_lap state.restart state.opens) by) (content_of (seen disk))
 
     sector_is : restart_sector a ≡ page_sector place state.restart
     sector_is = first_placed place state.restart (restart_inside place may.ring kept first state r well)
 
-    begins_store : (old new : D) → (changes old).disk ≡ Some first → MountsAs gives changes moment place state items (Ok tt) old new → Begins new
-    begins_store old new known mounts =
+    begins_store : (by : List Block) (old new : D) → (changes old).disk ≡ Some first → MountsAs gives changes moment place state items (Ok tt) old new → Begins by new
+    begins_store by old new known mounts =
         let pages = pages_all items may.own tt old mounts.0 first known (record { durable = λ k i low lt few. refl; written = λ k i low lt few. refl }) mounts.1 in
         let synced = mounts.2.0 in
         let named = mounts.2.2 in
@@ -131,7 +131,7 @@ module _ {D : Type 0} (gives : D → Option (List (List ℕ))) (changes : D → 
         record {
           disk = settled (put (page_sector place state.restart) (sectors_of bytes) (settled pages.0));
           known = at_end;
-          start = begins_on place may.ring kept first state r well may.lsn word below pages.0 pages.2 sized (changes new) at_end;
+          start = begins_on place may.ring kept first state r well may.lsn word below pages.0 pages.2 sized by (changes new) at_end;
         }
 
     -- ---- what a crash leaves
@@ -326,7 +326,7 @@ module _ {D : Type 0} (gives : D → Option (List (List ℕ))) (changes : D → 
           let now = put (restart_sector a) page s.0.disk in
           let on = named_on place may.ring kept first still state r well s.0.disk s.0.on done small word now (record { durable = λ n. refl; written = λ n. inr refl }) in
           let last : (changes new).disk ≡ Some (settled now) = mounts.2.2.2.syncs.ok ∙ ap (option_map settled) (mounts.2.2.1.1.sends.writes.ok ∙ ap (option_map (put (restart_sector a) page)) s.0.known) in
-          let b = begins_store old new known mounts in
+          let b = begins_store kept old new known mounts in
           let there : b.disk ≡ settled now = some_disk b.disk (settled now) (sym b.known ∙ last) in
           mounts_go_on_law.mounted (changes new) (first_facts place (opened_area place state.next_lap state.restart state.opens) kept) state.log t' (left_of []) (settled now)
           (subst (λ (d : Disk). HasStart (changes new) (first_facts place (opened_area place state.next_lap state.restart state.opens) kept) (content_of (seen d))) there b.start)
@@ -334,7 +334,7 @@ module _ {D : Type 0} (gives : D → Option (List (List ℕ))) (changes : D → 
 
   pub mounts_recover_law : MountsRecover gives changes moment
   mounts_recover_law = record {
-    starts = λ place kept state items first old new known may mounts. (let b = begins_store place kept state items first may old new known mounts in record { disk = b.disk; known = b.known; start = b.start });
+    starts = λ place kept state items first by old new known may mounts. (let b = begins_store place kept state items first may by old new known mounts in record { disk = b.disk; known = b.known; start = b.start });
     images = λ count place kept state items first result old new known may still alone mounts. by_result count place kept state items first result old new known may still alone mounts;
     mounted = λ place kept state items first old new known may still mounts. mounted_well place kept state items first may still old new known mounts;
   }

@@ -9,3 +9,5 @@ pub mod Naming
 pub mod Beginning
 pub mod Ending
 pub mod Items
+pub mod Choosing
+pub mod Stopping

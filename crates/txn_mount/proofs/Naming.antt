@@ -63,7 +63,7 @@ use Rattle.txn_mount.specs.Contents.{mounted_content, UpdatesKnown, ReadsLog, Re
 use Rattle.txn_mount.specs.Images.{RecoversAlike, Spares, MountsOn, OneIsNewer, left_of}
 use Rattle.txn_mount.proofs.Frames.{entries_alike, live_alike}
 use Rattle.txn_mount.proofs.Finding.{front_made, fronted_raw, chosen_raw, readable_raw, found, ring_stands}
-use Rattle.txn_mount.proofs.Alike.{page_still, seen_alike, page_alike, raw_alike, laps_alike, recovers_now, whole_now, may_write_now}
+use Rattle.txn_mount.proofs.Alike.{page_still, seen_alike, page_alike, raw_alike, laps_alike, mounts_now, whole_now, may_write_now}
 use Rattle.txn_mount.proofs.Putting.{alike_on}
 
 some_inj : (a b : Restart) → Some a ≡ Some b → a ≡ b
@@ -89,6 +89,14 @@ none_torn c b torn = and_left (c b).torn _ torn
 
 none_in_part : (c : Content) → first_partial c [] ≡ None
 none_in_part c = refl
+
+none_stays : (c : Content) (b : Block) → (mounted_content c [] b).torn ≡ true → (c b).torn ≡ true
+unfolding recovered is_shadowed is_written_out
+none_stays c b torn = and_left (c b).torn _ (left_one _ torn)
+  where
+    left_one : (x : Bool) → (x || false) ≡ true → x ≡ true
+    left_one true is = refl
+    left_one false is = absurd cc
 
 none_put : (c : Content) (b : Block) → is_put_out c [] b ≡ true → ⊥
 unfolding is_put_out is_written_out
@@ -211,7 +219,7 @@ module _ (place : LogPlace) (ring : IsRingPlace place) (kept : List Block) (firs
               entries = list;
               reads = ap (live_entries_in (content_of at) place) front.2 ∙ entries_alike place (content_of at) c r.front.chosen (λ k low lt. page_alike place ring kept first still state r well first_page now ring_pages at can k low lt) ∙ r.entries;
               same = inl refl;
-              recovers = recovers_now place ring kept first still state r well (left_of []) now named_on.mounting spares at can whole;
+              recovers = mounts_now place ring kept first still state r well (left_of []) now named_on.mounting spares at can whole;
               whole = whole_now place ring kept first still state r well (left_of []) now named_on.mounting spares at can whole;
               may_write = may_write_now place ring kept first still state r well (left_of []) now named_on.mounting spares at can whole;
               laps = λ n said. laps_alike place ring kept first still state r well first_page now ring_pages at can n (omega arith) (subst (λ (o : Option Restart). IsSaid place.pages raw o n) front.2 said);
@@ -271,7 +279,7 @@ module _ (place : LogPlace) (ring : IsRingPlace place) (kept : List Block) (firs
               same = inr refl;
               recovers = λ b known claimed. (let x = stands_now b known claimed in record {
                 bytes = none_recovered (content_of at) b ∙ x.bytes;
-                torn = λ torn. x.torn (none_torn (content_of at) b torn);
+                torn = λ torn. x.torn (none_stays (content_of at) b torn);
               });
               whole = λ known. none_in_part (content_of at);
               may_write = λ known b out. absurd (none_put (content_of at) b out);

@@ -23,12 +23,17 @@ use Rattle.log_recovery.specs.Writing.{is_put_out}
 use Rattle.ring_laws.specs.PageBytes.{raw_page, AreAlike}
 use Rattle.store_model.specs.Logs.{has_update}
 use Rattle.store_model.specs.Geometry.{SectorBytes}
-use Rattle.store_model.specs.Volumes.{is_known, IsRecovered}
+use Rattle.store_model.specs.Volumes.{is_known}
 use Rattle.txn_laws.specs.Mounting.{IsMounting}
 use Rattle.txn_model.specs.Values.{is_own}
 use Rattle.txn_mount.specs.Contents.{mounted_content, UpdatesKnown}
 
--- Recovery of the image, by a list of entries that is this one or none, leaves the known blocks that this list doesn't shadow as they are in the content, torn
+-- a mount of these sectors by the list makes of the block what it is in this content: its bytes are equal, and it is torn at most where it is torn there
+pub record IsMountedAs (list : List Entry) (at : SectorBytes) (content : Content) (b : Block) : Type 0 where
+  pub bytes : (mounted_content (content_of at) list b).bytes ≡ (content b).bytes
+  pub torn : (mounted_content (content_of at) list b).torn ≡ true → (content b).torn ≡ true
+
+-- A mount of the image, by a list of entries that is this one or none, leaves the known blocks that this list doesn't shadow as they are in the content, torn
 -- at most where they are torn there. Its restart pages and entries aren't refused; and where the list updates known blocks alone, no block of it is
 -- recovered in part or may not be written out. No LSN that the log says is of a lap above this one.
 pub record RecoversAlike (place : LogPlace) (kept : List Block) (list : List Entry) (content : Content) (lap : ℕ) (at : SectorBytes) : Type 0 where
@@ -37,7 +42,7 @@ pub record RecoversAlike (place : LogPlace) (kept : List Block) (list : List Ent
   pub entries : List Entry
   pub reads : live_entries_in (content_of at) place front.chosen ≡ Ok entries
   pub same : (entries ≡ list) ⊎ (entries ≡ [])
-  pub recovers : (b : Block) → is_known (is_own place kept) b ≡ true → is_shadowed list b ≡ false → IsRecovered entries at content b
+  pub recovers : (b : Block) → is_known (is_own place kept) b ≡ true → is_shadowed list b ≡ false → IsMountedAs entries at content b
   pub whole : UpdatesKnown (is_own place kept) list → first_partial (content_of at) entries ≡ None
   pub may_write : UpdatesKnown (is_own place kept) list → (b : Block) → is_put_out (content_of at) entries b ≡ true → (is_known (is_own place kept) b ≡ true) × (has_spelling b.kind (content b).bytes ≡ true)
   pub laps : (lsn : ℕ) → IsSaid place.pages (raw_page place at) front.chosen lsn → lap_of place.pages lsn ≤ lap

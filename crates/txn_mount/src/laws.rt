@@ -1,5 +1,5 @@
 ghost use Rattle.txn_mount.specs.Contents.{ReadsAreLevel};
-ghost use Rattle.txn_mount.specs.Laws.{MountsRecover};
+ghost use Rattle.txn_mount.specs.Laws.{ChosenMayMount, MountsRecover, StoppedMounts};
 
 use sector_device::Device;
 
@@ -8,9 +8,20 @@ pub fn reads_level()
     ensures { ReadsAreLevel }
 {}
 
+/// Law: the blocks that are chosen of what recovery found are all that recovery writes out, and each
+/// of them may be.
+pub fn chosen_may_mount()
+    ensures { ChosenMayMount }
+{}
+
 /// Law: what a mount writes by the entries of a log leaves, wherever it is stopped, images that
 /// recover to the same content, with no LSN above the new session's lap; and once all is done, a
 /// store begins that shows this content.
 pub fn mounts_recover<D: Device>(_device: &D)
     ensures { MountsRecover D.gives D.changes_of D.moment_of }
+{}
+
+/// Law: so a mount of what a stopped one left, however often, recovers to the first content.
+pub fn stopped_mounts()
+    ensures { StoppedMounts }
 {}
