@@ -1,23 +1,22 @@
 -- Whatever a crash leaves while a mount goes on recovers alike.
-use Rattle.std.proofs.Common.{◌≡◌, ◌⊎◌, subst, ℕ, ◌+◌, ◌-◌, ◌*◌, ◌<◌, ◌≤◌, Bool, true, false, List, [], ◌∷◌, Option, Some, None, Result, Ok, Err, refl, sym, ap, ap₂, ◌∙◌, inl, inr, arith}
+use Rattle.std.proofs.Common.{◌≡◌, ◌⊎◌, subst, ℕ, ◌+◌, ◌<◌, ◌≤◌, Bool, true, false, List, [], None, refl, sym, ap, ap₂, ◌∙◌, inl, inr, arith}
 use Rattle.std.specs.Prelude.{Contains, ◌&&◌, ◌||◌, not}
 use Rattle.disk_model.specs.declared.block.Block.{Block}
 use Rattle.disk_model.specs.declared.block.BlockKind.TheVariants.{Plain}
-use Rattle.disk_model.specs.Sectors.{sectors, same_kind}
+use Rattle.disk_model.specs.Sectors.{same_kind}
 use Rattle.disk_model.specs.Content.{Content, content_of}
 use Rattle.fixup_record.specs.Spellings.{has_spelling}
-use Rattle.sector_device.specs.Disks.{Disk, IsSettled, IsSized, MayHold, is_within, newest, seen, settled}
+use Rattle.sector_device.specs.Disks.{Disk, IsSettled, MayHold, newest, seen}
 use Rattle.log_model.specs.declared.entry.Entry.{Entry}
 use Rattle.log_model.specs.Logs.{is_shadowed, is_covered_whole, is_other, is_written_out, is_partial, first_partial, recovered}
 use Rattle.log_page.specs.declared.places.LogPlace.{LogPlace}
-use Rattle.log_page.specs.declared.restart.Restart.{Restart}
 use Rattle.log_page.specs.Places.{first_page, lap_of}
 use Rattle.log_page.specs.LiveLogs.{said_lsn}
 use Rattle.log_laws.specs.NextLaps.{IsSaid}
-use Rattle.log_reading.specs.Fronts.{chosen_in, is_readable, front_in}
+use Rattle.log_reading.specs.Fronts.{front_in}
 use Rattle.log_reading.specs.LogPages.{page_in}
 use Rattle.log_reading.specs.Rings.{IsRingPlace}
-use Rattle.log_recovery.specs.LogStates.{LogState, live_entries_in}
+use Rattle.log_recovery.specs.LogStates.{LogState}
 use Rattle.log_recovery.specs.Writing.{is_spelled, is_put_out}
 use Rattle.store_model.specs.Logs.{has_update}
 use Rattle.store_model.specs.Geometry.{SectorBytes, CanLeave}
@@ -27,15 +26,15 @@ use Rattle.store_model.proofs.Told.{true≢false}
 use Rattle.ring_laws.specs.PageBytes.{page_sector, raw_page, IsStill, AreAlike}
 use Rattle.ring_laws.proofs.LogSectors.{read_is_raw, raw_same}
 use Rattle.ring_laws.proofs.SeenDisks.{other_same, partial_same, written_same, written_updated}
-use Rattle.txn_laws.specs.Mounting.{StandsAt, IsMounting}
+use Rattle.txn_laws.specs.Mounting.{IsMounting}
 use Rattle.txn_laws.proofs.Mounting.{mounts_go_on_law}
 use Rattle.txn_laws.proofs.Syncs.{and_left, and_right}
 use Rattle.txn_model.specs.Values.{is_own}
 use Rattle.txn_mount.specs.Contents.{mounted_content, stays_torn, UpdatesKnown, ReadsLog, ReadsWell}
 use Rattle.txn_mount.specs.Images.{RecoversAlike, Spares, MountsOn, IsMountedAs}
 use Rattle.txn_mount.proofs.Frames.{entries_alike, none_partial, updated_whole}
-use Rattle.txn_mount.proofs.Blocks.{out_updated, out_claimed, out_covered, out_spelled, out_known}
-use Rattle.txn_mount.proofs.Starting.{out_written, out_parts, not_other}
+use Rattle.txn_mount.proofs.Blocks.{out_covered, out_spelled}
+use Rattle.txn_mount.proofs.Starting.{out_written, out_parts}
 use Rattle.txn_mount.proofs.Finding.{laps_below}
 
 held_is : (disk : Disk) (s : ℕ) (value : List ℕ) → disk.written s ≡ [] → MayHold disk s value → value ≡ disk.durable s

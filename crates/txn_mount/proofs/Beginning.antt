@@ -1,39 +1,30 @@
 -- A store begins behind a mount's calls, whatever of the disk is unsynced at first.
-use Rattle.std.proofs.Common.{◌≡◌, ◌≢◌, ◌⊎◌, subst, ℕ, zero, suc, ◌+◌, ◌-◌, ◌*◌, ◌/◌, ◌%◌, ◌^◌, ◌<◌, ◌≤◌, Bool, true, false, cond, List, [], ◌∷◌, length, Option, Some, None, Result, Ok, Err, refl, sym, ap, ap₂, ◌∙◌, inl, inr, arith}
-use Rattle.std.specs.Prelude.{◌&&◌, ◌||◌, not, nat_lt, ◌==◌, IfSome, if◌then◌else◌, unwrap_or, min}
-use Rattle.std.specs.Option.{option_map}
+use Rattle.std.proofs.Common.{◌≡◌, ◌≢◌, ◌⊎◌, subst, ℕ, suc, ◌+◌, ◌-◌, ◌*◌, ◌/◌, ◌%◌, ◌^◌, ◌<◌, ◌≤◌, Bool, true, false, List, [], ◌∷◌, length, Option, Some, None, refl, sym, ap, ap₂, ◌∙◌, inl, inr, arith}
+use Rattle.std.specs.Prelude.{◌&&◌, ◌||◌, nat_lt, ◌==◌, if◌then◌else◌, min}
 use native.Mathlib.Nat.{zero-div, zero-mod}
 use Rattle.std.proofs.Common.{lt-ltb}
-use Rattle.host_base.specs.declared.outside.Failed.{Failed}
 use Rattle.disk_model.specs.declared.block.Block.{Block}
-use Rattle.disk_model.specs.Sectors.{sectors, sector_of}
+use Rattle.disk_model.specs.Sectors.{sector_of}
 use Rattle.disk_model.specs.Content.{Content, content_of}
 use Rattle.fixup_record.specs.Protecting.{protected_bytes}
-use Rattle.fixup_record.specs.Spellings.{spelled}
 use Rattle.fixup_record.proofs.Protected.{length-protected}
-use Rattle.sector_device.specs.Disks.{Disk, IsBetween, IsSettled, IsSized, is_within, newest, put, seen, settled}
+use Rattle.sector_device.specs.Disks.{Disk, IsBetween, IsSized, is_within, newest, put, seen, settled}
 use Rattle.sector_device.specs.Sectors.{sectors_of, sector_in}
 use Rattle.sector_device.specs.WholeSectors.{length-sectors_of}
 use Rattle.sector_device.specs.Moments.{Changes}
-use Rattle.log_model.specs.declared.entry.Entry.{Entry}
 use Rattle.log_page.specs.declared.places.LogPlace.{LogPlace}
 use Rattle.log_page.specs.declared.restart.Restart.{Restart}
-use Rattle.log_page.specs.Places.{first_page, lap_of, page_of}
+use Rattle.log_page.specs.Places.{lap_of, page_of}
 use Rattle.log_page.specs.LiveLogs.{said_lsn}
-use Rattle.log_page.specs.Restarts.{restart_spelling, is_newer, whole_one}
+use Rattle.log_page.specs.Restarts.{restart_spelling, whole_one}
 use Rattle.log_page.proofs.Spelled.{length-restart_spelling}
 use Rattle.log_page.proofs.ReadAgain.{read_again}
-use Rattle.log_reading.specs.LogPages.{page_in}
 use Rattle.log_reading.specs.Rings.{IsRingPlace}
 use Rattle.log_recovery.specs.LogStates.{LogState}
-use Rattle.log_recovery.specs.Writing.{is_put_out}
-use Rattle.log_recovery.specs.declared.found.RecoveredBlock.{RecoveredBlock}
-use Rattle.log_area.specs.Areas.{LogAreaOf, new_area, next_lsn, number_lsn, number_of, restart_sector, page_to_send}
-use Rattle.store_model.specs.Geometry.{SectorBytes}
-use Rattle.store_model.specs.Volumes.{is_known}
+use Rattle.log_area.specs.Areas.{LogAreaOf, new_area, number_of, page_to_send}
 use Rattle.store_model.proofs.Known.{is_in}
-use Rattle.ring_laws.specs.Numbers.{LogSession, lsn_of_page, IsInRing}
-use Rattle.ring_laws.specs.PageBytes.{page_sector, raw_page, IsStill, AreAlike}
+use Rattle.ring_laws.specs.Numbers.{LogSession}
+use Rattle.ring_laws.specs.PageBytes.{page_sector, raw_page, AreAlike}
 use Rattle.ring_laws.specs.RestartPages.{IsBelow, said_restart, found_restarts}
 use Rattle.ring_laws.specs.RingPages.{first_ring}
 use Rattle.ring_laws.proofs.Numbering.{says_lap, says_page}
@@ -41,25 +32,16 @@ use Rattle.ring_laws.proofs.RingFacts.{has_ring, log_small}
 use Rattle.ring_laws.proofs.LogSectors.{read_is_raw, raw_same, kept_by_page}
 use Rattle.ring_laws.proofs.Mixing.{sector_of_bytes, page_is}
 use Rattle.ring_laws.proofs.RestartCalls.{finds}
-use Rattle.area_laws.specs.Laws.{SendsRestart}
 use Rattle.area_laws.specs.Standing.{Stands}
 use Rattle.area_laws.proofs.Calling.{ring_starts}
 use Rattle.area_laws.proofs.Reading.{is_first}
 use Rattle.area_laws.proofs.Rising.{lap_below}
-use Rattle.txn_laws.specs.Laws.{first_lsn, opened_area, StartsOn, SyncsNow}
+use Rattle.txn_laws.specs.Laws.{first_lsn, opened_area}
 use Rattle.txn_laws.specs.Windows.{HasStart}
-use Rattle.txn_laws.proofs.Mounting.{mounts_go_on_law}
 use Rattle.txn_laws.proofs.Starts.{starts_window}
-use Rattle.txn_laws.proofs.Telling.{known_before_write, known_before_sync}
-use Rattle.txn_laws.proofs.WriteOuts.{spelled_length}
-use Rattle.txn_model.specs.Values.{is_own}
 use Rattle.txn_model.specs.Calls.{first_facts}
 use Rattle.txn_mount.specs.Contents.{ReadsLog, ReadsWell}
-use Rattle.txn_mount.specs.Images.{IsItem, AreItems}
-use Rattle.txn_mount.specs.Calls.{PutsBack, PutsAll, NamesNow, MountsBy}
 use Rattle.txn_mount.proofs.Finding.{found, laps_below, lap_some, lap_small, opens_small}
-use Rattle.txn_mount.proofs.Blocks.{out_known}
-use Rattle.txn_mount.proofs.Putting.{alike_on}
 
 module _ (place : LogPlace) (ring : IsRingPlace place) (kept : List Block) (first : Disk) (state : LogState) (r : ReadsLog (content_of (seen first)) place kept state) (well : ReadsWell state.log) where
   abbrev c : Content
@@ -160,8 +142,12 @@ module _ (place : LogPlace) (ring : IsRingPlace place) (kept : List Block) (firs
       stands_b : Stands s b (first_ring s) (found_restarts (1 - state.restart)) [] (λ n. Some page) disk
       stands_b = record {
         ring = ring_starts s (1 - state.restart) (min (state.opens + 1) (2 ^ 32 - 1)) disk ring (lap_some place ring kept first state r) (lap_small place ring kept first state r) (omega arith) sized (λ k within i lt. refl)
-            (λ k n within said. laps_below place ring kept first state r n (inr (record { page = k; begun = within.begun; inside = within.inside;
-              says = ap said_lsn (read_is_raw place (seen first) k ring within.inside ∙ sym (other_page k within.inside (λ e. let lt = two in let up = within.begun in omega (arith, e, lt, up)))) ∙ said })));
+            (λ k n within said. laps_below place ring kept first state r n (inr (record {
+              page = k;
+              begun = within.begun;
+              inside = within.inside;
+              says = ap said_lsn (read_is_raw place (seen first) k ring within.inside ∙ sym (other_page k within.inside (λ e. let lt = two in let up = within.begun in omega (arith, e, lt, up)))) ∙ said;
+            })));
         restarts = record {
           restarts = finds place disk (1 - state.restart) (λ n. Some page) ring sized (omega arith) (λ k lt i less. refl)
               (ap (λ (k : ℕ). said_restart (raw_page place (seen disk) k)) (let lt = two in let e : 1 - (1 - state.restart) ≡ state.restart = omega (arith, lt) in e) ∙ told)

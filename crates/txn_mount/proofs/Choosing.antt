@@ -1,9 +1,8 @@
 -- What recovery found for a mount that writes is what the mount may put out.
-use Rattle.std.proofs.Common.{◌≡◌, ◌⊎◌, subst, ℕ, zero, suc, ◌+◌, ◌-◌, ◌*◌, ◌/◌, ◌%◌, ◌^◌, ◌<◌, ◌≤◌, Bool, true, false, cond, List, [], ◌∷◌, length, map, drop, get_or, Option, Some, None, Result, Ok, Err, refl, sym, ap, ap₂, ◌∙◌, inl, inr, arith, add-one, drop-cons, length-drop}
-use Rattle.std.specs.Prelude.{◌&&◌, ◌||◌, not, nat_le, nat_lt, ◌==◌, if◌then◌else◌, All, Contains, find}
+use Rattle.std.proofs.Common.{◌≡◌, subst, ℕ, zero, suc, ◌+◌, ◌*◌, ◌/◌, ◌%◌, ◌^◌, ◌<◌, ◌≤◌, Bool, true, false, List, [], ◌∷◌, length, map, drop, get_or, Option, Some, None, Result, Ok, refl, sym, ap, ap₂, ◌∙◌, inl, inr, arith, add-one, drop-cons, length-drop}
+use Rattle.std.specs.Prelude.{◌&&◌, ◌||◌, nat_le, nat_lt, ◌==◌, if◌then◌else◌, All, Contains, find}
 use Rattle.std.specs.Option.{option_map, option_or}
 use Rattle.std.specs.List.{list_any, IsDistinct, AllByRecursion}
-use Rattle.std.specs.List.Sorted.{IsPermutation}
 use Rattle.std.proofs.lemmas.Bool.{cases_Bool, leb-true, eqb-true, le-leb, eq-eqb}
 use Rattle.std.proofs.lemmas.List.Elements.{All-from_recursion, recursion_from_All, All-get_or}
 use Rattle.std.proofs.lemmas.List.Sorted.{All-permutation, Contains-permutation}
@@ -20,7 +19,7 @@ use Rattle.sector_device.specs.Disks.{Disk, seen}
 use Rattle.log_model.specs.declared.entry.Entry.{Entry}
 use Rattle.log_model.specs.declared.entry.Act.{Act}
 use Rattle.log_model.specs.declared.entry.Act.TheVariants.{Update, Commit}
-use Rattle.log_model.specs.Logs.{updates, block_of_kind, kind_of, may_begin, is_in_grid, is_misplaced, first_misplaced, is_written_out, is_other, recovered}
+use Rattle.log_model.specs.Logs.{updates, block_of_kind, kind_of, may_begin, is_misplaced, first_misplaced, is_written_out, is_other, recovered}
 use Rattle.log_page.specs.declared.places.LogPlace.{LogPlace}
 use Rattle.log_page.specs.declared.restart.Restart.{Restart}
 use Rattle.log_page.specs.RecordPages.{Reading}
@@ -43,7 +42,7 @@ use Rattle.txn_mount.specs.declared.puts.PutOut.{PutOut}
 use Rattle.txn_mount.specs.Contents.{ReadsLog, ReadsWell}
 use Rattle.txn_mount.specs.Images.{IsItem, AreItems, left_of}
 use Rattle.txn_mount.specs.Laws.{MayMount, ChosenMayMount}
-use Rattle.txn_mount.specs.Puts.{no_block, item_of, items_of, may_put, keys_where, AreKeys, MayPut, MayPutAt}
+use Rattle.txn_mount.specs.Puts.{no_block, item_of, items_of, may_put, keys_where, AreKeys, MayPutAt}
 use Rattle.txn_mount.proofs.Reading.{ok_then, all_ok, read_log, reads_well}
 use Rattle.txn_mount.proofs.Blocks.{out_updated, out_spelled}
 use Rattle.txn_mount.proofs.Starting.{out_written}

@@ -1,54 +1,47 @@
 -- A mount's calls, one behind the other.
-use Rattle.std.proofs.Common.{◌≡◌, ◌≢◌, ◌⊎◌, subst, ℕ, zero, suc, ◌+◌, ◌-◌, ◌*◌, ◌/◌, ◌^◌, ◌<◌, ◌≤◌, Bool, true, false, cond, List, [], ◌∷◌, length, Option, Some, None, Result, Ok, Err, refl, sym, ap, ap₂, ◌∙◌, inl, inr, arith}
-use Rattle.std.specs.Prelude.{◌&&◌, ◌||◌, not, nat_lt, ◌==◌, IfSome, if◌then◌else◌, Contains}
+use Rattle.std.proofs.Common.{◌≡◌, ◌≢◌, subst, ℕ, suc, ◌^◌, ◌<◌, ◌≤◌, Bool, true, false, List, [], ◌∷◌, length, Option, Some, None, Result, Ok, Err, refl, sym, ap, ◌∙◌, inl, inr, arith}
+use Rattle.std.specs.Prelude.{IfSome}
 use Rattle.std.specs.Option.{option_map}
 use Rattle.std.proofs.lemmas.Bool.{cases_Bool}
-use native.Mathlib.Nat.{zero-div}
 use Rattle.host_base.specs.declared.outside.Failed.{Failed}
 use Rattle.disk_model.specs.declared.block.Block.{Block}
 use Rattle.disk_model.specs.Sectors.{sectors, sector_of}
 use Rattle.disk_model.specs.Content.{Content, content_of}
 use Rattle.fixup_record.specs.Protecting.{protected_bytes}
 use Rattle.fixup_record.specs.Spellings.{spelled}
-use Rattle.sector_device.specs.Disks.{Disk, IsBetween, IsSettled, IsSized, IsTornDisk, MayHold, MayLeave, SeesDisk, is_within, newest, put, seen, settled}
+use Rattle.sector_device.specs.Disks.{Disk, IsBetween, IsSettled, IsSized, IsTornDisk, MayHold, MayLeave, SeesDisk, put, seen, settled}
 use Rattle.sector_device.specs.Sectors.{sectors_of}
 use Rattle.sector_device.specs.WholeSectors.{length-sectors_of}
 use Rattle.sector_device.specs.Moments.{Changes, MayLeaveNow, Remembers, moment_after}
 use Rattle.sector_device.proofs.Images.{holds_seen}
-use Rattle.log_model.specs.declared.entry.Entry.{Entry}
 use Rattle.log_page.specs.declared.places.LogPlace.{LogPlace}
-use Rattle.log_page.specs.declared.restart.Restart.{Restart}
 use Rattle.log_page.specs.Restarts.{restart_spelling}
-use Rattle.log_reading.specs.Rings.{IsRingPlace}
 use Rattle.log_recovery.specs.LogStates.{LogState}
-use Rattle.log_recovery.specs.Writing.{is_put_out, to_write_in}
+use Rattle.log_recovery.specs.Writing.{is_put_out}
 use Rattle.log_recovery.specs.declared.found.RecoveredBlock.{RecoveredBlock}
 use Rattle.log_area.specs.Areas.{LogAreaOf, new_area, restart_sector, page_to_send, named_area}
-use Rattle.log_area.specs.Calls.{IsSent, SentOrAsked}
+use Rattle.log_area.specs.Calls.{SentOrAsked}
 use Rattle.store_model.specs.Geometry.{SectorBytes, CanLeave}
 use Rattle.store_model.specs.Rings.{Restarts}
-use Rattle.store_model.specs.Volumes.{is_known, AreWhole}
+use Rattle.store_model.specs.Volumes.{AreWhole}
 use Rattle.ring_laws.specs.Numbers.{LogSession}
 use Rattle.ring_laws.specs.PageBytes.{page_sector, raw_page, AreAlike}
 use Rattle.ring_laws.specs.RestartPages.{RestartFields, said_restart, found_restarts, restart_written, restart_sent}
 use Rattle.ring_laws.specs.RingPages.{first_ring}
 use Rattle.area_laws.specs.Standing.{Stands}
 use Rattle.area_laws.specs.Laws.{IsKnown, SendsRestart, MayName, RestartsStandAfter}
-use Rattle.log_area.specs.Areas.{sent_word}
-use Rattle.log_area.specs.declared.restart.SentRestart.{SentRestart}
-use Rattle.log_area.specs.Calls.{sending_moment}
 use Rattle.area_laws.proofs.Naming.{restart_names, restart_fails}
 use Rattle.area_laws.proofs.Calling.{torn_known}
-use Rattle.txn_laws.specs.Laws.{first_lsn, opened_area, StartsOn, SyncsNow}
-use Rattle.txn_laws.specs.Mounting.{HasMounted, IsMounting}
+use Rattle.txn_laws.specs.Laws.{first_lsn, opened_area, SyncsNow}
+use Rattle.txn_laws.specs.Mounting.{HasMounted}
 use Rattle.txn_laws.proofs.Mounting.{mounts_go_on_law}
 use Rattle.txn_laws.proofs.WriteOuts.{spelled_length}
 use Rattle.txn_model.specs.Values.{is_own}
 use Rattle.txn_model.specs.Calls.{first_facts}
 use Rattle.txn_core.proofs.FirstPages.{first_oldest, first_lap}
 use Rattle.txn_mount.specs.Contents.{mounted_content, ReadsLog, ReadsWell}
-use Rattle.txn_mount.specs.Images.{RecoversAlike, MountsOn, LeavesAlike, OneIsNewer, IsItem, AreItems, left_of}
-use Rattle.txn_mount.specs.Calls.{PutsBack, PutsAll, SyncsDevice, NamesNow, MountsBy}
+use Rattle.txn_mount.specs.Images.{RecoversAlike, LeavesAlike, OneIsNewer, IsItem, AreItems, left_of}
+use Rattle.txn_mount.specs.Calls.{PutsBack, PutsAll, SyncsDevice, NamesNow}
 use Rattle.txn_mount.specs.Laws.{MayMount, MountsAs, MountsRecover}
 use Rattle.txn_mount.proofs.Reading.{read_log, reads_well}
 use Rattle.txn_mount.proofs.Finding.{lap_small, opens_small}
@@ -94,9 +87,11 @@ module _ {D : Type 0} (gives : D → Option (List (List ℕ))) (changes : D → 
         let check = puts.put.ok.0 in
         let sent = sectors_of (spelled x.block.kind check x.body.bytes) in
         let size : length sent ≡ sectors x.block.kind = length-sectors_of (spelled x.block.kind check x.body.bytes) ∙ (let long = spelled_length x.block.kind check x.body.bytes in let own = item.sized in omega (arith, long, own)) in
-        let between : IsBetween disk (put x.block.first sent disk) (put x.block.first sent disk) = record { durable = λ n. refl; written = λ n. inr refl } in
-        (put x.block.first sent disk, puts.put.ok.1.put.sends.writes.ok ∙ ap (option_map (put x.block.first sent)) known,
-        alike_on place 0 first disk (put x.block.first sent disk) alike (mounts_go_on_law.log_stays place kept x.block sent disk (put x.block.first sent disk) (out_known place may.ring kept c state r well x.block item.out) size between))
+        let between : IsBetween disk (put x.block.first sent disk) (put x.block.first sent disk) = record { durable = λ n. refl; written = λ n. inr refl } in (
+          put x.block.first sent disk,
+          puts.put.ok.1.put.sends.writes.ok ∙ ap (option_map (put x.block.first sent)) known,
+          alike_on place 0 first disk (put x.block.first sent disk) alike (mounts_go_on_law.log_stays place kept x.block sent disk (put x.block.first sent disk) (out_known place may.ring kept c state r well x.block item.out) size between),
+        )
 
     pages_all : (xs : List RecoveredBlock) → AreItems c state.log xs → (u : Unit {0}) (old new : D) (disk : Disk) → (changes old).disk ≡ Some disk → AreAlike place 0 place.pages first disk → PutsAll gives changes moment xs (Ok u) old new → (e : Disk) × ((changes new).disk ≡ Some e) × AreAlike place 0 place.pages first e
     pages_all [] all u old new disk known alike same = (disk, ap (λ (d : D). (changes d).disk) same ∙ known, alike)

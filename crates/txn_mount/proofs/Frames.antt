@@ -1,6 +1,6 @@
 -- What is read of a log hangs on the pages of its ring alone.
-use Rattle.std.proofs.Common.{◌≡◌, ◌⊎◌, subst, ℕ, zero, suc, ◌+◌, ◌-◌, ◌*◌, ◌<◌, ◌≤◌, Bool, true, false, cond, List, [], ◌∷◌, Option, Some, None, Result, Ok, Err, refl, sym, ap, ap₂, ◌∙◌, inl, inr, arith}
-use Rattle.std.specs.Prelude.{if◌then◌else◌, ◌&&◌, ◌||◌, ◌==◌, nat_le, nat_lt, find, not, All}
+use Rattle.std.proofs.Common.{◌≡◌, subst, ℕ, zero, suc, ◌+◌, ◌-◌, ◌<◌, ◌≤◌, Bool, true, false, List, [], ◌∷◌, Option, Some, None, Ok, refl, sym, ap, ap₂, ◌∙◌, arith}
+use Rattle.std.specs.Prelude.{if◌then◌else◌, ◌||◌, ◌==◌, find}
 use Rattle.std.specs.Option.{option_map}
 use Rattle.std.proofs.lemmas.Bool.{leb-true, ltb-true}
 use Rattle.disk_model.proofs.Frames.{same_block-is}
@@ -19,7 +19,6 @@ use Rattle.log_page.specs.Places.{entries_at, page_lsn, page_after, lap_after, l
 use Rattle.log_page.specs.RecordPages.{Reading, no_reading, page_reading, is_whole_page}
 use Rattle.log_page.specs.LiveLogs.{followed_by, log_from, live_log, start_in_page}
 use Rattle.log_page.specs.Restarts.{is_clean}
-use Rattle.log_reading.specs.declared.fault.LogRefusal.{LogRefusal}
 use Rattle.log_reading.specs.declared.fault.LogRefusal.TheVariants.{ForeignLog}
 use Rattle.log_reading.specs.LogPages.{page_in}
 use Rattle.log_recovery.specs.LogStates.{own_entries, entries_by, live_entries_in}

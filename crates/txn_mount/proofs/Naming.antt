@@ -1,31 +1,26 @@
 -- The new session's first restart page is written: whatever a crash leaves recovers alike.
-use Rattle.std.proofs.Common.{◌≡◌, ◌≢◌, ◌⊎◌, subst, ℕ, zero, suc, ◌+◌, ◌-◌, ◌*◌, ◌/◌, ◌%◌, ◌^◌, ◌<◌, ◌≤◌, Bool, true, false, cond, List, [], ◌∷◌, length, take, Option, Some, None, Result, Ok, Err, refl, sym, ap, ap₂, ◌∙◌, inl, inr, arith}
-use Rattle.std.specs.Prelude.{Contains, ◌&&◌, ◌||◌, not, nat_lt, ◌==◌, IfSome, if◌then◌else◌, slice_index, map}
+use Rattle.std.proofs.Common.{◌≡◌, ◌≢◌, ◌⊎◌, subst, ℕ, zero, suc, ◌+◌, ◌-◌, ◌/◌, ◌<◌, ◌≤◌, Bool, true, false, List, [], ◌∷◌, length, take, Option, Some, None, Ok, refl, sym, ap, ap₂, ◌∙◌, inl, inr, arith}
+use Rattle.std.specs.Prelude.{◌||◌, if◌then◌else◌, slice_index, map}
 use Rattle.std.specs.List.{range_with_len}
 use Rattle.std.proofs.lemmas.List.FromFn.{get_or-map-range_with_len}
-use Rattle.std.specs.Option.{option_map, option_or}
-use Rattle.std.proofs.lemmas.Bool.{cases_Bool}
-use native.Mathlib.Nat.{zero-div, zero-mod}
-use Rattle.host_base.specs.declared.outside.Failed.{Failed}
-use Rattle.host_base.specs.Answers.{◌>>=◌, needs}
+use native.Mathlib.Nat.{zero-div}
+use Rattle.host_base.specs.Answers.{needs}
 use Rattle.disk_model.specs.declared.block.Block.{Block}
-use Rattle.disk_model.specs.declared.block.Body.{Body}
 use Rattle.disk_model.specs.Sectors.{sectors, sector_of}
 use Rattle.disk_model.specs.Content.{Content, content_of}
 use Rattle.fixup_record.specs.Protecting.{protected_bytes}
-use Rattle.fixup_record.specs.Spellings.{has_spelling}
 use Rattle.fixup_record.proofs.Protected.{length-protected}
-use Rattle.sector_device.specs.Disks.{Disk, IsBetween, IsSettled, IsSized, is_within, put, seen, settled}
+use Rattle.sector_device.specs.Disks.{Disk, IsBetween, IsSettled, IsSized, is_within, put, seen}
 use Rattle.sector_device.specs.Sectors.{sectors_of}
 use Rattle.sector_device.specs.WholeSectors.{length-sectors_of}
 use Rattle.log_model.specs.declared.entry.Entry.{Entry}
-use Rattle.log_model.specs.Logs.{is_shadowed, is_other, is_written_out, first_misplaced, first_partial, recovered, recovery_of, updates}
+use Rattle.log_model.specs.Logs.{is_shadowed, is_written_out, first_partial, recovered}
 use Rattle.log_page.specs.declared.places.LogPlace.{LogPlace}
 use Rattle.log_page.specs.declared.restart.Restart.{Restart}
-use Rattle.log_page.specs.Places.{first_page, lap_of, lsn_at}
+use Rattle.log_page.specs.Places.{first_page, lap_of}
 use Rattle.log_page.specs.RecordPages.{Reading}
 use Rattle.log_page.specs.LiveLogs.{live_log, said_lsn}
-use Rattle.log_page.specs.Restarts.{restart_spelling, is_clean}
+use Rattle.log_page.specs.Restarts.{restart_spelling}
 use Rattle.log_page.proofs.Spelled.{length-restart_spelling}
 use Rattle.log_laws.specs.NextLaps.{IsSaid}
 use Rattle.log_reading.specs.declared.fault.LogRefusal.TheVariants.{NoRestart}
@@ -34,14 +29,13 @@ use Rattle.log_reading.specs.LogPages.{page_in}
 use Rattle.log_reading.specs.Rings.{IsRingPlace}
 use Rattle.log_recovery.specs.LogStates.{LogState, own_entries, entries_by, live_entries_in}
 use Rattle.log_recovery.specs.Writing.{is_put_out}
-use Rattle.log_area.specs.Areas.{LogAreaOf, page_first, new_area, next_lsn, number_lsn, restart_sector, page_to_send}
-use Rattle.store_model.specs.Logs.{has_update}
+use Rattle.log_area.specs.Areas.{LogAreaOf, page_first, new_area, restart_sector, page_to_send}
 use Rattle.store_model.specs.Geometry.{SectorBytes, CanLeave}
-use Rattle.store_model.specs.Rings.{Ring, Restarts, entries_on}
-use Rattle.store_model.specs.Volumes.{is_known, AreWhole, IsRecovered}
+use Rattle.store_model.specs.Rings.{Restarts, entries_on}
+use Rattle.store_model.specs.Volumes.{is_known, AreWhole}
 use Rattle.store_model.proofs.Told.{true≢false}
-use Rattle.ring_laws.specs.Numbers.{LogSession, lap_of_page, lsn_of_page, IsInRing}
-use Rattle.ring_laws.specs.PageBytes.{page_sector, raw_page, IsStill, AreAlike}
+use Rattle.ring_laws.specs.Numbers.{LogSession, lsn_of_page, IsInRing}
+use Rattle.ring_laws.specs.PageBytes.{page_sector, raw_page, AreAlike}
 use Rattle.ring_laws.specs.StoreDisks.{disk_without}
 use Rattle.ring_laws.specs.RestartPages.{RestartFields, ChoosesRestart, said_restart, found_restarts}
 use Rattle.ring_laws.specs.RingPages.{first_ring}
@@ -54,16 +48,16 @@ use Rattle.ring_laws.proofs.SeenDisks.{not_own, own_put}
 use Rattle.area_laws.specs.Standing.{Stands}
 use Rattle.area_laws.proofs.Reading.{is_first}
 use Rattle.txn_laws.specs.Laws.{first_lsn}
-use Rattle.txn_laws.specs.Mounting.{StandsAt, IsMounting}
+use Rattle.txn_laws.specs.Mounting.{StandsAt}
 use Rattle.txn_laws.proofs.Mounting.{mounts_go_on_law}
 use Rattle.txn_laws.proofs.PageWrites.{page_is_own}
 use Rattle.txn_laws.proofs.Syncs.{and_left}
 use Rattle.txn_model.specs.Values.{is_own}
-use Rattle.txn_mount.specs.Contents.{mounted_content, UpdatesKnown, ReadsLog, ReadsWell}
+use Rattle.txn_mount.specs.Contents.{mounted_content, ReadsLog, ReadsWell}
 use Rattle.txn_mount.specs.Images.{RecoversAlike, Spares, MountsOn, OneIsNewer, left_of}
 use Rattle.txn_mount.proofs.Frames.{entries_alike, live_alike}
-use Rattle.txn_mount.proofs.Finding.{front_made, fronted_raw, chosen_raw, readable_raw, found, ring_stands}
-use Rattle.txn_mount.proofs.Alike.{page_still, seen_alike, page_alike, raw_alike, laps_alike, mounts_now, whole_now, may_write_now}
+use Rattle.txn_mount.proofs.Finding.{front_made, chosen_raw, readable_raw, found, ring_stands}
+use Rattle.txn_mount.proofs.Alike.{page_still, seen_alike, page_alike, laps_alike, mounts_now, whole_now, may_write_now}
 use Rattle.txn_mount.proofs.Putting.{alike_on}
 
 some_inj : (a b : Restart) → Some a ≡ Some b → a ≡ b

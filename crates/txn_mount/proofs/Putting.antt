@@ -1,7 +1,6 @@
 -- Blocks are put out one behind the other: the mount goes on, and what is left recovers alike.
-use Rattle.std.proofs.Common.{◌≡◌, ◌⊎◌, subst, ℕ, zero, suc, ◌+◌, ◌-◌, ◌*◌, ◌^◌, ◌%◌, ◌<◌, ◌≤◌, Bool, true, false, cond, List, [], ◌∷◌, length, Option, Some, None, Result, Ok, Err, refl, sym, ap, ap₂, ◌∙◌, inl, inr, arith}
-use Rattle.std.specs.Prelude.{Contains, ◌&&◌, ◌||◌, not, nat_lt, ◌==◌, IfSome, if◌then◌else◌}
-use Rattle.std.specs.List.{list_any}
+use Rattle.std.proofs.Common.{◌≡◌, ◌⊎◌, subst, ℕ, ◌+◌, ◌-◌, ◌^◌, ◌%◌, ◌<◌, ◌≤◌, Bool, true, false, cond, List, [], ◌∷◌, length, Option, Some, None, Result, Ok, Err, refl, sym, ap, ◌∙◌, inl, inr, arith}
+use Rattle.std.specs.Prelude.{◌&&◌, ◌||◌, not, nat_lt, ◌==◌, IfSome, if◌then◌else◌}
 use Rattle.std.specs.Option.{option_map}
 use Rattle.std.proofs.lemmas.Bool.{cases_Bool}
 use Rattle.host_base.specs.declared.outside.Failed.{Failed}
@@ -27,7 +26,6 @@ use Rattle.log_recovery.specs.LogStates.{LogState}
 use Rattle.log_recovery.specs.Writing.{is_put_out}
 use Rattle.log_recovery.specs.declared.found.RecoveredBlock.{RecoveredBlock}
 use Rattle.store_model.specs.Logs.{has_update}
-use Rattle.store_model.specs.Geometry.{SectorBytes, CanLeave}
 use Rattle.store_model.specs.Volumes.{is_known, AreWhole}
 use Rattle.store_model.proofs.Told.{true≢false, same_self, rivals_both}
 use Rattle.store_model.proofs.Volumes.{volume_geometry, is_volume, claimed_is, size_known}
@@ -35,7 +33,7 @@ use Rattle.store_model.proofs.Recovery.{one_claimed}
 use Rattle.ring_laws.specs.PageBytes.{AreAlike}
 use Rattle.area_laws.proofs.Calling.{torn_known}
 use Rattle.txn_laws.specs.Laws.{SyncsNow}
-use Rattle.txn_laws.specs.Mounting.{StandsAt, IsMounting, MayPutBack, put_back}
+use Rattle.txn_laws.specs.Mounting.{MayPutBack}
 use Rattle.txn_laws.proofs.Mounting.{mounts_go_on_law}
 use Rattle.txn_laws.proofs.WriteOuts.{spelled_length}
 use Rattle.txn_model.specs.Values.{is_own}

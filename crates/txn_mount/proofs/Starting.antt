@@ -1,18 +1,15 @@
 -- A mount begins on a settled disk.
-use Rattle.std.proofs.Common.{◌≡◌, ◌⊎◌, subst, ℕ, ◌+◌, ◌*◌, ◌<◌, ◌≤◌, Bool, true, false, List, [], ◌∷◌, Option, Some, None, refl, sym, ap, ap₂, ◌∙◌, inl, inr, arith}
-use Rattle.std.specs.Prelude.{Contains, ◌&&◌, ◌||◌, not, All, nat_eq}
+use Rattle.std.proofs.Common.{◌≡◌, ℕ, Bool, true, false, List, [], ◌∷◌, refl, sym, ap, ap₂, ◌∙◌}
+use Rattle.std.specs.Prelude.{◌&&◌, ◌||◌, not, All, nat_eq}
 use Rattle.std.specs.Cmp.Lexicographic.{pointwise}
 use Rattle.std.proofs.lemmas.Bool.{eqb-true}
 use Rattle.disk_model.specs.declared.block.Block.{Block}
-use Rattle.disk_model.specs.declared.block.Body.{Body}
-use Rattle.disk_model.specs.Sectors.{sectors}
 use Rattle.disk_model.specs.Content.{Content, content_of}
-use Rattle.sector_device.specs.Disks.{Disk, IsSettled, IsSized, MayHold, is_within, newest, seen}
+use Rattle.sector_device.specs.Disks.{Disk, IsSettled, IsSized, newest, seen}
 use Rattle.log_model.specs.declared.entry.Entry.{Entry}
 use Rattle.log_model.specs.Logs.{IsLevel, is_shadowed, is_other, is_written_out, recovered}
 use Rattle.log_page.specs.declared.places.LogPlace.{LogPlace}
 use Rattle.log_recovery.specs.Writing.{is_spelled, is_put_out}
-use Rattle.store_model.specs.Logs.{has_update}
 use Rattle.store_model.specs.Volumes.{is_known}
 use Rattle.txn_laws.specs.Mounting.{StandsAt, IsMounting}
 use Rattle.txn_laws.proofs.Mounting.{mounts_go_on_law}
@@ -20,7 +17,7 @@ use Rattle.txn_laws.proofs.Syncs.{and_left, and_right}
 use Rattle.txn_model.specs.Values.{is_own}
 use Rattle.store_model.proofs.Told.{true≢false}
 use Rattle.txn_mount.specs.Contents.{mounted_content, stays_torn}
-use Rattle.txn_mount.specs.Images.{Spares, MountsOn}
+use Rattle.txn_mount.specs.Images.{MountsOn}
 
 same_bytes : (xs ys : List ℕ) → pointwise nat_eq xs ys ≡ true → xs ≡ ys
 same_bytes [] [] h = refl
