@@ -14,6 +14,7 @@ mod marks;
 mod noting;
 mod outs;
 mod rivals;
+mod starting;
 mod state;
 
 pub use state::StoreState;

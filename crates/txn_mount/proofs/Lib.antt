@@ -1,0 +1,13 @@
+pub mod Reading
+pub mod Frames
+pub mod Finding
+pub mod Starting
+pub mod Blocks
+pub mod Alike
+pub mod Putting
+pub mod Naming
+pub mod Beginning
+pub mod Ending
+pub mod Items
+pub mod Choosing
+pub mod Stopping

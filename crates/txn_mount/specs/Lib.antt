@@ -1,0 +1,5 @@
+pub mod Contents
+pub mod Images
+pub mod Calls
+pub mod Laws
+pub mod Puts
