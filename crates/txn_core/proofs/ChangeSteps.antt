@@ -10,7 +10,6 @@ use Rattle.sector_device.specs.Disks.{SeesDisk}
 use Rattle.sector_device.specs.Moments.{Changes}
 use Rattle.log_model.specs.Logs.{is_in_grid}
 use Rattle.store_model.specs.Volumes.{is_free}
-use Rattle.host_base.specs.Answers.{Cause}
 use Rattle.block_view.specs.declared.fault.ViewFault.{ViewFault}
 use Rattle.block_view.specs.declared.fault.ViewFault.TheVariants.{Fault as ViewFailed, Memory as ViewMemory}
 use Rattle.txn_core.specs.declared.fault.ChangeFault.{ChangeFault}

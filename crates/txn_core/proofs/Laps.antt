@@ -1,10 +1,10 @@
 -- The lap of a page behind the one that is filled.
-use Rattle.std.proofs.Common.{◌≡◌, ◌⊎◌, ◌↔◌, subst, ℕ, ◌+◌, ◌-◌, ◌*◌, ◌/◌, ◌%◌, ◌^◌, ◌<◌, ◌≤◌, Bool, true, false, cond, Option, Some, None, refl, sym, ap, ap₂, ◌∙◌, inl, inr, arith}
+use Rattle.std.proofs.Common.{◌≡◌, ◌↔◌, subst, ℕ, ◌+◌, ◌-◌, ◌*◌, ◌/◌, ◌%◌, ◌^◌, ◌<◌, ◌≤◌, Bool, true, false, cond, Option, Some, None, refl, sym, ap, ap₂, ◌∙◌, inl, inr, arith}
 use Rattle.std.specs.Prelude.{is_some, IfSome, MatchOption}
-use Rattle.std.proofs.Math.Nat.{mod-lt, lt-mul-div-succ, div-lt_iff_lt-mul, mul-le-mul_right}
+use Rattle.std.proofs.Math.Nat.{mod-lt, lt-mul-div-succ, mul-le-mul_right}
 use Rattle.std.proofs.lemmas.Nat.{div-mul-add}
 use Rattle.std.proofs.lemmas.Bool.{cases_lt}
-use Rattle.log_page.specs.Places.{place_bits, sequence_bits, lsn_at, lap_of, page_lsn}
+use Rattle.log_page.specs.Places.{place_bits, sequence_bits, lap_of, page_lsn}
 use Rattle.log_page.proofs.PlacesFit.{log_fits}
 use Rattle.log_area.specs.Areas.{LogAreaOf, ring_size, lap_at, place_at, number_lsn, fits, next_number, next_at, next_lsn}
 use Rattle.log_area.proofs.Numbering.{all_bits, next_inside}
@@ -59,7 +59,7 @@ module _ (a : LogAreaOf) (some : 4 < a.pages) (few : a.pages < 2 ^ 52) where
 
   -- a lap has LSNs of 64 bits exactly where its first page has
   pub tested : (lap : ℕ) (o : Option ℕ) → MatchOption o (2 ^ 64 ≤ page_lsn a.pages lap 4) (λ x. x ≡ page_lsn a.pages lap 4) → ((x : ℕ) → o ≡ Some x → x < 2 ^ 64) → (is_some o ≡ true) ↔ (lap < laps)
-  tested lap (Some x) is small = (λ e. under (small x refl) , λ lt. refl)
+  tested lap (Some x) is small = (λ e. under (small x refl), λ lt. refl)
     where
       under : x < 2 ^ 64 → lap < laps
       under lt = elim (cases_lt lap laps) [
@@ -81,8 +81,8 @@ pub behind : (a : LogAreaOf) (some : 4 < a.pages) (few : a.pages < 2 ^ 52) (all 
 behind a some few all first page size count o result all_is first_is page_is size_is value space is =
     let lap : first + page / size ≡ lap_at a (a.sealed + count) = ap₂ (λ (x : ℕ) (y : ℕ). x + y / size) first_is page_is ∙ ap (λ (z : ℕ). a.lap + (a.sealed + count) / z) size_is in
     let there : MatchOption o (2 ^ 64 ≤ page_lsn a.pages (lap_at a (a.sealed + count)) 4) (λ x. x ≡ page_lsn a.pages (lap_at a (a.sealed + count)) 4) =
-        subst (λ (p : ℕ). MatchOption o (2 ^ 64 ≤ page_lsn p (lap_at a (a.sealed + count)) 4) (λ x. x ≡ page_lsn p (lap_at a (a.sealed + count)) 4)) all_is
-        (subst (λ (l : ℕ). MatchOption o (2 ^ 64 ≤ page_lsn all l 4) (λ x. x ≡ page_lsn all l 4)) lap value) in
+    subst (λ (p : ℕ). MatchOption o (2 ^ 64 ≤ page_lsn p (lap_at a (a.sealed + count)) 4) (λ x. x ≡ page_lsn p (lap_at a (a.sealed + count)) 4)) all_is
+    (subst (λ (l : ℕ). MatchOption o (2 ^ 64 ≤ page_lsn all l 4) (λ x. x ≡ page_lsn all l 4)) lap value) in
     subst (λ (v : Bool). (v ≡ true) ↔ (lap_at a (a.sealed + count) < 2 ^ sequence_bits a.pages)) (sym is) (tested a some few (lap_at a (a.sealed + count)) o there (λ x e. small o x e space))
   where
     small : (p : Option ℕ) (x : ℕ) → p ≡ Some x → IfSome p (λ y. y + 504 < 2 ^ 64) → x < 2 ^ 64

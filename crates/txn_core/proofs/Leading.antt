@@ -1,13 +1,13 @@
 -- What the steps of a store lead to, one after the other.
-use Rattle.std.proofs.Common.{◌≡◌, ◌≢◌, ◌↔◌, subst, ℕ, ◌+◌, ◌-◌, ◌<◌, ◌≤◌, Bool, true, false, not, cond, List, [], ◌∷◌, length, Option, Some, None, Ok, refl, sym, ap, ap₂, ◌∙◌, inl, inr, arith}
+use Rattle.std.proofs.Common.{◌≡◌, subst, ℕ, ◌+◌, ◌-◌, ◌<◌, ◌≤◌, Bool, true, false, not, cond, List, [], ◌∷◌, length, Option, Some, None, Ok, refl, sym, ap, ap₂, ◌∙◌, arith}
 use Rattle.std.specs.Prelude.{◌&&◌, ◌||◌, nat_lt, count_by, is_some, unwrap_or, IfSome}
 use Rattle.std.specs.List.{list_any}
-use Rattle.std.proofs.lemmas.Bool.{cases_Bool, le-ltb}
+use Rattle.std.proofs.lemmas.Bool.{le-ltb}
 use Rattle.std.proofs.lemmas.List.Sums.{sum_by-cons}
 use Rattle.disk_model.specs.declared.block.Block.{Block}
 use Rattle.disk_model.specs.Sectors.{same_block, are_rivals}
 use Rattle.disk_model.proofs.Frames.{same_block-is}
-use Rattle.log_area.specs.Areas.{LogAreaOf, is_filling, used_pages, ring_size, sealed_area, synced_area}
+use Rattle.log_area.specs.Areas.{LogAreaOf, is_filling, used_pages, ring_size, sealed_area}
 use Rattle.block_pool.specs.Pools.{held}
 use Rattle.store_pools.specs.Pools.{marks_of}
 use Rattle.store_model.proofs.Told.{true≢false}
@@ -15,7 +15,7 @@ use Rattle.flush_policy.specs.declared.facts.Facts.{Facts}
 use Rattle.flush_policy.specs.declared.facts.StoreStep.{StoreStep}
 use Rattle.flush_policy.specs.declared.facts.StoreStep.TheVariants.{SealPage, WritePage, SyncDevice, WriteOut, BeginCheckpoint, WriteRestart}
 use Rattle.flush_policy.specs.Choice.{next_step}
-use Rattle.flush_policy.specs.Steps.{MayTake, IsDone, Becomes, to_do}
+use Rattle.flush_policy.specs.Steps.{MayTake, Becomes}
 use Rattle.flush_policy.proofs.Steps.{may_be_taken, rests_only_when_done, leaves_less}
 use Rattle.txn_log.proofs.Sharing.{same_self}
 use Rattle.txn_model.specs.declared.mark.Mark.{Mark}

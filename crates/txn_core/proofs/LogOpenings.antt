@@ -1,15 +1,10 @@
 -- A session is opened on a log of a disk on which nothing is unsynced.
-use Rattle.std.proofs.Common.{◌≡◌, ℕ, ◌+◌, ◌-◌, ◌^◌, ◌<◌, ◌≤◌, [], refl, arith}
-use Rattle.sector_device.specs.Disks.{Disk, IsSettled, IsSized, seen}
-use Rattle.log_page.specs.declared.places.LogPlace.{LogPlace}
-use Rattle.log_page.specs.Places.{sequence_bits}
-use Rattle.log_reading.specs.Rings.{IsRingPlace}
-use Rattle.log_area.specs.Areas.{new_area}
-use Rattle.ring_laws.specs.Numbers.{LogSession}
+use Rattle.std.proofs.Common.{◌+◌, refl, arith}
+use Rattle.sector_device.specs.Disks.{seen}
 use Rattle.ring_laws.specs.PageBytes.{page_sector, raw_page}
 use Rattle.ring_laws.specs.RestartPages.{RestartFields, said_restart}
 use Rattle.area_laws.proofs.Joined.{starts}
-use Rattle.txn_core.specs.Openings.{OpensOn, IsBefore, LogsOpen}
+use Rattle.txn_core.specs.Openings.{LogsOpen}
 
 pub logs_open : LogsOpen
 logs_open place lap restart opens disk lies begun small two sized still before = record {

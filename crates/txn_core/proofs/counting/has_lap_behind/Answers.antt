@@ -1,8 +1,6 @@
-use Rattle.std.proofs.Common.{◌≡◌, ◌↔◌, ℕ, ◌+◌, ◌-◌, ◌/◌, ◌^◌, ◌<◌, ◌≤◌, true, Option, Some, sym, ap, ap₂, subst, ◌∙◌, arith}
-use Rattle.std.specs.Prelude.{is_some, IfSome, MatchOption}
+use Rattle.std.proofs.Common.{◌≡◌, ℕ, ◌+◌, ◌-◌, ◌/◌, ap, ◌∙◌, arith}
 use Rattle.std.proofs.Math.Nat.{div-le_self}
-use Rattle.log_page.specs.Places.{sequence_bits, lap_of, page_lsn}
-use Rattle.log_area.specs.Areas.{ring_size, lap_at}
+use Rattle.log_page.specs.Places.{lap_of}
 use Rattle.txn_core.proofs.Laps.{first_lap, few_sealed, behind}
 use Rattle.txn_core.proofs.counting.has_lap_behind.Goals as goal
 
