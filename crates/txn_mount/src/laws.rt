@@ -26,7 +26,7 @@ pub fn stopped_mounts()
     ensures { StoppedMounts }
 {}
 
-/// Law: what was read of a device is what recovery makes of the disk behind it, where this is known.
+/// Law: what was read of a device is what recovery makes of the disk behind it, if it is known.
 pub fn reads_disk()
     ensures { ReadsDisk }
 {}
