@@ -11,3 +11,4 @@ pub mod Ending
 pub mod Items
 pub mod Choosing
 pub mod Stopping
+pub mod Knowing

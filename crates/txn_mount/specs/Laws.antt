@@ -1,9 +1,10 @@
 -- The laws of a mount that writes.
-use Rattle.std.specs.Prelude.{◌≡◌, ℕ, ◌*◌, ◌^◌, ◌<◌, ◌≤◌, ◌&&◌, not, Bool, true, false, List, Option, Some, Ok, Result, All}
+use Rattle.std.specs.Prelude.{◌≡◌, ℕ, ◌*◌, ◌^◌, ◌<◌, ◌≤◌, ◌&&◌, not, Bool, true, false, List, Option, Some, Ok, Result, All, IfSome}
 use Rattle.host_base.specs.declared.outside.Failed.{Failed}
 use Rattle.disk_model.specs.declared.block.Block.{Block}
 use Rattle.disk_model.specs.Content.{Content, content_of}
-use Rattle.sector_device.specs.Disks.{Disk, IsSettled, seen}
+use Rattle.disk_model.specs.Sectors.{sector_of}
+use Rattle.sector_device.specs.Disks.{Disk, IsSettled, SeesDisk, seen}
 use Rattle.sector_device.specs.Moments.{Changes}
 use Rattle.log_area.specs.Areas.{new_area}
 use Rattle.log_page.specs.declared.places.LogPlace.{LogPlace}
@@ -21,7 +22,9 @@ use Rattle.store_model.specs.Volumes.{is_known}
 use Rattle.txn_model.specs.Values.{is_own}
 use Rattle.txn_mount.specs.declared.puts.PutOut.{PutOut}
 use Rattle.txn_mount.specs.Puts.{items_of, AreKeys}
-use Rattle.log_recovery.specs.Writing.{is_put_out, to_write_in}
+use Rattle.log_recovery.specs.Writing.{is_put_out, to_write_in, IsToWrite, RecoversToWrite}
+use Rattle.log_recovery.specs.declared.writing.ToWrite.{ToWrite}
+use Rattle.txn_core.specs.Openings.{StartsThen}
 use Rattle.log_recovery.specs.declared.found.RecoveredBlock.{RecoveredBlock}
 use Rattle.ring_laws.specs.PageBytes.{raw_page}
 use Rattle.ring_laws.specs.RestartPages.{said_restart}
@@ -78,3 +81,18 @@ pub record StoppedMounts : Type 0 where
       → Recovers place (λ b. is_known (is_own place kept) b && not (is_shadowed list b)) content at
   pub again : (place : LogPlace) (kept : List Block) (such : Block → Bool) (content : Content) (state : LogState) (at later : SectorBytes) → ((b : Block) → such b ≡ true → is_known (is_own place kept) b ≡ true) → Recovers place such content at
       → to_write_in (content_of at) place kept ≡ Ok state → RecoversAlike place kept state.log (mounted_content (content_of at) state.log) state.next_lap later → Recovers place such content later
+
+-- What was read of a device is what recovery makes of the disk behind it, where this is known.
+pub record FindsOn (place : LogPlace) (kept : List Block) (found : ToWrite) (disk : Disk) : Type 0 where
+  pub state : LogState
+  pub read : to_write_in (content_of (seen disk)) place kept ≡ Ok state
+  pub is : IsToWrite (content_of (seen disk)) state found
+
+abbrev pub ReadsDisk : Type 0
+ReadsDisk = (place : LogPlace) (kept : List Block) (found : ToWrite) (gives : Option (List (List ℕ))) (disk : Option Disk) → SeesDisk gives disk
+    → IfSome gives (λ g. RecoversToWrite (content_of (sector_of g)) (to_write_in (content_of (sector_of g)) place kept) (Ok found)) → IfSome disk (FindsOn place kept found)
+
+-- A store may begin behind a mount's calls on a device of which, where its disk is known, this was read before.
+abbrev pub StartsBehind : {D : Type 0} → (D → Option (List (List ℕ))) → (D → Changes) → (D → ℕ) → Type 0
+StartsBehind {D} gives changes moment = (place : LogPlace) (kept : List Block) (state : LogState) (items : List RecoveredBlock) (old new : D) → IfSome (changes old).disk (MayMount place kept state items)
+    → MountsAs gives changes moment place state items (Ok tt) old new → StartsThen changes place (opened_area place state.next_lap state.restart state.opens) new

@@ -1,5 +1,5 @@
 ghost use Rattle.txn_mount.specs.Contents.{ReadsAreLevel};
-ghost use Rattle.txn_mount.specs.Laws.{ChosenMayMount, MountsRecover, StoppedMounts};
+ghost use Rattle.txn_mount.specs.Laws.{ChosenMayMount, MountsRecover, ReadsDisk, StartsBehind, StoppedMounts};
 
 use sector_device::Device;
 
@@ -8,8 +8,8 @@ pub fn reads_level()
     ensures { ReadsAreLevel }
 {}
 
-/// Law: the blocks that are chosen of what recovery found are all that recovery writes out, and each
-/// of them may be.
+/// Law: the blocks that are chosen of what recovery found are all that are to be written out, and
+/// each of them may be.
 pub fn chosen_may_mount()
     ensures { ChosenMayMount }
 {}
@@ -24,4 +24,15 @@ pub fn mounts_recover<D: Device>(_device: &D)
 /// Law: so a mount of what a stopped one left, however often, recovers to the first content.
 pub fn stopped_mounts()
     ensures { StoppedMounts }
+{}
+
+/// Law: what was read of a device is what recovery makes of the disk behind it, if it is known.
+pub fn reads_disk()
+    ensures { ReadsDisk }
+{}
+
+/// Law: a store may begin behind a mount's calls, whether the disk is known or not, and whatever of
+/// it was unsynced before.
+pub fn starts_behind<D: Device>(_device: &D)
+    ensures { StartsBehind D.gives D.changes_of D.moment_of }
 {}

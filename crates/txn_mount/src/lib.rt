@@ -1,9 +1,9 @@
 //! The parts of mounting a store on a device whose log may hold entries: what is read of the log,
 //! which blocks are put out, and all that is written.
 //!
-//! The contract: exactly the calls of the device, in their order, and where one fails. The laws: what
-//! they leave of a settled device, wherever the mount is stopped, recovers to the same content on
-//! known blocks that the log doesn't shadow; and a store begins behind them that shows it.
+//! The contract: exactly the calls of the device, in their order, and where one fails. The laws:
+//! what they leave of a settled device, wherever the mount is stopped, recovers to the same content
+//! on known blocks that the log doesn't shadow; and a store begins behind them that shows it.
 #![tactic(auto)]
 
 mod keys;
@@ -13,7 +13,9 @@ mod read;
 mod session;
 
 pub use keys::keys_of;
-pub use laws::{chosen_may_mount, mounts_recover, reads_level, stopped_mounts};
+pub use laws::{
+    chosen_may_mount, mounts_recover, reads_disk, reads_level, starts_behind, stopped_mounts,
+};
 pub use puts::{PutOut, write_outs};
 pub use read::read_log;
 pub use session::write_down;
