@@ -1,0 +1,75 @@
+//! File records in which a stream is in other clusters.
+ghost use Rattle.std.specs.Prelude.{◌≡◌, ◌≤◌, ◌^◌, IfOk, length};
+ghost use Rattle.record_model.specs.Pairs.{HasSpelling};
+ghost use Rattle.record_streams.specs.Placing.{with_stream, placed_record};
+ghost use Rattle.record_streams.specs.Fitting.{FitsButRoom};
+
+use crate::attribute::placed_attr;
+use file_record::FileRec;
+use host_base::Memory;
+use record_model::Attr;
+use record_writer::{push_copies, push_copy};
+use state_model::{ClusterSize, Extents};
+use std::alloc::{AllocError, Global};
+use stream_map::{attributes_of, is_attribute_of};
+
+// The record with this attribute in the place of the first one of a stream, whose others go.
+fn with_stream(
+    alloc: Global,
+    kind: u32,
+    name: &[u16],
+    new: &Attr,
+    file: &FileRec,
+) -> Result<FileRec, AllocError>
+    ensures { IfOk result (λ r. r ≡ record { head = file.now.head; attrs = with_stream kind name.now new.now file.now.attrs }) }
+{
+    let mut out = FileRec::empty(alloc, file.head());
+    let mut is_put = false;
+    for attr in file.attrs().as_slice() {
+        if !is_attribute_of(kind, name, attr) {
+            push_copy(alloc, attr, &mut out)?;
+        } else if !is_put {
+            push_copy(alloc, new, &mut out)?;
+            is_put = true;
+        }
+    }
+    Ok(out)
+}
+
+// A copy of the record.
+fn copied(alloc: Global, file: &FileRec) -> Result<FileRec, AllocError>
+    ensures { IfOk result (λ r. r ≡ file.now) }
+{
+    let mut out = FileRec::empty(alloc, file.head());
+    push_copies(alloc, file.attrs().as_slice(), &mut out)?;
+    Ok(out)
+}
+
+/// The record with the stream of this type and name (in UTF-16 units) in these clusters (Linux-NTFS
+/// documentation, "Attribute Header"): in one attribute, which is the stream's first by rising
+/// VCNs, in the place of the one that stands first in the record; its others go. A record without
+/// that stream is copied. The volume has `per` sectors a cluster; the runs follow one another from
+/// VCN 0 on and are at most 65,536. [`streams_are_placed`](crate::streams_are_placed) says what the
+/// record's streams are then. It may use more than 1,024 bytes. The error is want of memory. It
+/// takes time and memory linear in the record and the runs.
+pub fn placed_record(
+    alloc: Global,
+    per: ClusterSize,
+    kind: u32,
+    name: &[u16],
+    extents: &Extents,
+    file: &FileRec,
+) -> Result<FileRec, Memory>
+    requires spelled { HasSpelling 0 extents.now.runs }
+    requires few { length extents.now.runs ≤ 2 ^ 16 }
+    requires fits { FitsButRoom file.now }
+    ensures value { IfOk result (λ r. r ≡ placed_record per kind name.now extents.now file.now) }
+    ensures fits { IfOk result FitsButRoom }
+{
+    let attributes = attributes_of(alloc, kind, name, file.attrs().as_slice())?;
+    let Some(first) = attributes.first() else {
+        return Ok(copied(alloc, file)?);
+    };
+    let new = placed_attr(alloc, per, extents, first)?;
+    Ok(with_stream(alloc, kind, name, &new, file)?)
+}
