@@ -34,10 +34,8 @@ fn touches(first: Option<u64>, len: u64, second: Option<u64>) -> bool
     }
 }
 
-/// Runs of at most 2^32 clusters, joined where they touch on the volume or both are sparse, so that
-/// no run is that could be one with the next (Linux-NTFS documentation, "Data runs"). The error is
-/// want of memory. It takes time and memory linear in the runs.
-pub fn merged(alloc: Global, runs: &[Run]) -> Result<Runs, Memory>
+// Runs joined where they touch.
+fn joined(alloc: Global, runs: &[Run]) -> Result<Runs, Memory>
     requires few { total_clusters runs.now ≤ cluster_limit }
     requires small { AreSmall runs.now }
     ensures { IfOk result (λ new. new ≡ merged runs.now) }
@@ -57,6 +55,16 @@ pub fn merged(alloc: Global, runs: &[Run]) -> Result<Runs, Memory>
     }
     new.push(last)?;
     Ok(new)
+}
+
+/// Runs of at most 2^32 clusters, joined where they touch on the volume or both are sparse, so that
+/// none is left that could be one with the next (Linux-NTFS documentation, "Data runs"). The error
+/// is want of memory. It takes time and memory linear in the runs.
+pub fn merged(alloc: Global, runs: &Runs) -> Result<Runs, Memory>
+    requires { total_clusters runs.now ≤ cluster_limit }
+    ensures { IfOk result (λ new. new ≡ merged runs.now) }
+{
+    joined(alloc, runs.as_slice())
 }
 
 // A run so many clusters further back in its stream.
@@ -92,14 +100,15 @@ fn push_moved(
 /// most 2^32 clusters together. The error is want of memory. It takes time and memory linear in the
 /// runs.
 #[tactic(auto, unfolding(crate::specs::Runs::grown))]
-pub fn grown(alloc: Global, runs: &[Run], more: &[Run]) -> Result<Runs, Memory>
+pub fn grown(alloc: Global, runs: &Runs, more: &Runs) -> Result<Runs, Memory>
     requires spelled { HasSpelling 0 runs.now }
     requires more { HasSpelling 0 more.now }
     requires few { total_clusters runs.now + total_clusters more.now ≤ cluster_limit }
     ensures { IfOk result (λ new. new ≡ grown runs.now more.now) }
 {
     let mut all = Vec::new(alloc);
-    all.extend_from_slice(runs)?;
-    push_moved(&mut all, total_clusters(runs), more)?;
-    merged(alloc, &all)
+    let old = runs.as_slice();
+    all.extend_from_slice(old)?;
+    push_moved(&mut all, total_clusters(old), more.as_slice())?;
+    joined(alloc, &all)
 }

@@ -8,9 +8,8 @@ use host_base::Memory;
 use record_model::{Run, Runs};
 use std::alloc::{AllocError, Global};
 
-/// The first so many clusters of runs (Linux-NTFS documentation, "Data runs"), or all of them where
-/// they are fewer. The error is want of memory. It takes time and memory linear in the runs.
-pub fn front(alloc: Global, clusters: u64, runs: &[Run]) -> Result<Runs, Memory>
+// The first so many clusters of runs, or all of them.
+fn front_of(alloc: Global, clusters: u64, runs: &[Run]) -> Result<Runs, Memory>
     requires small { AreSmall runs.now }
     ensures { IfOk result (λ new. new ≡ front clusters runs.now) }
 {
@@ -33,6 +32,14 @@ pub fn front(alloc: Global, clusters: u64, runs: &[Run]) -> Result<Runs, Memory>
     Ok(new)
 }
 
+/// The first so many clusters of runs (Linux-NTFS documentation, "Data runs"), or all of them where
+/// they are fewer. The error is want of memory. It takes time and memory linear in the runs.
+pub fn front(alloc: Global, clusters: u64, runs: &Runs) -> Result<Runs, Memory>
+    ensures { IfOk result (λ new. new ≡ front clusters runs.now) }
+{
+    front_of(alloc, clusters, runs.as_slice())
+}
+
 // What a run has behind its first so many clusters.
 fn behind(clusters: u64, run: &Run) -> Run
     requires vcn { run.now.vcn + clusters < 2 ^ 64 }
@@ -51,11 +58,9 @@ fn behind(clusters: u64, run: &Run) -> Run
     }
 }
 
-/// What runs have behind their first so many clusters, none where they have no more. The runs
-/// follow one another from VCN 0 on. The error is want of memory. It takes time and memory linear
-/// in the runs.
+// What runs have behind their first so many clusters.
 #[tactic(auto, unfolding(crate::specs::Runs::back))]
-pub fn back(alloc: Global, clusters: u64, runs: &[Run]) -> Result<Vec<Run>, AllocError>
+fn back_of(alloc: Global, clusters: u64, runs: &[Run]) -> Result<Vec<Run>, AllocError>
     requires small { AreSmall runs.now }
     requires spelled { HasSpelling 0 runs.now }
     ensures runs { IfOk result (λ new. new.items ≡ back clusters runs.now) }
@@ -74,13 +79,31 @@ pub fn back(alloc: Global, clusters: u64, runs: &[Run]) -> Result<Vec<Run>, Allo
     Ok(rest)
 }
 
-/// The last cluster of a stream with these runs, if it has one and that isn't sparse; in constant
-/// time.
-pub fn last_cluster(runs: &[Run]) -> Option<u64>
+/// What runs have behind their first so many clusters, none where they have no more. The runs
+/// follow one another from VCN 0 on. The error is want of memory. It takes time and memory linear
+/// in the runs.
+pub fn back(alloc: Global, clusters: u64, runs: &Runs) -> Result<Vec<Run>, AllocError>
+    requires { HasSpelling 0 runs.now }
+    ensures runs { IfOk result (λ new. new.items ≡ back clusters runs.now) }
+    ensures near { IfOk result (λ new. All IsNear new.items) }
+{
+    back_of(alloc, clusters, runs.as_slice())
+}
+
+// The last cluster of runs, if they have one and that isn't sparse.
+fn last_of(runs: &[Run]) -> Option<u64>
     requires { AreSmall runs.now }
     ensures { result ≡ last_cluster runs.now }
 {
     let run = runs.last()?;
     let lcn = run.lcn?;
     Some((lcn + run.len).saturating_sub(1))
+}
+
+/// The last cluster of a stream with these runs, if it has one and that isn't sparse; in constant
+/// time.
+pub fn last_cluster(runs: &Runs) -> Option<u64>
+    ensures { result ≡ last_cluster runs.now }
+{
+    last_of(runs.as_slice())
 }

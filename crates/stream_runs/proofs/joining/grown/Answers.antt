@@ -8,8 +8,8 @@ use Rattle.stream_runs.proofs.Merging.{total-append, total-moved, follow-append,
 use Rattle.stream_runs.proofs.Looping.{small_follow}
 use Rattle.stream_runs.proofs.joining.grown.Goals as goal
 
-pub merged-requires-clause-few : goal.merged-requires-clause-few
-merged-requires-clause-few c =
+pub joined-requires-clause-few : goal.joined-requires-clause-few
+joined-requires-clause-few c =
     let runs = c.args.runs.now in
     let more = c.args.more.now in
     let all : c.deref.result.now ≡ runs ++ map (moved (total_clusters runs)) more =
@@ -21,8 +21,8 @@ merged-requires-clause-few c =
     let sum = total-append runs (map (moved (total_clusters runs)) more) in
     omega (arith, ap total_clusters all, sum, total-moved (total_clusters runs) more, c.requires.few)
 
-pub merged-requires-clause-small : goal.merged-requires-clause-small
-merged-requires-clause-small c =
+pub joined-requires-clause-small : goal.joined-requires-clause-small
+joined-requires-clause-small c =
     let runs = c.args.runs.now in
     let more = c.args.more.now in
     let t = total_clusters runs in

@@ -1,6 +1,6 @@
 use Rattle.std.proofs.Common.{◌≡◌, ◌++◌, drop}
 use Rattle.stream_runs.specs.Runs.{front}
-use Rattle.stream_runs.proofs.sharing.front.Given as goal
+use Rattle.stream_runs.proofs.sharing.front_of.Given as goal
 
 -- the runs so far, and the first clusters of those that are left, are those of all
 abbrev pub invariant-loop-run : goal.invariant-loop-run

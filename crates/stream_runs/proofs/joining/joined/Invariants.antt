@@ -3,7 +3,7 @@ use Rattle.record_model.specs.Pairs.{cluster_limit}
 use Rattle.record_model.specs.Runs.{IsSmall}
 use Rattle.state_model.specs.Loads.{total_clusters}
 use Rattle.stream_runs.specs.Runs.{in_front, merged}
-use Rattle.stream_runs.proofs.joining.merged.Given as goal
+use Rattle.stream_runs.proofs.joining.joined.Given as goal
 
 -- the runs so far, and the last one in front of those that are left, are all
 abbrev pub invariant-loop-run : goal.invariant-loop-run

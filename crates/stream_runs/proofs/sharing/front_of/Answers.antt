@@ -2,8 +2,8 @@ use Rattle.std.proofs.Common.{◌≡◌, List, ◌++◌, ◌∷◌, [], None, dr
 use Rattle.record_model.specs.declared.runs.Run.{Run}
 use Rattle.stream_runs.specs.Runs.{front}
 use Rattle.stream_runs.proofs.Looping.{takes, cuts_some, cuts_none, all_taken}
-use Rattle.stream_runs.proofs.sharing.front.Goals as goal
-use Rattle.stream_runs.proofs.sharing.front.Goals.{then-left-gt0+in_ok-push, else-left-gt0}
+use Rattle.stream_runs.proofs.sharing.front_of.Goals as goal
+use Rattle.stream_runs.proofs.sharing.front_of.Goals.{then-left-gt0+in_ok-push, else-left-gt0}
 
 abbrev none : Run
 none = record { vcn = 0; lcn = None; len = 0 }

@@ -8,8 +8,8 @@ use Rattle.state_model.specs.Loads.{total_clusters}
 use Rattle.stream_runs.specs.Runs.{touches, in_front, merged}
 use Rattle.stream_runs.proofs.Merging.{both, merged-cons, merged-nil}
 use Rattle.stream_runs.proofs.Looping.{total_next, joins, parts, all_joined}
-use Rattle.stream_runs.proofs.joining.merged.Goals as goal
-use Rattle.stream_runs.proofs.joining.merged.Goals.{then-touches, else-touches+in_ok-push}
+use Rattle.stream_runs.proofs.joining.joined.Goals as goal
+use Rattle.stream_runs.proofs.joining.joined.Goals.{then-touches, else-touches+in_ok-push}
 
 abbrev none : Run
 none = record { vcn = 0; lcn = None; len = 0 }

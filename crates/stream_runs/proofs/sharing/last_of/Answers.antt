@@ -1,7 +1,7 @@
 use Rattle.std.proofs.Common.{◌≡◌, ℕ, ◌+◌, ◌-◌, Option, Some, None, sym, ap, ◌∙◌}
 use Rattle.std.specs.Prelude.{option_map}
 use Rattle.stream_runs.proofs.Looping.{last_is}
-use Rattle.stream_runs.proofs.sharing.last_cluster.Goals as goal
+use Rattle.stream_runs.proofs.sharing.last_of.Goals as goal
 
 pub returns-in_err-lcn : goal.returns-in_err-lcn
 returns-in_err-lcn c =

@@ -1,6 +1,6 @@
 use Rattle.std.proofs.Common.{◌≡◌, [], drop}
 use Rattle.stream_runs.specs.Runs.{back}
-use Rattle.stream_runs.proofs.sharing.back.Given as goal
+use Rattle.stream_runs.proofs.sharing.back_of.Given as goal
 
 -- what is left has behind it what all have
 abbrev pub invariant-loop-i : goal.invariant-loop-i

@@ -5,7 +5,7 @@ use Rattle.record_model.specs.declared.runs.Run.{Run}
 use Rattle.record_model.specs.Runs.{IsSmall}
 use Rattle.stream_runs.specs.Runs.{IsNear}
 use Rattle.stream_runs.proofs.Looping.{vcn_at, all_near}
-use Rattle.stream_runs.proofs.sharing.back.Goals as goal
+use Rattle.stream_runs.proofs.sharing.back_of.Goals as goal
 
 abbrev none : Run
 none = record { vcn = 0; lcn = None; len = 0 }
