@@ -1,5 +1,5 @@
 //! File records in which a stream is in other clusters.
-ghost use Rattle.std.specs.Prelude.{◌≡◌, ◌≤◌, ◌^◌, IfOk, length};
+ghost use Rattle.std.specs.Prelude.{◌≡◌, ◌≤◌, ◌^◌, [], ◌∷◌, ◌++◌, IfOk, OnOk, length};
 ghost use Rattle.record_model.specs.Pairs.{HasSpelling};
 ghost use Rattle.record_streams.specs.Placing.{with_stream, placed_record};
 ghost use Rattle.record_streams.specs.Fitting.{FitsButRoom};
@@ -8,10 +8,18 @@ use crate::attribute::placed_attr;
 use file_record::FileRec;
 use host_base::Memory;
 use record_model::Attr;
-use record_writer::{push_copies, push_copy};
 use state_model::{ClusterSize, Extents};
 use std::alloc::{AllocError, Global};
 use stream_map::{attributes_of, is_attribute_of};
+
+// A copy of an attribute at the record's end.
+fn push_copy(attr: &Attr, to: &mut FileRec) -> Result<(), AllocError>
+    ensures { OnOk result (to.new ≡ record { head = to.old.head; attrs = to.old.attrs ++ attr.now ∷ [] }) }
+{
+    let copy = attr.clone()?;
+    to.push(copy)?;
+    Ok(())
+}
 
 // The record with this attribute in the place of the first one of a stream, whose others go.
 fn with_stream(
@@ -27,9 +35,9 @@ fn with_stream(
     let mut is_put = false;
     for attr in file.attrs().as_slice() {
         if !is_attribute_of(kind, name, attr) {
-            push_copy(alloc, attr, &mut out)?;
+            push_copy(attr, &mut out)?;
         } else if !is_put {
-            push_copy(alloc, new, &mut out)?;
+            push_copy(new, &mut out)?;
             is_put = true;
         }
     }
@@ -41,7 +49,9 @@ fn copied(alloc: Global, file: &FileRec) -> Result<FileRec, AllocError>
     ensures { IfOk result (λ r. r ≡ file.now) }
 {
     let mut out = FileRec::empty(alloc, file.head());
-    push_copies(alloc, file.attrs().as_slice(), &mut out)?;
+    for attr in file.attrs().as_slice() {
+        push_copy(attr, &mut out)?;
+    }
     Ok(out)
 }
 

@@ -33,8 +33,7 @@ fn copy_attr(alloc: Global, attr: &Attr) -> Result<Attr, AllocError>
     })
 }
 
-/// A copy of the attribute at the record's end. The error is want of memory, and leaves the record.
-/// It takes time and memory linear in the attribute.
+// A copy of the attribute at the record's end.
 pub fn push_copy(alloc: Global, attr: &Attr, to: &mut FileRec) -> Result<(), AllocError>
     ensures value { OnOk result (to.new ≡ record { head = to.old.head; attrs = to.old.attrs ++ attr.now ∷ [] }) }
 {
@@ -43,8 +42,7 @@ pub fn push_copy(alloc: Global, attr: &Attr, to: &mut FileRec) -> Result<(), All
     Ok(())
 }
 
-/// Copies of the attributes, in their order, at the record's end. The error is want of memory. It
-/// takes time and memory linear in the attributes.
+// Copies of the attributes, in their order, at the record's end.
 pub fn push_copies(alloc: Global, attrs: &[Attr], to: &mut FileRec) -> Result<(), AllocError>
     ensures value { OnOk result (to.new ≡ record { head = to.old.head; attrs = to.old.attrs ++ attrs.now }) }
 {

@@ -18,7 +18,6 @@ mod spelled;
 mod written;
 
 pub use attrs::write_attr;
-pub use copying::{push_copies, push_copy};
 pub use fault::RoomFault;
 pub use file_record::FileRec;
 pub use laws::{

@@ -1,4 +1,4 @@
-use Rattle.std.proofs.Common.{◌≡◌, ℕ, ◌+◌, ◌≤◌, List, ◌++◌, map, sym, ap, ◌∙◌, subst, arith}
+use Rattle.std.proofs.Common.{◌≡◌, ℕ, ◌+◌, ◌≤◌, List, ◌++◌, map, sym, ap, ap₂, ◌∙◌, subst, arith}
 use Rattle.record_model.specs.declared.runs.Run.{Run}
 use Rattle.record_model.specs.Pairs.{cluster_limit, Follow}
 use Rattle.record_model.specs.Runs.{AreSmall}
@@ -15,8 +15,8 @@ joined-requires-clause-few c =
     let all : c.deref.result.now ≡ runs ++ map (moved (total_clusters runs)) more =
         c.deref.ensures.value
         ∙ c.in_ok-push_moved.ensures
-        ∙ ap (λ (l : List Run). l ++ map (moved c.total_clusters.result) more) (c.in_ok-extend_from_slice.ensures.items ∙ ap (λ (l : List Run). l ++ runs) c.new-all.ensures.items)
-        ∙ ap (λ (n : ℕ). runs ++ map (moved n) more) c.total_clusters.ensures
+        ∙ ap₂ (λ (l : List Run) (k : List Run). l ++ map (moved c.total_clusters.result) k) (c.in_ok-extend_from_slice.ensures.items ∙ ap₂ ◌++◌ c.new-all.ensures.items c.as_slice-old.ensures.value) c.as_slice.ensures.value
+        ∙ ap (λ (n : ℕ). runs ++ map (moved n) more) (c.total_clusters.ensures ∙ ap total_clusters c.as_slice-old.ensures.value)
       in
     let sum = total-append runs (map (moved (total_clusters runs)) more) in
     omega (arith, ap total_clusters all, sum, total-moved (total_clusters runs) more, c.requires.few)
@@ -29,8 +29,8 @@ joined-requires-clause-small c =
     let all : c.deref.result.now ≡ runs ++ map (moved t) more =
         c.deref.ensures.value
         ∙ c.in_ok-push_moved.ensures
-        ∙ ap (λ (l : List Run). l ++ map (moved c.total_clusters.result) more) (c.in_ok-extend_from_slice.ensures.items ∙ ap (λ (l : List Run). l ++ runs) c.new-all.ensures.items)
-        ∙ ap (λ (n : ℕ). runs ++ map (moved n) more) c.total_clusters.ensures
+        ∙ ap₂ (λ (l : List Run) (k : List Run). l ++ map (moved c.total_clusters.result) k) (c.in_ok-extend_from_slice.ensures.items ∙ ap₂ ◌++◌ c.new-all.ensures.items c.as_slice-old.ensures.value) c.as_slice.ensures.value
+        ∙ ap (λ (n : ℕ). runs ++ map (moved n) more) (c.total_clusters.ensures ∙ ap total_clusters c.as_slice-old.ensures.value)
       in
     let e : t + 0 ≡ 0 + t = omega arith in
     let behind = subst (λ (k : ℕ). Follow 0 k (map (moved t) more)) e (follow-moved t 0 more c.requires.more (omega (arith, c.requires.few))) in

@@ -1,6 +1,6 @@
-use Rattle.std.proofs.Common.{◌≡◌, ◌+◌, ◌∷◌, [], None, arith, sym, subst}
+use Rattle.std.proofs.Common.{◌≡◌, ◌+◌, List, ◌∷◌, ◌++◌, [], drop, None, arith, sym, ap, ◌∙◌, subst}
 use Rattle.std.specs.Prelude.{All}
-use Rattle.std.proofs.lemmas.List.Elements.{All-get_or, All-drop, All-append, All-cons, All-nil}
+use Rattle.std.proofs.lemmas.List.Elements.{All-get_or, All-drop, All-take, All-append, All-cons, All-nil}
 use Rattle.record_model.specs.declared.runs.Run.{Run}
 use Rattle.record_model.specs.Runs.{IsSmall}
 use Rattle.stream_runs.specs.Runs.{IsNear}
@@ -19,5 +19,6 @@ pub returns-then-run-left-clause-near : goal.returns-then-run-left-clause-near
 returns-then-run-left-clause-near c =
     let rest = All-drop IsNear (c.loop-i.i + 1) c.args.runs.now (all_near c.args.runs.now c.requires.small) in
     let first : All IsNear (c.behind.result ∷ []) = All-cons IsNear c.behind.result [] c.behind.ensures.near (All-nil IsNear) in
-    let front : All IsNear c.push.new.self.items = (let e : c.push.new.self.items ≡ c.behind.result ∷ [] = cc in subst (All IsNear) (sym e) first) in
-    subst (All IsNear) (sym c.in_ok-extend_from_slice.ensures.items) (All-append IsNear c.push.new.self.items _ front rest)
+    let pushed : c.push.new.self.items ≡ c.behind.result ∷ [] = c.in_ok-push.ensures.items ∙ ap (λ (l : List Run). l ++ c.behind.result ∷ []) c.loop-i.invariant.none in
+    let front : All IsNear c.push.new.self.items = subst (All IsNear) (sym pushed) first in
+    subst (All IsNear) (sym c.in_ok-extend_from_slice.ensures.items) (All-append IsNear c.push.new.self.items _ front (All-take IsNear _ (drop (c.loop-i.i + 1) c.args.runs.now) rest))
