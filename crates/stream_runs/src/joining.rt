@@ -80,11 +80,7 @@ fn moved(clusters: u64, run: &Run) -> Run
 }
 
 // These runs behind others, so many clusters further back.
-fn push_moved(
-    all: &mut Vec<Run>,
-    clusters: u64,
-    more: &[Run],
-) -> Result<(), AllocError>
+fn push_moved(all: &mut Vec<Run>, clusters: u64, more: &[Run]) -> Result<(), AllocError>
     requires clusters { clusters ≤ cluster_limit }
     requires spelled { HasSpelling 0 more.now }
     ensures { OnOk result (all.new.items ≡ all.old.items ++ map (moved clusters) more.now) }
