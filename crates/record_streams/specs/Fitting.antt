@@ -1,11 +1,12 @@
 -- Records that have a spelling but for their room.
-use Rattle.std.specs.Prelude.{ℕ, ◌≤◌, ◌<◌, ◌^◌, List, length, map, All, IsTrue}
+use Rattle.std.specs.Prelude.{◌≡◌, ℕ, ◌≤◌, ◌<◌, ◌^◌, ◌==◌, false, List, length, map, All, IsTrue}
 use Rattle.record_model.specs.declared.attribute.Attr.{Attr}
 use Rattle.record_model.specs.Attributes.{spelling, FitsAttr}
-use Rattle.record_model.specs.Constants.{end_mark}
+use Rattle.record_model.specs.Constants.{end_mark, standard_information, file_name}
 use Rattle.record_model.specs.Records.{Record, TypesRise, FitsHead}
 use Rattle.record_model.specs.Values.{has_lawful_value}
 use Rattle.record_writer.specs.Normal.{normal}
+use Rattle.state_model.specs.declared.stream.Extents.{Extents}
 
 -- an attribute that stands in some record as it is written, of at most so many bytes
 pub record IsShort (a : Attr) : Type 0 where
@@ -20,3 +21,14 @@ pub record FitsButRoom (r : Record) : Type 0 where
   pub attrs : All IsShort r.attrs
   pub rise : TypesRise r.attrs
   pub few : length r.attrs ≤ 2 ^ 10
+
+-- streams of this type may stand in clusters: it is neither that of standard information nor that of file names
+pub record IsPlaceable (kind : ℕ) : Type 0 where
+  pub not_info : (kind == standard_information) ≡ false
+  pub not_name : (kind == file_name) ≡ false
+
+-- sizes that fit the fields of an attribute
+pub record HasFields (e : Extents) : Type 0 where
+  pub allocated : e.allocated < 2 ^ 64
+  pub real : e.real < 2 ^ 64
+  pub initialised : e.initialised < 2 ^ 64
