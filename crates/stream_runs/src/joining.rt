@@ -96,7 +96,7 @@ fn push_moved(all: &mut Vec<Run>, clusters: u64, more: &[Run]) -> Result<(), All
 /// most 2^32 clusters together. The error is want of memory. It takes time and memory linear in the
 /// runs.
 #[tactic(auto, unfolding(crate::specs::Runs::grown))]
-pub fn grown(alloc: Global, runs: &Runs, more: &Runs) -> Result<Runs, Memory>
+pub fn grown(alloc: Global, runs: &Runs, more: &[Run]) -> Result<Runs, Memory>
     requires spelled { HasSpelling 0 runs.now }
     requires more { HasSpelling 0 more.now }
     requires few { total_clusters runs.now + total_clusters more.now ≤ cluster_limit }
@@ -105,6 +105,6 @@ pub fn grown(alloc: Global, runs: &Runs, more: &Runs) -> Result<Runs, Memory>
     let mut all = Vec::new(alloc);
     let old = runs.as_slice();
     all.extend_from_slice(old)?;
-    push_moved(&mut all, total_clusters(old), more.as_slice())?;
+    push_moved(&mut all, total_clusters(old), more)?;
     joined(alloc, &all)
 }

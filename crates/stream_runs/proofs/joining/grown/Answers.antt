@@ -15,7 +15,7 @@ joined-requires-clause-few c =
     let all : c.deref.result.now ≡ runs ++ map (moved (total_clusters runs)) more =
     c.deref.ensures.value
     ∙ c.in_ok-push_moved.ensures
-    ∙ ap₂ (λ (l : List Run) (k : List Run). l ++ map (moved c.total_clusters.result) k) (c.in_ok-extend_from_slice.ensures.items ∙ ap₂ ◌++◌ c.new-all.ensures.items c.as_slice-old.ensures.value) c.as_slice.ensures.value
+    ∙ ap (λ (l : List Run). l ++ map (moved c.total_clusters.result) more) (c.in_ok-extend_from_slice.ensures.items ∙ ap₂ ◌++◌ c.new-all.ensures.items c.as_slice-old.ensures.value)
     ∙ ap (λ (n : ℕ). runs ++ map (moved n) more) (c.total_clusters.ensures ∙ ap total_clusters c.as_slice-old.ensures.value)
     in
     let sum = total-append runs (map (moved (total_clusters runs)) more) in
@@ -29,7 +29,7 @@ joined-requires-clause-small c =
     let all : c.deref.result.now ≡ runs ++ map (moved t) more =
     c.deref.ensures.value
     ∙ c.in_ok-push_moved.ensures
-    ∙ ap₂ (λ (l : List Run) (k : List Run). l ++ map (moved c.total_clusters.result) k) (c.in_ok-extend_from_slice.ensures.items ∙ ap₂ ◌++◌ c.new-all.ensures.items c.as_slice-old.ensures.value) c.as_slice.ensures.value
+    ∙ ap (λ (l : List Run). l ++ map (moved c.total_clusters.result) more) (c.in_ok-extend_from_slice.ensures.items ∙ ap₂ ◌++◌ c.new-all.ensures.items c.as_slice-old.ensures.value)
     ∙ ap (λ (n : ℕ). runs ++ map (moved n) more) (c.total_clusters.ensures ∙ ap total_clusters c.as_slice-old.ensures.value)
     in
     let e : t + 0 ≡ 0 + t = omega arith in
