@@ -1,3 +1,4 @@
 pub mod Spelled
 pub mod Kept
 pub mod Streams
+pub mod Fits

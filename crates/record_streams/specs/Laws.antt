@@ -11,8 +11,7 @@ use Rattle.state_model.specs.Streams.{attributes_of, stream_of}
 use Rattle.record_streams.specs.Placing.{placed_attr, placed_record}
 use Rattle.record_streams.specs.Fitting.{FitsButRoom}
 
--- A record that has a spelling has one but for its room; and one that has one but for its room has one exactly where it has room. So
--- has the record in which a stream is placed, in not too many runs.
+-- A record that has a spelling has one but for its room; and one that has one but for its room has one exactly where it has room.
 pub record PlacedFits : Type 0 where
   pub spelled : (r : Record) → FitsRecord (normal_record r) → FitsButRoom r
   pub by_room : (r : Record) → FitsButRoom r → FitsByRoom r
