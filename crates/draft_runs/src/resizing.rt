@@ -45,12 +45,7 @@ fn lengthened(
     ensures { IfOk result (λ e. e ≡ lengthened per more.now extents.now) }
 {
     let runs = grown(alloc, &extents.runs, more)?;
-    Ok(allocated_in(
-        per,
-        runs,
-        extents.real,
-        extents.initialised,
-    ))
+    Ok(allocated_in(per, runs, extents.real, extents.initialised))
 }
 
 /// Takes so many clusters for a stream, as [`choose`] does behind its last one, and makes the record
@@ -121,12 +116,7 @@ fn shortened(
 {
     let kept = front(alloc, clusters_for(per, size), &extents.runs)?;
     let runs = merged(alloc, &kept)?;
-    Ok(allocated_in(
-        per,
-        runs,
-        size,
-        extents.initialised.min(size),
-    ))
+    Ok(allocated_in(per, runs, size, extents.initialised.min(size)))
 }
 
 /// Cuts a stream to this size in bytes, which is at most its own: its record keeps the clusters that

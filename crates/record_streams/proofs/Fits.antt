@@ -1,6 +1,6 @@
 -- A record in which a stream is placed has a spelling but for its room.
 use Rattle.std.proofs.Common.{◌≡◌, ℕ, ◌≤◌, ◌^◌, true, List, [], ◌∷◌, length, refl, sym, ap, ◌∙◌, subst, arith}
-use Rattle.std.specs.Prelude.{All}
+use Rattle.std.specs.Prelude.{All, IfOk, Result, Ok, Err}
 use Rattle.std.proofs.lemmas.List.Elements.{All-head, All-filter}
 use Rattle.record_model.specs.declared.attribute.Attr.{Attr}
 use Rattle.record_model.specs.Pairs.{HasSpelling}
@@ -28,3 +28,7 @@ fits_by per kind name e r (a ∷ others) is size spelled few fields may fits =
 
 pub fits_placed : (per kind : ℕ) (name : List ℕ) (e : Extents) (r : Record) → per ≤ 8 → HasSpelling 0 e.runs → length e.runs ≤ 2 ^ 16 → HasFields e → IsPlaceable kind → FitsButRoom r → FitsButRoom (placed_record per kind name e r)
 fits_placed per kind name e r size spelled few fields may fits = fits_by per kind name e r (attributes_of kind name r.attrs) refl size spelled few fields may fits
+
+pub fits_answer : {E : Type 0} (answer : Result Record E) (r : Record) → IfOk answer (λ s. s ≡ r) → FitsButRoom r → IfOk answer FitsButRoom
+fits_answer (Ok s) r is fits = subst FitsButRoom (sym is) fits
+fits_answer (Err e) r is fits = tt

@@ -118,10 +118,10 @@ rise_filter p least (a ∷ attrs) rise = rise_step p least a attrs (p a) refl ri
 
 -- ---- one attribute in the place of a stream's
 
-with_none : (kind : ℕ) (name : List ℕ) (new a : Attr) (attrs : List Attr) → is_attribute_of kind name a ≡ false → with_stream kind name new (a ∷ attrs) ≡ a ∷ with_stream kind name new attrs
+pub with_none : (kind : ℕ) (name : List ℕ) (new a : Attr) (attrs : List Attr) → is_attribute_of kind name a ≡ false → with_stream kind name new (a ∷ attrs) ≡ a ∷ with_stream kind name new attrs
 with_none kind name new a attrs is = ap (λ (t : Bool). cond t (new ∷ without_stream kind name attrs) (a ∷ with_stream kind name new attrs)) is
 
-with_one : (kind : ℕ) (name : List ℕ) (new a : Attr) (attrs : List Attr) → is_attribute_of kind name a ≡ true → with_stream kind name new (a ∷ attrs) ≡ new ∷ without_stream kind name attrs
+pub with_one : (kind : ℕ) (name : List ℕ) (new a : Attr) (attrs : List Attr) → is_attribute_of kind name a ≡ true → with_stream kind name new (a ∷ attrs) ≡ new ∷ without_stream kind name attrs
 with_one kind name new a attrs is = ap (λ (t : Bool). cond t (new ∷ without_stream kind name attrs) (a ∷ with_stream kind name new attrs)) is
 
 rise_with : (kind : ℕ) (name : List ℕ) (new : Attr) (least : ℕ) (attrs : List Attr) → ((a : Attr) → is_attribute_of kind name a ≡ true → a.head.kind ≡ new.head.kind) → RiseFrom least attrs → RiseFrom least (with_stream kind name new attrs)

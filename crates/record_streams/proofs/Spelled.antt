@@ -81,7 +81,7 @@ bytes_small held per few size =
 
 lawful_by : (a : Attr) → IsPlaceable a.head.kind → IsTrue (has_lawful_value a)
 unfolding has_lawful_value
-lawful_by a may = rw (may.not_info, may.not_name) tt
+lawful_by a may = rw (may.not_info, may.not_name) refl
 
 pub short_placed : (per : ℕ) (e : Extents) (a : Attr) → per ≤ 8 → HasSpelling 0 e.runs → length e.runs ≤ 2 ^ 16 → HasFields e → IsPlaceable a.head.kind → IsShort a → IsShort (placed_attr per e a)
 short_placed per e a size spelled few fields may old =

@@ -17,7 +17,11 @@ use utf16_name::Units;
 fn last_vcn(clusters: u64) -> u64
     ensures { result ≡ last_vcn clusters }
 {
-    if clusters == 0 { u64::MAX } else { clusters - 1 }
+    if clusters == 0 {
+        u64::MAX
+    } else {
+        clusters - 1
+    }
 }
 
 // The clusters that the volume holds of a run.

@@ -8,16 +8,43 @@ ghost use Rattle.record_streams.specs.Fitting.{FitsButRoom, IsPlaceable, HasFiel
 use crate::attribute::placed_attr;
 use file_record::FileRec;
 use host_base::Memory;
-use record_model::Attr;
+use record_model::{Attr, OwnForm};
 use state_model::{ClusterSize, Extents};
 use std::alloc::{AllocError, Global};
 use stream_map::{attributes_of, is_attribute_of};
+
+// A copy of the form.
+fn copy_form(form: &OwnForm) -> Result<OwnForm, AllocError>
+    ensures { IfOk result (λ f. f ≡ form.now) }
+{
+    match form {
+        OwnForm::Resident { value, indexed } => Ok(OwnForm::Resident {
+            value: value.clone()?,
+            indexed: *indexed,
+        }),
+        OwnForm::Mapped { sizes, pairs } => Ok(OwnForm::Mapped {
+            sizes: *sizes,
+            pairs: pairs.clone()?,
+        }),
+    }
+}
+
+// A copy of the attribute.
+fn copy_attr(attr: &Attr) -> Result<Attr, AllocError>
+    ensures { IfOk result (λ a. a ≡ attr.now) }
+{
+    Ok(Attr {
+        head: attr.head,
+        name: attr.name.clone()?,
+        form: copy_form(&attr.form)?,
+    })
+}
 
 // A copy of an attribute at the record's end.
 fn push_copy(attr: &Attr, to: &mut FileRec) -> Result<(), AllocError>
     ensures { OnOk result (to.new ≡ record { head = to.old.head; attrs = to.old.attrs ++ attr.now ∷ [] }) }
 {
-    let copy = attr.clone()?;
+    let copy = copy_attr(attr)?;
     to.push(copy)?;
     Ok(())
 }
