@@ -1,3 +1,3 @@
 pub mod Marking
-pub mod Resizing
+pub mod Putting
 pub mod Effects

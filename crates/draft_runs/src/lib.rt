@@ -5,18 +5,13 @@
 mod laws;
 mod marking;
 mod putting;
-mod resized;
-mod resizing;
 
 pub use block_view::{View, ViewFault};
 pub use draft_records::DraftFault;
-pub use file_record::FileRec;
 pub use laws::runs_are_put;
 pub use marking::put_runs;
 pub use plan_draft::Draft;
-pub use plan_space::{FreeBits, SpaceFault};
 pub use putting::put_resized;
 pub use record_model::Run;
-pub use resized::Resized;
-pub use resizing::{cut, grow};
+pub use resized_streams::Resized;
 pub use state_model::{ClusterSize, Extents};

@@ -7,14 +7,14 @@ ghost use Rattle.record_streams.specs.Fitting.{FitsButRoom};
 ghost use Rattle.plan_draft.specs.Faults.{fault_cause};
 ghost use Rattle.draft_records.specs.Faults.{draft_cause};
 ghost use Rattle.draft_records.specs.Records.{fits_room, StaysWhereFull};
-ghost use Rattle.draft_runs.specs.Resizing.{PutsMarks, PutsMarksFront, PutsResized, PutsResizedFront};
+ghost use Rattle.draft_runs.specs.Putting.{PutsMarks, PutsMarksFront, PutsResized, PutsResizedFront};
 
 use crate::marking::put_runs;
-use crate::resized::Resized;
 use block_view::{View, ViewFault};
 use draft_records::{DraftFault, put_file};
 use plan_draft::Draft;
 use record_model::Run;
+use resized_streams::Resized;
 use state_model::{ClusterSize, Extents};
 use std::alloc::Global;
 

@@ -6,7 +6,7 @@ ghost use Rattle.space_model.specs.Choosing.{chosen, with_runs};
 ghost use Rattle.plan_space.specs.declared.fault.SpaceFault.TheVariants.{Short, Memory as no_memory};
 ghost use Rattle.state_model.specs.Loads.{total_clusters};
 ghost use Rattle.stream_runs.specs.Runs.{last_cluster, IsNear};
-ghost use Rattle.draft_runs.specs.Resizing.{allocated_in, lengthened, clusters_for, shortened, IsGrown, IsCut};
+ghost use Rattle.resized_streams.specs.Resizing.{allocated_in, lengthened, clusters_for, shortened, IsGrown, IsCut};
 
 use crate::resized::Resized;
 use file_record::FileRec;
