@@ -3,7 +3,6 @@ ghost use Rattle.std.specs.Prelude.{◌≡◌, ◌<◌, ◌^◌, All, IfSome, On
 ghost use Rattle.block_view.specs.Views.{AsksView};
 ghost use Rattle.stream_runs.specs.Runs.{IsNear};
 ghost use Rattle.plan_draft.specs.Faults.{fault_cause};
-ghost use Rattle.draft_bits.specs.Effects.{IsKept};
 ghost use Rattle.draft_runs.specs.Marking.{PutsRun, PutsRuns, PutsRunFront, PutsRunsFront};
 
 use block_view::{View, ViewFault};
@@ -26,7 +25,6 @@ fn put_run<V: View>(
     requires size { bitmap.now.initialised < 2 ^ 63 }
     ensures put { OnOk result (IfSome (V.content draft.old.view.now) (λ c. PutsRun c per bitmap.now value run.now.len run.now.lcn draft.old.touched.items draft.new.touched.items)) }
     ensures front { OnErr result (IfSome (V.content draft.old.view.now) (λ c. PutsRunFront c per bitmap.now value run.now.len run.now.lcn draft.old.touched.items draft.new.touched.items)) }
-    ensures whole { IsKept draft.new.touched.items }
     ensures asks { AsksView V.content V.kept V.faults fault_cause draft.old.view.now draft.new.view.now result }
     ensures reference { draft.new.view.ghost_name ≡ draft.old.view.ghost_name }
 {

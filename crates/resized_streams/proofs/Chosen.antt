@@ -1,6 +1,6 @@
 -- Chosen runs behind those of a stream.
 use Rattle.std.proofs.Common.{◌≡◌, ℕ, ◌+◌, ◌*◌, ◌^◌, ◌%◌, ◌-◌, ◌<◌, ◌≤◌, Bool, true, false, cond, eqb, List, [], ◌∷◌, ◌++◌, length, map, inl, inr, Option, Some, None, refl, sym, ap, ◌∙◌, subst, arith}
-use Rattle.std.specs.Prelude.{not, count_by, IfSome, All, min}
+use Rattle.std.specs.Prelude.{not, count_by, IfSome, min, Result, Ok, Err}
 use Rattle.std.proofs.lemmas.List.{length-append, length-map}
 use Rattle.record_model.specs.declared.runs.Run.{Run}
 use Rattle.record_model.specs.Pairs.{cluster_limit, Follow, HasSpelling}
@@ -11,6 +11,7 @@ use Rattle.space_model.proofs.Lawful.{chosen_are_free}
 use Rattle.space_model.proofs.Searching.{length-with_run}
 use Rattle.stream_runs.specs.Runs.{touches, in_front, merged, moved, grown, front}
 use Rattle.stream_runs.proofs.Merging.{both, total-merged, total-append, total-moved, follow-merged, follow-grown}
+use Rattle.record_streams.proofs.Spelled.{total_few}
 use Rattle.stream_runs.proofs.Parts.{total-front, follow-front}
 use Rattle.stream_runs.proofs.Places.{cut, kept, front_whole, front_cut}
 use Rattle.std.proofs.lemmas.Bool.{cases_lt}
@@ -81,3 +82,19 @@ shorter_count clusters (r ∷ runs) = elim (cases_lt clusters r.len) [
   | inl less ↦ omega (arith, ap length (front_cut clusters r runs less), kept_count clusters r (eqb clusters 0))
   | inr le ↦ omega (arith, ap length (front_whole clusters r runs le), shorter_count (clusters - r.len) runs)
 ]
+
+-- so many were clear, where they are chosen
+pub enough_of : {X E : Type 0} (answer : Result X E) (x : X) (e : E) (room wanted : ℕ) → answer ≡ Ok x → (room < wanted → answer ≡ Err e) → wanted ≤ room
+enough_of answer x e room wanted was short = elim (cases_lt room wanted) [
+  | inl less ↦ (let clash : Err e ≡ Ok x = sym (short less) ∙ was in absurd cc)
+  | inr le ↦ le
+]
+
+pub few_front : (clusters : ℕ) (runs : List Run) → HasSpelling 0 runs → total_clusters (front clusters runs) ≤ cluster_limit
+few_front clusters runs spelled = omega (arith, total-front clusters runs, total_few 0 0 runs spelled (omega arith))
+
+pub follow_shortened : (clusters : ℕ) (runs : List Run) → HasSpelling 0 runs → HasSpelling 0 (merged (front clusters runs))
+follow_shortened clusters runs spelled = follow-merged 0 0 (front clusters runs) (follow-front 0 0 clusters runs spelled)
+
+pub shortened_count : (clusters : ℕ) (runs : List Run) → length (merged (front clusters runs)) ≤ length runs
+shortened_count clusters runs = omega (arith, merged_count (front clusters runs), shorter_count clusters runs)
