@@ -15,7 +15,7 @@ use Rattle.space_model.proofs.Searching.{with_run-inside, with_run-others}
 use Rattle.volume_model.specs.Owners.{uses, covers, covers_from}
 use Rattle.stream_laws.proofs.Placing.{uses-cons, uses-append}
 use Rattle.stream_laws.proofs.Sharing.{uses-none}
-use Rattle.step_model.specs.Runs.{last_cluster}
+use Rattle.stream_runs.specs.Runs.{last_cluster}
 use Rattle.step_model.specs.Placing.{Growth, more_of, AllPlaced, taken_runs, wanted_by, PlacedOnce}
 
 -- ---- one cluster

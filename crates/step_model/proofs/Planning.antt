@@ -18,7 +18,7 @@ use Rattle.tree_model.specs.declared.reply.Reply.{Reply}
 use Rattle.tree_model.specs.Walks.{reached, reached_directory}
 use Rattle.tree_model.specs.Needs.{changes_file}
 use Rattle.tree_model.specs.Refusals.{parent_path, new_name}
-use Rattle.step_model.specs.Runs.{last_cluster}
+use Rattle.stream_runs.specs.Runs.{last_cluster}
 use Rattle.step_model.specs.Placing.{Growth, more_of, AllPlaced, taken_runs}
 use Rattle.step_model.specs.Used.{used_after, value_attr, stays_in}
 use Rattle.step_model.specs.Streams.{Wanted, stream_in, attr_in, as_value, in_clusters, comes, data_comes, wanted_bits, wanted_table, table_comes, wanted_blocks, wanted_used, own_comes, used_behind, with_own, no_change, one_change, blocks_size, index_comes, wanted_entries, entries_come}

@@ -1,4 +1,3 @@
-pub mod Runs
 pub mod Placing
 pub mod Used
 pub mod Streams

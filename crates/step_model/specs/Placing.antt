@@ -8,7 +8,7 @@ use Rattle.space_model.specs.Laws.{clusters_of}
 use Rattle.state_model.specs.Loads.{total_clusters}
 use Rattle.volume_model.specs.Owners.{uses}
 use Rattle.stream_laws.specs.Sharing.{StreamKey}
-use Rattle.step_model.specs.Runs.{merged, grown, front, last_cluster}
+use Rattle.stream_runs.specs.Runs.{merged, grown, front, last_cluster}
 
 -- A stream that comes to have so many clusters: its runs so far, those that it takes, and whether it stands in its record then, where it has
 -- none.

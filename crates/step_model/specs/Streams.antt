@@ -22,7 +22,7 @@ use Rattle.tree_model.specs.declared.script.Op.{Op}
 use Rattle.tree_model.specs.Needs.{size_after, clusters_for, chunk_clusters}
 use Rattle.tree_model.specs.Effects.{valid_after, clusters_after}
 use Rattle.tree_model.specs.Refusals.{more_records}
-use Rattle.step_model.specs.Runs.{last_cluster}
+use Rattle.stream_runs.specs.Runs.{last_cluster}
 use Rattle.step_model.specs.Placing.{Growth, runs_after}
 use Rattle.step_model.specs.Used.{used_after, new_attr, own_attr, value_attr, placed_attr, stays_in}
 

@@ -5,7 +5,7 @@ use Rattle.record_model.specs.Attributes.{front_spelling, resident_spelling, map
 use Rattle.record_model.specs.Pairs.{signed_width, least_width, signed_bytes, pair_of, pairs_from, pairs_of}
 use Rattle.space_model.specs.Choosing.{clear_front, longest_clear, lowest_fit, with_run, at_once, chosen_anywhere, behind, chosen, with_runs}
 use Rattle.state_model.specs.Streams.{is_attribute_of, attributes_of, stream_of, attribute_runs}
-use Rattle.step_model.specs.Runs.{merged, grown, front}
+use Rattle.stream_runs.specs.Runs.{merged, grown, front}
 use Rattle.step_model.specs.Placing.{runs_after}
 use Rattle.step_model.specs.Used.{attrs_with, used_after, own_attr}
 use Rattle.step_model.specs.Streams.{in_clusters, comes, data_comes}

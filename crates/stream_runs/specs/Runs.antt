@@ -1,5 +1,5 @@
 -- The runs of a stream that comes to have more clusters, or fewer.
-use Rattle.std.specs.Prelude.{ℕ, ◌+◌, ◌-◌, Bool, true, false, ◌==◌, nat_le, if◌then◌else◌, List, [], ◌∷◌, ◌++◌, map, Option, Some, None}
+use Rattle.std.specs.Prelude.{ℕ, ◌+◌, ◌-◌, ◌^◌, ◌<◌, IfSome, Bool, true, false, ◌==◌, nat_le, if◌then◌else◌, List, [], ◌∷◌, ◌++◌, map, Option, Some, None}
 use Rattle.std.specs.Option.{option_map}
 use Rattle.record_model.specs.declared.runs.Run.{Run}
 use Rattle.state_model.specs.Loads.{total_clusters}
@@ -36,6 +36,19 @@ front clusters (r ∷ runs) =
     if nat_le r.len clusters then r ∷ front (clusters - r.len) runs
     else if clusters == 0 then []
     else record { vcn = r.vcn; lcn = r.lcn; len = clusters } ∷ []
+
+-- a run without its first so many clusters
+abbrev pub behind : ℕ → Run → Run
+behind clusters r = record { vcn = r.vcn + clusters; lcn = option_map (λ lcn. lcn + clusters) r.lcn; len = r.len - clusters }
+
+-- what is behind the first so many
+unfoldable pub back : ℕ → List Run → List Run
+back clusters [] = []
+back clusters (r ∷ runs) = if nat_le r.len clusters then back (clusters - r.len) runs else behind clusters r ∷ runs
+
+-- the run lies below cluster 2 ^ 34, or is sparse
+abbrev pub IsNear : Run → Type 0
+IsNear r = IfSome r.lcn (λ lcn. lcn + r.len < 2 ^ 34)
 
 -- the last cluster of a stream, if it has one and that isn't sparse
 abbrev pub last_cluster : List Run → Option ℕ

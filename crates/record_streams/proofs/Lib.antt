@@ -1,0 +1,4 @@
+pub mod Spelled
+pub mod Kept
+pub mod Streams
+pub mod Fits

@@ -1,0 +1,13 @@
+//! A file of which a stream takes clusters or gives some back: its record, and the runs that come
+//! and go.
+#![tactic(auto)]
+
+mod resized;
+mod resizing;
+
+pub use file_record::FileRec;
+pub use plan_space::{FreeBits, SpaceFault};
+pub use record_model::Run;
+pub use resized::Resized;
+pub use resizing::{cut, grow};
+pub use state_model::{ClusterSize, Extents};

@@ -1,0 +1,13 @@
+use file_record::FileRec;
+use record_model::Run;
+use state_model::Extents;
+
+/// A file of which a stream took clusters or gave some back: its record, the stream's clusters and
+/// sizes, and the runs that came and went.
+#[derive(Debug, Drop)]
+pub struct Resized {
+    pub file: FileRec,
+    pub extents: Extents,
+    pub taken: Vec<Run>,
+    pub freed: Vec<Run>,
+}

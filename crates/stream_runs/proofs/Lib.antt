@@ -1,0 +1,4 @@
+pub mod Merging
+pub mod Places
+pub mod Parts
+pub mod Looping
