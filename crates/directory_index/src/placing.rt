@@ -1,6 +1,5 @@
 //! Where a directory's index lies.
 ghost use Rattle.std.specs.Prelude.{◌≡◌, IfOk, IfSome};
-ghost use Rattle.stream_map.specs.Runs.{HasSmallRuns};
 ghost use Rattle.index_tree.specs.Places.{place_of};
 ghost use Rattle.volume_model.specs.Indexes.{stream_blocks, index_stream, index_place, root_value};
 ghost use Rattle.directory_index.specs.Placed.{root_in};
@@ -14,7 +13,6 @@ use std::alloc::Global;
 
 // The blocks of a stream; a value in the record has none.
 fn stream_blocks(alloc: Global, per: ClusterSize, stream: Option<Stream>) -> BlockList
-    requires small { IfSome stream HasSmallRuns }
     ensures { result ≡ stream_blocks per stream }
 {
     match stream {

@@ -2,7 +2,6 @@
 ghost use Rattle.std.specs.Prelude.{◌≡◌, IfOk, IfSome, find};
 ghost use Rattle.std.specs.Option.{option_copied};
 ghost use Rattle.state_model.specs.Indexes.{is_names_root};
-ghost use Rattle.stream_map.specs.Runs.{HasSmallRuns};
 ghost use Rattle.volume_model.specs.Indexes.{form_value, root_value, index_stream};
 
 use file_record::FileRec;
@@ -53,7 +52,6 @@ pub fn root_value(file: &FileRec) -> Option<&Bytes>
 #[tactic(auto, unfolding(volume_model::specs::Indexes::index_stream))]
 pub fn index_stream(alloc: Global, file: &FileRec) -> Result<Option<Stream>, Memory>
     ensures value { IfOk result (λ stream. stream ≡ index_stream file.now) }
-    ensures small { IfOk result (λ stream. IfSome stream HasSmallRuns) }
 {
     stream_of(
         alloc,

@@ -1,7 +1,6 @@
 //! Bits that a draft puts into the sectors of a bitmap.
 ghost use Rattle.std.specs.Prelude.{◌≡◌, ◌+◌, ◌-◌, ◌*◌, ◌/◌, ◌%◌, ◌<◌, ◌≤◌, ◌^◌, IfOk, IfSome, OnOk, OnErr, length};
 ghost use Rattle.block_view.specs.Views.{AsksView};
-ghost use Rattle.stream_map.specs.Runs.{AreSmall};
 ghost use Rattle.plan_draft.specs.Drafts.{drafted};
 ghost use Rattle.plan_draft.specs.Faults.{fault_cause};
 ghost use Rattle.draft_bits.specs.Filling.{byte_count, bytes_from, first_past, AreFilled, PutsBits, PutsFront};
@@ -39,7 +38,6 @@ fn bytes_from<V: View>(
     at: u64,
     count: usize,
 ) -> Result<Vec<u8>, ViewFault>
-    requires small { AreSmall extents.now.runs }
     requires place { at + count ≤ 2 ^ 64 }
     ensures bytes { IfSome (V.content draft.old.view.now) (λ c. IfOk result (λ bytes. bytes.items ≡ bytes_from (drafted draft.old.touched.items c) per extents.now at count)) }
     ensures count { IfOk result (λ bytes. length bytes.items ≡ count) }
@@ -63,7 +61,6 @@ fn filled_bytes<V: View>(
     len: u64,
     value: bool,
 ) -> Result<Vec<u8>, ViewFault>
-    requires small { AreSmall extents.now.runs }
     requires place { first + len < 2 ^ 60 }
     ensures bytes { IfSome (V.content draft.old.view.now) (λ c. IfOk result (λ bytes. AreFilled c per extents.now first len value draft.old.touched.items bytes.items)) }
     ensures count { IfOk result (λ bytes. length bytes.items ≡ byte_count first len) }
@@ -99,7 +96,6 @@ pub fn put_bits<V: View>(
     len: u64,
     value: bool,
 ) -> Result<(), ViewFault>
-    requires small { AreSmall extents.now.runs }
     requires size { extents.now.initialised < 2 ^ 63 }
     requires place { first + len < 2 ^ 60 }
     ensures put { OnOk result (IfSome (V.content draft.old.view.now) (λ c. PutsBits c per extents.now first len value draft.old.touched.items draft.new.touched.items)) }
@@ -109,13 +105,5 @@ pub fn put_bits<V: View>(
 {
     let bytes = filled_bytes(draft, alloc, per, extents, first, len, value)?;
     let fresh = first_past(extents);
-    put_bytes(
-        draft,
-        alloc,
-        per,
-        extents.runs.as_slice(),
-        fresh,
-        first / 8,
-        &bytes,
-    )
+    put_bytes(draft, alloc, per, &extents.runs, fresh, first / 8, &bytes)
 }

@@ -1,7 +1,6 @@
 //! Spare numbers of records.
 ghost use Rattle.std.specs.Prelude.{◌≡◌, ◌+◌, ◌*◌, ◌<◌, ◌≤◌, ◌^◌, true, IfOk, IfSome, OnOk, OnErr, length};
 ghost use Rattle.block_view.specs.Views.{AsksView};
-ghost use Rattle.stream_map.specs.Runs.{AreSmall};
 ghost use Rattle.volume_model.specs.Nodes.{spare_sequence};
 ghost use Rattle.plan_draft.specs.Drafts.{drafted};
 ghost use Rattle.plan_draft.specs.Faults.{fault_cause};
@@ -12,14 +11,12 @@ use block_view::{View, ViewFault};
 use disk_model::{Block, BlockKind, Body, u16_at};
 use draft_bits::put_bits;
 use draft_records::is_past;
+use file_tree::FIRST_USER_RECORD;
 use host_base::FileRef;
 use plan_draft::Draft;
 use state_model::{ClusterSize, Extents};
 use std::alloc::Global;
 use stream_map::block_at;
-
-// The first number that isn't the volume's own.
-const FIRST_USER_RECORD: u64 = 24;
 
 // The sequence that a new file would get in a record with these bytes.
 #[tactic(auto, unfolding(volume_model::specs::Nodes::spare_sequence))]
@@ -61,7 +58,6 @@ fn sequence_at<V: View>(
     table: &Extents,
     number: u64,
 ) -> Result<u16, ViewFault>
-    requires small { AreSmall table.now.runs }
     requires number { number < 2 ^ 48 }
     ensures sequence { IfSome (V.content draft.old.view.now) (λ c. IfOk result (λ seq. seq ≡ new_sequence (drafted draft.old.touched.items c) per table.now number)) }
     ensures touched { draft.new.touched.items ≡ draft.old.touched.items }
@@ -95,7 +91,6 @@ pub fn spare_number<V: View>(
     table: &Extents,
     bits: &BitSet,
 ) -> Result<Option<FileRef>, ViewFault>
-    requires small { AreSmall table.now.runs }
     requires few { length bits.now ≤ 2 ^ 48 }
     ensures number { IfOk result (λ spare. IsLowestSpare bits.now spare) }
     ensures sequence { IfSome (V.content draft.old.view.now) (λ c. IfOk result (λ spare. IfSome spare (λ r. r.seq ≡ new_sequence (drafted draft.old.touched.items c) per table.now r.number))) }
@@ -127,8 +122,6 @@ pub fn take_number<V: View>(
     bitmap: &Extents,
     bits: &mut BitSet,
 ) -> Result<Option<FileRef>, ViewFault>
-    requires table { AreSmall table.now.runs }
-    requires bitmap { AreSmall bitmap.now.runs }
     requires size { bitmap.now.initialised < 2 ^ 63 }
     requires few { length bits.old ≤ 2 ^ 48 }
     ensures number { IfOk result (λ spare. IsLowestSpare bits.old spare) }

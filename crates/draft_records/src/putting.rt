@@ -4,7 +4,6 @@ ghost use Rattle.host_base.specs.Answers.{GivesOrFails};
 ghost use Rattle.block_view.specs.Views.{AsksView};
 ghost use Rattle.record_model.specs.Records.{record_spelling};
 ghost use Rattle.record_writer.specs.NormalLaws.{FitsByRoom};
-ghost use Rattle.stream_map.specs.Runs.{AreSmall};
 ghost use Rattle.plan_draft.specs.Touching.{bodies_of};
 ghost use Rattle.plan_draft.specs.Faults.{fault_cause};
 ghost use Rattle.draft_records.specs.Faults.{draft_cause};
@@ -37,7 +36,6 @@ fn put_in<V: View>(
     number: u64,
     bytes: &[u8],
 ) -> Result<(), ViewFault>
-    requires small { AreSmall records.now.runs }
     requires number { number < 2 ^ 48 }
     requires size { length bytes.now ≡ 1024 }
     ensures bodies { OnOk result (bodies_of draft.new.touched.items ≡ put_if (record_block per records.now number) bytes.now (bodies_of draft.old.touched.items)) }
@@ -63,8 +61,6 @@ fn put_both<V: View>(
     number: u64,
     bytes: &[u8],
 ) -> Result<(), ViewFault>
-    requires table { AreSmall table.now.runs }
-    requires mirror { AreSmall mirror.now.runs }
     requires number { number < 2 ^ 48 }
     requires size { length bytes.now ≡ 1024 }
     ensures bodies { OnOk result (bodies_of draft.new.touched.items ≡ put_record per table.now mirror.now number bytes.now (bodies_of draft.old.touched.items)) }
@@ -103,8 +99,6 @@ pub fn put_file<V: View>(
     number: u64,
     file: &FileRec,
 ) -> Result<(), DraftFault>
-    requires table { AreSmall table.now.runs }
-    requires mirror { AreSmall mirror.now.runs }
     requires number { number < 2 ^ 48 }
     requires fits { FitsByRoom file.now }
     ensures room { GivesOrFails (λ x. x) draft_cause result (fits_room file.now) }

@@ -2,7 +2,6 @@
 ghost use Rattle.std.specs.Prelude.{◌≡◌, ◌*◌, ◌<◌, ◌≤◌, ◌^◌, IfOk, IfSome, length};
 ghost use Rattle.block_view.specs.Views.{AsksView};
 ghost use Rattle.state_model.specs.Loads.{table_extents};
-ghost use Rattle.stream_map.specs.Runs.{AreSmall};
 ghost use Rattle.plan_draft.specs.Drafts.{drafted};
 ghost use Rattle.plan_draft.specs.Faults.{fault_cause};
 ghost use Rattle.draft_records.specs.Records.{is_past, read_in, file_of};
@@ -59,7 +58,6 @@ pub fn file<V: View>(
     table: &Extents,
     number: u64,
 ) -> Result<Option<FileRec>, ViewFault>
-    requires small { AreSmall table.now.runs }
     requires number { number < 2 ^ 48 }
     ensures file { IfSome (V.content draft.old.view.now) (λ c. IfOk result (λ file. file ≡ file_of (drafted draft.old.touched.items c) per table.now number)) }
     ensures touched { draft.new.touched.items ≡ draft.old.touched.items }
@@ -82,7 +80,6 @@ pub fn file<V: View>(
 #[tactic(auto, unfolding(state_model::specs::Loads::table_extents, state_model::specs::Loads::data_stream))]
 pub fn data_extents(alloc: Global, file: &FileRec) -> Result<Extents, Memory>
     ensures value { IfOk result (λ e. e ≡ table_extents file.now) }
-    ensures small { IfOk result (λ e. AreSmall e.runs) }
 {
     let stream = stream_of(alloc, DATA, &[], file.attrs().as_slice())?;
     match stream {

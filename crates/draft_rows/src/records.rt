@@ -1,6 +1,5 @@
 //! Records that a draft puts and reads.
 ghost use Rattle.std.specs.Prelude.{◌<◌, ◌^◌, IfOk};
-ghost use Rattle.stream_map.specs.Runs.{AreSmall};
 
 use crate::changes::{Told, told};
 use block_view::MemoryView;
@@ -56,9 +55,7 @@ fn data(alloc: Global, pairs: &[u8], records: u16) -> Result<FileRec, AllocError
 }
 
 // The clusters of such data.
-fn extents(alloc: Global, pairs: &[u8], records: u16) -> Result<Extents, AllocError>
-    ensures { IfOk result (λ e. AreSmall e.runs) }
-{
+fn extents(alloc: Global, pairs: &[u8], records: u16) -> Result<Extents, AllocError> {
     let file = data(alloc, pairs, records)?;
     match data_extents(alloc, &file) {
         Ok(extents) => Ok(extents),
@@ -73,10 +70,7 @@ fn put_and_read(
     table: &Extents,
     mirror: &Extents,
     number: u32,
-) -> Result<Option<(u64, u16)>, DraftFault>
-    requires table { AreSmall table.now.runs }
-    requires mirror { AreSmall mirror.now.runs }
-{
+) -> Result<Option<(u64, u16)>, DraftFault> {
     let Some(per) = ClusterSize::new(1) else {
         return Ok(None);
     };

@@ -3,14 +3,13 @@ ghost use Rattle.std.specs.Prelude.{◌≡◌, ◌+◌, ◌-◌, ◌*◌, ◌/�
 ghost use Rattle.disk_model.specs.declared.block.BlockKind.TheVariants.{Plain};
 ghost use Rattle.block_view.specs.Views.{AsksView};
 ghost use Rattle.state_model.specs.Streams.{block_at};
-ghost use Rattle.stream_map.specs.Runs.{AreSmall};
 ghost use Rattle.plan_draft.specs.Faults.{fault_cause};
 ghost use Rattle.draft_streams.specs.Parts.{offset_in, bytes_in, touch_part, touch_sector, touch_bytes, first_sector, sector_count, IsFrontOf};
 
 use block_view::{View, ViewFault};
 use disk_model::BlockKind;
 use plan_draft::Draft;
-use record_model::Run;
+use record_model::Runs;
 use state_model::ClusterSize;
 use std::alloc::Global;
 use stream_map::block_at;
@@ -42,13 +41,12 @@ fn put_sector<V: View>(
     draft: &mut Draft<'_, V>,
     alloc: Global,
     per: ClusterSize,
-    runs: &[Run],
+    runs: &Runs,
     sector: u64,
     fresh: bool,
     offset: usize,
     bytes: &[u8],
 ) -> Result<(), ViewFault>
-    requires small { AreSmall runs.now }
     requires number { sector < 2 ^ 54 }
     requires inside { length bytes.now + offset ≤ 512 }
     ensures touched { OnOk result (IfSome (V.content draft.old.view.now) (λ c. draft.new.touched.items ≡ touch_part c (block_at per runs.now Plain sector) fresh offset bytes.now draft.old.touched.items)) }
@@ -56,7 +54,7 @@ fn put_sector<V: View>(
     ensures asks { AsksView V.content V.kept V.faults fault_cause draft.old.view.now draft.new.view.now result }
     ensures reference { draft.new.view.ghost_name ≡ draft.old.view.ghost_name }
 {
-    match block_at(per, runs, BlockKind::Plain, sector) {
+    match block_at(per, runs.as_slice(), BlockKind::Plain, sector) {
         None => Ok(()),
         Some(block) => draft.put_part(alloc, block, fresh, offset, bytes),
     }
@@ -90,12 +88,11 @@ pub fn put_bytes<V: View>(
     draft: &mut Draft<'_, V>,
     alloc: Global,
     per: ClusterSize,
-    runs: &[Run],
+    runs: &Runs,
     fresh: u64,
     at: u64,
     bytes: &[u8],
 ) -> Result<(), ViewFault>
-    requires small { AreSmall runs.now }
     requires place { at + length bytes.now < 2 ^ 62 }
     ensures touched { OnOk result (IfSome (V.content draft.old.view.now) (λ c. draft.new.touched.items ≡ touch_bytes c per runs.now fresh at bytes.now draft.old.touched.items)) }
     ensures front { OnErr result (IfSome (V.content draft.old.view.now) (λ c. IsFrontOf c per runs.now fresh at bytes.now draft.old.touched.items draft.new.touched.items)) }

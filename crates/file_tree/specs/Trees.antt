@@ -29,6 +29,25 @@ abbrev pub is_directory_node : Option Node → Bool
 is_directory_node None = false
 is_directory_node (Some node) = is_directory_kind node.kind
 
+-- a node without its bytes
+abbrev pub without_bytes : Node → Node
+without_bytes n = record {
+  number = n.number;
+  seq = n.seq;
+  kind = n.kind;
+  why = n.why;
+  held = n.held;
+  size = n.size;
+  valid = n.valid;
+  clusters = n.clusters;
+  bytes = [];
+  flags = n.flags;
+  created = n.created;
+  modified = n.modified;
+  changed = n.changed;
+  read_at = n.read_at;
+}
+
 unfoldable pub is_directory : List Node → ℕ → Bool
 is_directory nodes number = is_directory_node (node_at nodes number)
 

@@ -1,5 +1,5 @@
--- The root, and what a part of a path names.
-use Rattle.std.specs.Prelude.{ℕ, Bool, is_some, List, Option}
+-- The root, the way up to it, and what a part of a path names.
+use Rattle.std.specs.Prelude.{ℕ, zero, suc, Bool, false, not, ◌&&◌, ◌||◌, ◌==◌, nat_lt, is_some, List, Option, Some, None}
 use Rattle.std.specs.List.{list_any}
 use Rattle.std.specs.Option.{option_map}
 use Rattle.utf16_name.specs.Names.{name_fault}
@@ -9,6 +9,24 @@ use Rattle.file_tree.specs.Trees.{look_up}
 -- the root's number
 abbrev pub root : ℕ
 root = 5
+
+-- files below this number are those of the volume itself
+abbrev pub first_user_record : ℕ
+first_user_record = 24
+
+-- ---- the way up
+
+abbrev pub at_some : (ℕ → Bool) → Option ℕ → Bool
+at_some test None = false
+at_some test (Some n) = test n
+
+-- On the way up from a directory, of at most so many steps, stands one of the volume itself, other than the root. The function gives the
+-- number of the directory that a number stands in, if it stands in one.
+unfoldable pub passes_system : (ℕ → Option ℕ) → ℕ → ℕ → Bool
+passes_system parent zero n = false
+passes_system parent (suc most) n = not (n == root) && (nat_lt n first_user_record || at_some (passes_system parent most) (parent n))
+
+-- ---- parts of a path
 
 -- the number of the file that a part names in a directory
 unfoldable pub child_in : List ℕ → List Link → ℕ → List ℕ → Option ℕ

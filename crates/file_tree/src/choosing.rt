@@ -40,15 +40,23 @@ fn equal_link<'a>(links: &'a [Link], part: &[u16]) -> Option<&'a Link>
     links.iter().find(|link| link.name.units() == part)
 }
 
-/// The number of the file that this part names, where these are the links of the same name: that of
-/// the link whose units are equal, else of the first in order. It takes time linear in the links.
+/// The link that this part names, where these are the links of the same name: the one whose units
+/// are equal, else the first in order. It takes time linear in the links.
+pub fn chosen_link<'a>(upper: &[u16], same: &'a [Link], part: &[u16]) -> Option<&'a Link>
+    ensures value { option_copied result ≡ option_or (find (λ l. same_units l.name part.now) same.now) (first_in_order upper.now same.now) }
+{
+    if let Some(link) = equal_link(same, part) {
+        return Some(link);
+    }
+    first_in_order(upper, same)
+}
+
+/// The number of the file that this part names, where these are the links of the same name. It
+/// takes time linear in the links.
 pub fn chosen(upper: &[u16], same: &[Link], part: &[u16]) -> Option<u64>
     ensures value { result ≡ option_map (λ (l : the_link). l.child.number) (option_or (find (λ l. same_units l.name part.now) same.now) (first_in_order upper.now same.now)) }
 {
-    if let Some(link) = equal_link(same, part) {
-        return Some(link.child.number);
-    }
-    let link = first_in_order(upper, same)?;
+    let link = chosen_link(upper, same, part)?;
     Some(link.child.number)
 }
 

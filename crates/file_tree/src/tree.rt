@@ -5,6 +5,12 @@ use crate::link::{FileRefList, LinkList};
 use crate::node::NodeList;
 use std::alloc::AllocError;
 
+/// The root's number.
+pub const ROOT: u64 = 5;
+
+/// File records below this one are those of the volume itself.
+pub const FIRST_USER_RECORD: u64 = 24;
+
 /// A file tree.
 #[derive(Debug, Drop)]
 pub struct Tree {

@@ -7,8 +7,9 @@ use Rattle.std.proofs.lemmas.List.FromFn.{length-map-range_with_len}
 use Rattle.record_model.specs.Records.{Record}
 use Rattle.record_model.specs.StdValues.{file_name_of}
 use Rattle.file_tree.specs.declared.link.Link.{Link}
-use Rattle.state_model.specs.Files.{Table, only_base, file_at, is_directory_record, named, attr_link, record_links, links_of, links_at}
-use Rattle.state_model.specs.Trees.{parent_at, at_some, leads, first_parent}
+use Rattle.state_model.specs.Files.{Table, only_base, file_at, is_directory_record, named, attr_link, record_links, file_links, links_at}
+use Rattle.file_tree.specs.Walks.{at_some}
+use Rattle.state_model.specs.Trees.{parent_at, leads, first_parent}
 use Rattle.state_model.specs.Rules.{has_partner, is_only_short, keeps_names, at_file, keeps_1, is_directory_with, is_directory_at, keeps_2, implies, keeps_8, first_failing}
 use Rattle.volume_model.specs.Volumes.{Volume, files_by_number, count_of}
 use Rattle.volume_state.specs.Rules.{broken_1, broken_2, broken_8}
@@ -146,13 +147,13 @@ module _ (v : Layout) (layout : IsLayout v) (time : ℕ) (small : time < 2 ^ 64)
 
   pub links_here : (n : ℕ) → n < 12 → links_at (files v time) n ≡ new_link n ∷ []
   unfolding links_at
-  links_here n lt = ap (links_of n) (system_here v time n lt) ∙ links_are n lt
+  links_here n lt = ap (file_links n) (system_here v time n lt) ∙ links_are n lt
 
   pub links_reserved : (n : ℕ) → 12 ≤ n → links_at (files v time) n ≡ []
   unfolding links_at
   links_reserved n le = elim (cases_lt n 16) [
-    | inl lt ↦ ap (links_of n) (reserved_here v time n le lt) ∙ no_links n
-    | inr high ↦ ap (links_of n) (file_gone v time n high)
+    | inl lt ↦ ap (file_links n) (reserved_here v time n le lt) ∙ no_links n
+    | inr high ↦ ap (file_links n) (file_gone v time n high)
   ]
 
   rule_2 : (n : ℕ) → keeps_2 (files v time) n ≡ true

@@ -27,7 +27,7 @@ use Rattle.log_reading.specs.declared.fault.LogRefusal.{LogRefusal}
 use Rattle.log_recovery.specs.LogStates.{LogState, recovery_in}
 use Rattle.image_open.specs.declared.refusal.Refusal.TheVariants.{Short}
 use Rattle.image_open.specs.Errors.{boot_refusal, map_refusal, log_refusal, refused_as}
-use Rattle.image_open.specs.LogPlaces.{place_of}
+use Rattle.image_open.specs.LogPlaces.{place_of_log}
 use Rattle.image_open.specs.Volumes.{Opened, boot_in, sized_on, boot_on, geometry_of, log_record, log_place, recovered_at, recovered_in, opened_by, opened_in}
 use Rattle.image_read.specs.Errors.{broken_refusal}
 use Rattle.image_read.specs.Checks.{volume_on, judged_version, has_version, tree_on, volume_tree, loaded_in, check_in, check_of}
@@ -105,7 +105,7 @@ module _ (v : Layout) (layout : IsLayout v) (seed time : ℕ) (seed_fits : seed 
 
   place_here : log_place new_geometry (clusters boot) device (Some (record_of v time 2)) ≡ new_place (clusters boot) device v.log_pages
   unfolding new_place
-  place_here = ap (place_of 8 (clusters boot) device) log_stream
+  place_here = ap (place_of_log 8 (clusters boot) device) log_stream
 
   recovered_here : recovered_in c new_geometry (clusters boot) device ≡ Ok c
   unfolding recovered_in

@@ -22,12 +22,12 @@ use Rattle.file_tree.specs.declared.link.Link.{Link}
 use Rattle.file_tree.specs.Names.{name_order, comes_before, upper_units}
 use Rattle.index_model.specs.declared.key.Key.{Key}
 use Rattle.index_model.specs.Trees.{Tree, Leaf, Down, Entry, walk, one_if, same, raws_of}
-use Rattle.index_model.specs.Indexes.{Place, node_block, entries_of_node, node_of_body, node_of_block, some_entries, nodes_of, named, key_link, links_of, precedes, rises, IsIndex}
+use Rattle.index_model.specs.Indexes.{Place, node_block, entries_of_node, node_of_body, node_of_block, some_entries, nodes_of, key_link, links_of, precedes, rises, IsIndex}
 use Rattle.index_model.specs.Laws.{HoldsIndex}
 use Rattle.index_model.proofs.WalkLaw.{walk_passes}
 use Rattle.state_model.specs.declared.stream.Stream.{Stream}
 use Rattle.state_model.specs.declared.stream.Stream.TheVariants.{Placed}
-use Rattle.state_model.specs.Files.{record_links, attr_link}
+use Rattle.state_model.specs.Files.{record_links, attr_link, named}
 use Rattle.state_model.specs.Indexes.{is_names_root}
 use Rattle.state_model.specs.Rules.{is_rising}
 use Rattle.state_model.specs.Streams.{is_attribute_of, attributes_of, stream_of}
@@ -35,7 +35,7 @@ use Rattle.upcase_order.specs.Tables.{standard_upper, standard_table}
 use Rattle.volume_model.specs.Indexes.{index_stream, index_place, stream_blocks, root_value, links_read, links_below, index_links}
 use Rattle.volume_format.specs.declared.layout.Layout.{Layout}
 use Rattle.volume_format.specs.Layouts.{IsLayout, block_first}
-use Rattle.volume_format.specs.Files.{system_name, sequence, name_value, named as name_attr, root_streams, reference as new_reference}
+use Rattle.volume_format.specs.Files.{system_name, sequence, name_value, name_attribute, root_streams, reference as new_reference}
 use Rattle.volume_format.specs.Indexes.{in_order}
 use Rattle.format_blocks.specs.Blocks.{block, whole}
 use Rattle.format_blocks.proofs.Recording.{root_fits}
@@ -123,11 +123,11 @@ module _ (v : Layout) (layout : IsLayout v) (time stamp : ℕ) (small : time < 2
   root = changed_root v time stamp
 
   root_value_is : root_value root ≡ Some (root_spelling 1 (last_entry (Some 0) ∷ []))
-  unfolding root_value is_names_root information root_streams name_attr
+  unfolding root_value is_names_root information root_streams name_attribute
   root_value_is = refl
 
   pub root_blocks : stream_of index_allocation names_index root.attrs ≡ Some (Placed (extents_at (block_first v) 1 4096))
-  unfolding stream_of attributes_of is_attribute_of information root_streams name_attr
+  unfolding stream_of attributes_of is_attribute_of information root_streams name_attribute
   root_blocks = mapped_stream 3 0xA0 (0x24 ∷ 0x49 ∷ 0x33 ∷ 0x30 ∷ []) (Some (block_first v)) 1 4096 4096 (block_run v layout)
 
   abbrev place_of : List Block → Place

@@ -29,7 +29,7 @@ use Rattle.index_node.proofs.RootSpelled.{root_law}
 use Rattle.state_model.specs.Loads.{Used, is_used, whole_record, slot_of, has_all_pairs}
 use Rattle.volume_format.specs.declared.layout.Layout.{Layout}
 use Rattle.volume_format.specs.Layouts.{IsLayout, block_first}
-use Rattle.volume_format.specs.Files.{sequence, system_data, other_streams, system_attrs, resident, in_clusters, named, root_streams}
+use Rattle.volume_format.specs.Files.{sequence, system_data, other_streams, system_attrs, resident, in_clusters, name_attribute, root_streams}
 use Rattle.volume_format.specs.Indexes.{in_order, entry_of}
 use Rattle.format_blocks.specs.Blocks.{whole}
 use Rattle.format_blocks.proofs.Naming.{length-name_value, name_lawful, name_short}
@@ -167,14 +167,14 @@ module _ (v : Layout) (layout : IsLayout v) (time stamp : ℕ) (small : time < 2
   few_attrs = omega arith
 
   pub root_record_fits : FitsRecord (changed_root v time stamp)
-  unfolding information named root_streams
+  unfolding information name_attribute root_streams
   root_record_fits =
       fits_record (changed_root v time stamp) (111 ∷ 127 ∷ 95 ∷ 104 ∷ 47 ∷ [])
       (record { lsn = omega arith; seq = root_small; links = omega arith; flags = omega arith; base = omega arith; base_seq = omega arith; next_id = few_attrs; number = omega arith })
       (information_fits (root_info time stamp), (fits_named v layout time 5 small (omega arith), (root_place, (block_fits, (bit_fits, tt))))) refl refl (omega arith)
 
   root_pairs : has_all_pairs (changed_root v time stamp) ≡ true
-  unfolding has_all_pairs information named root_streams
+  unfolding has_all_pairs information name_attribute root_streams
   root_pairs = and_from _ _ (mapped_spans 3 0xA0 names_index (Some (block_first v)) 1 4096 4096 (block_run v layout)) refl
 
   pub root_slot : slot_of (whole (record_spelling (changed_root v time stamp))) ≡ Used (changed_root v time stamp)

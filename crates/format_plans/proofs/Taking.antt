@@ -28,7 +28,7 @@ use Rattle.volume_model.specs.Owners.{file_runs}
 use Rattle.volume_model.specs.Sizes.{keeps_stream}
 use Rattle.volume_format.specs.declared.layout.Layout.{Layout}
 use Rattle.volume_format.specs.Layouts.{IsLayout, block_first, layout_of}
-use Rattle.volume_format.specs.Files.{system_record, system_attrs, system_data, other_streams, root_streams, standard, named as name_attr, is_directory, sequence}
+use Rattle.volume_format.specs.Files.{system_record, system_attrs, system_data, other_streams, root_streams, standard, name_attribute, is_directory, sequence}
 use Rattle.volume_format.specs.Indexes.{in_order}
 use Rattle.volume_format.specs.Images.{formatted}
 use Rattle.format_blocks.specs.Blocks.{block, whole, HasBlocks}
@@ -103,11 +103,11 @@ module _ (v : Layout) (time stamp : ℕ) where
   parent_is = refl
 
   root_no_list : has_type attribute_list (system_record v time 5) ≡ false
-  unfolding has_type system_record system_attrs system_data other_streams root_streams standard name_attr
+  unfolding has_type system_record system_attrs system_data other_streams root_streams standard name_attribute
   root_no_list = refl
 
   rewritten : RewritesValues is_info_or_root (system_record v time 5) (changed_root v time stamp)
-  unfolding system_record system_attrs system_data other_streams root_streams standard name_attr information is_directory
+  unfolding system_record system_attrs system_data other_streams root_streams standard name_attribute information is_directory
   rewritten = record {
     seq = refl;
     flags = refl;

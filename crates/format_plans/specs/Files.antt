@@ -12,10 +12,10 @@ use Rattle.record_model.specs.Nodes.{Node, node_spelling, last_entry}
 use Rattle.record_model.specs.Records.{Record, record_spelling}
 use Rattle.record_model.specs.StdValues.{std_info_over, file_name_over}
 use Rattle.file_tree.specs.declared.link.Link.{Link}
-use Rattle.state_model.specs.Trees.{first_user_record}
+use Rattle.file_tree.specs.Walks.{first_user_record}
 use Rattle.volume_format.specs.declared.layout.Layout.{Layout}
 use Rattle.volume_format.specs.Layouts.{record_bits_first, table_first, block_first}
-use Rattle.volume_format.specs.Files.{reference, resident, named, head_of, root_streams, system_attrs}
+use Rattle.volume_format.specs.Files.{reference, resident, name_attribute, head_of, root_streams, system_attrs}
 use Rattle.volume_format.specs.Indexes.{in_order, entry_of}
 use Rattle.format_blocks.specs.Blocks.{block}
 use Rattle.plan_bodies.specs.Bodies.{NewBody}
@@ -56,7 +56,7 @@ abbrev pub root_info : ℕ → ℕ → StdInfo
 root_info time stamp = record { created = time; modified = stamp; changed = stamp; read_at = time; flags = 6 }
 
 abbrev pub changed_root : Layout → ℕ → ℕ → Record
-changed_root v time stamp = record { head = head_of 5 1 3 (length (system_attrs v time 5)); attrs = information (root_info time stamp) ∷ named v time 5 ∷ root_streams v }
+changed_root v time stamp = record { head = head_of 5 1 3 (length (system_attrs v time 5)); attrs = information (root_info time stamp) ∷ name_attribute v time 5 ∷ root_streams v }
 
 abbrev pub title_entry : ℕ → Entry
 title_entry stamp = record { child = reference first_user_record; key = title_value stamp; down = None }

@@ -22,11 +22,11 @@ use Rattle.file_tree.specs.declared.link.Link.{Link}
 use Rattle.file_tree.specs.Names.{name_order}
 use Rattle.index_model.specs.declared.key.Key.{Key}
 use Rattle.index_model.specs.Trees.{Tree, Leaf, Down, Entry, walk, one_if, same, raws_of}
-use Rattle.index_model.specs.Indexes.{Place, node_block, entries_of_node, node_of_body, node_of_block, some_entries, nodes_of, named, key_link, links_of, precedes, rises, IsIndex}
+use Rattle.index_model.specs.Indexes.{Place, node_block, entries_of_node, node_of_body, node_of_block, some_entries, nodes_of, key_link, links_of, precedes, rises, IsIndex}
 use Rattle.index_model.specs.Laws.{HoldsIndex}
 use Rattle.index_model.proofs.WalkLaw.{walk_passes}
 use Rattle.state_model.specs.declared.stream.Stream.{Stream}
-use Rattle.state_model.specs.Files.{Table, reference, is_directory_record, links_at}
+use Rattle.state_model.specs.Files.{Table, reference, is_directory_record, links_at, named}
 use Rattle.state_model.specs.Indexes.{is_names_root}
 use Rattle.state_model.specs.Rules.{implies, at_file, same_link, count_in, names_in, is_rising, is_name_in, is_index, first_failing}
 use Rattle.state_model.specs.Streams.{is_attribute_of, attributes_of, stream_of}

@@ -11,7 +11,7 @@ use Rattle.disk_model.specs.declared.block.BlockKind.TheVariants.{Plain}
 use Rattle.record_model.specs.declared.runs.Run.{Run}
 use Rattle.record_model.specs.Pairs.{cluster_limit}
 use Rattle.state_model.specs.Streams.{holds, lcn_in, block_at}
-use Rattle.stream_map.specs.Runs.{IsSmall, AreSmall}
+use Rattle.record_model.specs.Runs.{IsSmall, AreSmall}
 use Rattle.log_page.specs.declared.places.Extent.{Extent}
 use Rattle.log_reading.specs.LogPages.{sector_in, sector_below}
 use Rattle.image_open.specs.LogPlaces.{nowhere, first_of, stream_sector, sector_extent, IsHeldAlike, AreSectors}

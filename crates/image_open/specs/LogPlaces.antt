@@ -42,9 +42,9 @@ stream_place per clusters device (Held value) = log_of clusters device (length v
 stream_place per clusters device (Placed e) = log_of clusters device (e.real / page_bytes) e.initialised (stream_sectors per (8 * (e.real / page_bytes)) e.runs)
 
 -- the place of the log with this stream, of a volume of so many clusters on a device of so many sectors; without a stream it has no page
-abbrev pub place_of : ℕ → ℕ → ℕ → Option Stream → LogPlace
-place_of per clusters device (Some s) = stream_place per clusters device s
-place_of per clusters device None = log_of clusters device 0 0 []
+abbrev pub place_of_log : ℕ → ℕ → ℕ → Option Stream → LogPlace
+place_of_log per clusters device (Some s) = stream_place per clusters device s
+place_of_log per clusters device None = log_of clusters device 0 0 []
 
 -- ---- the same place by fewer runs
 

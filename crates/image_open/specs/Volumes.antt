@@ -17,7 +17,7 @@ use Rattle.log_recovery.specs.LogStates.{LogState, recovery_in}
 use Rattle.image_open.specs.declared.refusal.Refusal.{Refusal}
 use Rattle.image_open.specs.declared.refusal.Refusal.TheVariants.{Short}
 use Rattle.image_open.specs.Errors.{boot_refusal, map_refusal, log_refusal, refused_as}
-use Rattle.image_open.specs.LogPlaces.{place_of}
+use Rattle.image_open.specs.LogPlaces.{place_of_log}
 
 -- ---- the boot sector
 
@@ -51,7 +51,7 @@ data_of None = None
 
 -- where the log lies, by record 2
 abbrev pub log_place : Geometry → ℕ → ℕ → Option Record → LogPlace
-log_place g clusters device file = place_of g.per_cluster clusters device (data_of file)
+log_place g clusters device file = place_of_log g.per_cluster clusters device (data_of file)
 
 -- the content that recovery by the log at this place makes, or what refuses the log
 unfoldable pub recovered_at : Content → LogPlace → Result Content Refusal

@@ -1,7 +1,6 @@
 //! The log of a volume: where it lies, and the blocks that recovery by it makes.
 ghost use Rattle.std.specs.Prelude.{◌≡◌, ◌*◌, ◌^◌, ◌<◌, All, IfOk, IfErr, IfSome};
 ghost use Rattle.host_base.specs.Answers.{GivesOrFails};
-ghost use Rattle.stream_map.specs.Runs.{HasSmallRuns};
 ghost use Rattle.block_view.specs.Views.{AsksView};
 ghost use Rattle.state_model.specs.Loads.{data_stream};
 ghost use Rattle.log_reading.specs.LogPages.{IsLogPlace};
@@ -12,7 +11,7 @@ ghost use Rattle.image_open.specs.LogPlaces.{LieAlike};
 ghost use Rattle.image_open.specs.Openings.{AreFoundBy};
 ghost use Rattle.image_open.specs.Volumes.{data_of, log_record, log_place, log_state, recovered_at, recovered_in};
 
-use crate::place::place_of;
+use crate::place::place_of_log;
 use crate::refusal::MountFault;
 use block_view::View;
 use disk_model::Body;
@@ -32,7 +31,6 @@ pub const LOG_RECORD: u64 = 2;
 #[tactic(auto, unfolding(state_model::specs::Loads::data_stream))]
 fn data_stream(alloc: Global, file: &FileRec) -> Result<Option<Stream>, Memory>
     ensures value { IfOk result (λ stream. stream ≡ data_stream file.now) }
-    ensures small { IfOk result (λ stream. IfSome stream HasSmallRuns) }
 {
     stream_of(alloc, DATA, &[], file.attrs().as_slice())
 }
@@ -40,7 +38,6 @@ fn data_stream(alloc: Global, file: &FileRec) -> Result<Option<Stream>, Memory>
 // The unnamed data of a file.
 fn data_of(alloc: Global, file: &Option<FileRec>) -> Result<Option<Stream>, Memory>
     ensures value { IfOk result (λ stream. stream ≡ data_of file.now) }
-    ensures small { IfOk result (λ stream. IfSome stream HasSmallRuns) }
 {
     match file {
         Some(file) => data_stream(alloc, file),
@@ -76,7 +73,7 @@ pub fn log_place(
     ensures memory { IfErr result (λ e. e ≡ MountFault.Memory) }
 {
     let stream = data_of(alloc, file)?;
-    Ok(place_of(alloc, geometry.per_cluster, clusters, device, &stream)?)
+    Ok(place_of_log(alloc, geometry.per_cluster, clusters, device, &stream)?)
 }
 
 // The blocks that recovery by the log at this place makes and shadows.

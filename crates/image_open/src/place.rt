@@ -1,13 +1,12 @@
 //! Where a volume's log lies.
 ghost use Rattle.std.specs.Prelude.{◌≡◌, ◌*◌, ◌^◌, ◌<◌, ◌≤◌, nat_lt, if◌then◌else◌, min, All, IfOk, IfSome, OnOk, length};
 ghost use Rattle.state_model.specs.declared.stream.Stream.TheVariants.{Placed};
-ghost use Rattle.stream_map.specs.Runs.{AreSmall, HasSmallRuns};
 ghost use Rattle.log_reading.specs.LogPages.{IsSmall as IsSmallExtent, IsLogPlace};
-ghost use Rattle.image_open.specs.LogPlaces.{first_of, stream_sector, log_of, stream_place, place_of, LieAlike, IsHeldAlike, AreSectors};
+ghost use Rattle.image_open.specs.LogPlaces.{first_of, stream_sector, log_of, stream_place, place_of_log, LieAlike, IsHeldAlike, AreSectors};
 
 use disk_model::{Block, BlockKind};
 use log_page::{Extent, LogPlace, LogRuns};
-use record_model::Run;
+use record_model::{Run, Runs};
 use state_model::{ClusterSize, Extents as StreamExtents, Stream};
 use std::alloc::{AllocError, Global};
 use stream_map::block_at;
@@ -27,15 +26,14 @@ fn first_of(block: Option<Block>) -> u64
 
 // Where the sector with this number of a stream lies.
 #[tactic(auto, unfolding(crate::specs::LogPlaces::stream_sector))]
-fn stream_sector(per: ClusterSize, runs: &[Run], n: u64) -> u64
-    requires small { AreSmall runs.now }
+fn stream_sector(per: ClusterSize, runs: &Runs, n: u64) -> u64
     requires inside { n < 2 ^ 56 }
     ensures value { result ≡ stream_sector per runs.now n }
     ensures near { result ≤ 2 ^ 62 }
 {
     // A cluster has some sectors, and at most 8.
     let _ = per.sectors();
-    first_of(block_at(per, runs, BlockKind::Plain, n))
+    first_of(block_at(per, runs.as_slice(), BlockKind::Plain, n))
 }
 
 // The nearer one of a VCN and the next one, of those above `v`.
@@ -76,11 +74,10 @@ fn next_vcn(v: u64, end: u64, runs: &[Run]) -> u64
 fn push_sectors(
     sectors: &mut Vec<Extent>,
     per: ClusterSize,
-    runs: &[Run],
+    runs: &Runs,
     v: u64,
     next: u64,
 ) -> Result<(), AllocError>
-    requires small { AreSmall runs.now }
     requires above { v < next }
     requires below { next * per < 2 ^ 56 }
     requires alike { All (IsHeldAlike v next) runs.now }
@@ -102,9 +99,8 @@ fn sectors_of(
     alloc: Global,
     per: ClusterSize,
     end: u64,
-    runs: &[Run],
+    runs: &Runs,
 ) -> Result<Vec<Extent>, AllocError>
-    requires small { AreSmall runs.now }
     requires below { end < 2 ^ 56 }
     requires inside { end * per < 2 ^ 56 }
     ensures value { IfOk result (λ sectors. AreSectors per runs.now (end * per) sectors.items) }
@@ -113,7 +109,7 @@ fn sectors_of(
     let mut sectors = Vec::new(alloc);
     let mut v = 0;
     while v < end {
-        let next = next_vcn(v, end, runs);
+        let next = next_vcn(v, end, runs.as_slice());
         push_sectors(&mut sectors, per, runs, v, next)?;
         v = next;
     }
@@ -150,14 +146,13 @@ fn placed(
     device: u64,
     extents: &StreamExtents,
 ) -> Result<LogPlace, AllocError>
-    requires small { AreSmall extents.now.runs }
     ensures value { IfOk result (λ place. LieAlike place (stream_place per clusters device (Placed extents.now))) }
     ensures place { IfOk result IsLogPlace }
 {
     let size = per.sectors();
     let pages = extents.real / 4096;
     let end = (8 * pages).div_ceil(size);
-    let sectors = sectors_of(alloc, per, end, extents.runs.as_slice())?;
+    let sectors = sectors_of(alloc, per, end, &extents.runs)?;
     Ok(log_of(clusters, device, pages, extents.initialised, sectors))
 }
 
@@ -169,7 +164,6 @@ fn stream_place(
     device: u64,
     stream: &Stream,
 ) -> Result<LogPlace, AllocError>
-    requires small { HasSmallRuns stream.now }
     ensures value { IfOk result (λ place. LieAlike place (stream_place per clusters device stream.now)) }
     ensures place { IfOk result IsLogPlace }
 {
@@ -186,15 +180,14 @@ fn stream_place(
 /// sectors. `per` is the sectors of a cluster. The error is want of memory. Quadratic in the
 /// stream's runs, which are those of one record: it asks once for each VCN at which a run begins or
 /// ends where that one lies, since of runs that overlap the first one holds.
-pub fn place_of(
+pub fn place_of_log(
     alloc: Global,
     per: ClusterSize,
     clusters: u64,
     device: u64,
     stream: &Option<Stream>,
 ) -> Result<LogPlace, AllocError>
-    requires small { IfSome stream.now HasSmallRuns }
-    ensures value { IfOk result (λ place. LieAlike place (place_of per clusters device stream.now)) }
+    ensures value { IfOk result (λ place. LieAlike place (place_of_log per clusters device stream.now)) }
     ensures place { IfOk result IsLogPlace }
 {
     match stream {

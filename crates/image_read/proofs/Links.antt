@@ -9,13 +9,12 @@ use Rattle.file_tree.specs.declared.link.Link.{Link}
 use Rattle.state_model.specs.declared.geometry.Geometry.{Geometry}
 use Rattle.state_model.specs.declared.geometry.MapRefusal.{MapRefusal}
 use Rattle.state_model.specs.Loads.{loaded}
-use Rattle.volume_links.specs.Names.{long_links as long_names, loaded_links}
+use Rattle.volume_links.specs.Names.{long_links, loaded_links}
 use Rattle.image_open.specs.declared.refusal.MountFault.{MountFault}
 use Rattle.image_open.specs.Errors.{scan_cause, map_refusal, refused_as}
-use Rattle.image_read.specs.Scans.{files_of, long_links, links_in}
+use Rattle.image_read.specs.Scans.{files_of, links_in}
 
-links_by : (files : Result (List (Option Record)) MapRefusal) → refused_as map_refusal (files >>= λ fs. Ok (long_names fs)) ≡ (refused_as map_refusal files >>= λ fs. Ok (long_links fs))
-unfolding long_names long_links
+links_by : (files : Result (List (Option Record)) MapRefusal) → refused_as map_refusal (files >>= λ fs. Ok (long_links fs)) ≡ (refused_as map_refusal files >>= λ fs. Ok (long_links fs))
 links_by (Ok fs) = refl
 links_by (Err r) = refl
 

@@ -1,14 +1,12 @@
 -- The long names of a volume, from the sectors of its device; or the first refusal that applies.
-use Rattle.std.specs.Prelude.{ℕ, List, length, Option, Result, Ok}
-use Rattle.std.specs.List.{filter}
+use Rattle.std.specs.Prelude.{ℕ, List, Option, Result, Ok}
 use Rattle.host_base.specs.Answers.{◌>>=◌}
 use Rattle.disk_model.specs.Content.{Content}
 use Rattle.record_model.specs.Records.{Record}
 use Rattle.file_tree.specs.declared.link.Link.{Link}
-use Rattle.file_tree.specs.Trees.{is_long}
 use Rattle.state_model.specs.declared.geometry.Geometry.{Geometry}
-use Rattle.state_model.specs.Trees.{all_links}
-use Rattle.state_model.specs.Loads.{table_in, loaded}
+use Rattle.state_model.specs.Loads.{loaded}
+use Rattle.volume_links.specs.Names.{long_links}
 use Rattle.image_open.specs.declared.refusal.Refusal.{Refusal}
 use Rattle.image_open.specs.Errors.{map_refusal, refused_as}
 use Rattle.image_open.specs.Volumes.{in_volume, on_disk}
@@ -19,9 +17,6 @@ unfoldable pub files_of : Content → Geometry → Result (List (Option Record))
 files_of c g = refused_as map_refusal (loaded c g)
 
 -- the long names of files, by the files' numbers
-unfoldable pub long_links : List (Option Record) → List Link
-long_links files = filter is_long (all_links (table_in files) (length files))
-
 unfoldable pub links_in : Content → Geometry → Result (List Link) Refusal
 links_in c g = files_of c g >>= λ files. Ok (long_links files)
 

@@ -3,7 +3,6 @@ ghost use Rattle.std.specs.Prelude.{◌≡◌, ◌*◌, ◌^◌, ◌<◌, ◌≤
 ghost use Rattle.host_base.specs.Answers.{GivesOrFails};
 ghost use Rattle.host_base.specs.Causes.{HasFailed, last_moment};
 ghost use Rattle.device_view.specs.Devices.{KeepsDevice, CountsOnDevice};
-ghost use Rattle.stream_map.specs.Runs.{AreSmall};
 ghost use Rattle.volume_map.specs.Maps.{IsMapOf, volume_in};
 ghost use Rattle.block_view.specs.Views.{AsksView};
 ghost use Rattle.volume_model.specs.Volumes.{upper_of};
@@ -46,7 +45,6 @@ fn records_in<V: View>(
     extents: &Extents,
     body: &mut Body,
 ) -> Result<ReadJournal, MountFault>
-    requires small { AreSmall extents.now.runs }
     requires left { journal_first per extents.now ≤ extents.now.real }
     requires whole { IfSome (V.content view.old) (λ c. IsOk (journal_entries c per extents.now)) }
     ensures answer { IfSome (V.content view.old) (λ c. GivesOrFails (λ j. j) scan_cause result (Ok (records_in c per extents.now))) }
@@ -70,7 +68,6 @@ fn records_by<V: View>(
     body: &mut Body,
 ) -> Result<ReadJournal, MountFault>
     requires parts { IfSome (V.content view.old) (λ c. IsMapOf c map.now) }
-    requires small { AreSmall extents.now.runs }
     requires left { journal_first map.now.per_cluster extents.now ≤ extents.now.real }
     requires place { IfSome (V.content view.old) (λ c. journal_place (upper_of c (volume_in map.now)) (volume_in map.now) ≡ Ok extents.now) }
     ensures answer { IfSome (V.content view.old) (λ c. GivesOrFails (λ j. j) scan_cause result (records_by c (volume_in map.now) extents.now)) }

@@ -4,7 +4,6 @@ ghost use Rattle.host_base.specs.Answers.{Gives, GivesOrFails};
 ghost use Rattle.file_tree.specs.declared.journal.Usn.{Usn as UsnOf};
 ghost use Rattle.state_model.specs.Loads.{table_in};
 ghost use Rattle.state_model.specs.Trees.{all_links};
-ghost use Rattle.stream_map.specs.Runs.{AreSmall};
 ghost use Rattle.volume_map.specs.Maps.{volume_in};
 ghost use Rattle.block_view.specs.Views.{AsksView};
 ghost use Rattle.volume_state.specs.Journals.{journal_first, journal_entries};
@@ -65,7 +64,6 @@ fn named_place(
     requires links { links.now ≡ all_links (table_in map.now.files.items) (length map.now.files.items) }
     ensures answer { Gives (λ e. e) scan_cause result (refused_as NoJournal (journal_place up.now (volume_in map.now))) }
     ensures inside { IfOk result (λ e. journal_first map.now.per_cluster e ≤ e.real) }
-    ensures small { IfOk result (λ e. AreSmall e.runs) }
 {
     match journal_place(alloc, map, up, links) {
         Ok(extents) => Ok(extents),
@@ -88,7 +86,6 @@ pub fn place_on<V: View>(
 ) -> Result<Extents, MountFault>
     ensures answer { IfSome (V.content view.old) (λ c. GivesOrFails (λ e. e) scan_cause result (place_on c (volume_in map.now))) }
     ensures inside { IfOk result (λ e. journal_first map.now.per_cluster e ≤ e.real) }
-    ensures small { IfOk result (λ e. AreSmall e.runs) }
     ensures kept { AsksView V.content V.kept V.faults scan_cause view.old view.new result }
 {
     let up = upper_table(alloc, view, map, body)?;
@@ -124,7 +121,6 @@ pub fn all_entries<V: View>(
     first: u64,
     body: &mut Body,
 ) -> Result<UsnList, MountFault>
-    requires small { AreSmall extents.now.runs }
     requires first { first ≡ journal_first per extents.now }
     requires left { journal_first per extents.now ≤ extents.now.real }
     requires whole { IfSome (V.content view.old) (λ c. IsOk (journal_entries c per extents.now)) }

@@ -15,7 +15,8 @@ use Rattle.record_model.specs.Values.{is_file_name}
 use Rattle.file_tree.specs.declared.link.Link.{Link}
 use Rattle.index_model.specs.declared.key.Key.{Key}
 use Rattle.index_model.specs.Trees.{Tree, walk}
-use Rattle.index_model.specs.Indexes.{Place, node_of_block, entry_link, named, links_of}
+use Rattle.index_model.specs.Indexes.{Place, node_of_block, entry_link, links_of}
+use Rattle.state_model.specs.Files.{named}
 use Rattle.index_model.specs.Laws.{HoldsIndex}
 use Rattle.block_view.specs.declared.fault.ViewFault.{ViewFault}
 use Rattle.index_plan.specs.declared.fault.ReadFault.{ReadFault}

@@ -14,7 +14,8 @@ use Rattle.record_model.specs.Nodes.{Node, node_at, root_at, SpellEntries}
 use Rattle.record_model.proofs.NodeTables.{node_from_ok, root_from_ok}
 use Rattle.index_model.specs.declared.key.Key.{Key}
 use Rattle.index_model.specs.Trees.{Tree, Leaf, Down, Entry, DownEntry, walk, raw, raws_of, Stands}
-use Rattle.index_model.specs.Indexes.{Place, node_block, entries_of_node, is_index_body, node_of_body, node_of_part, node_of_block, nodes_of, some_entries, named, key_link}
+use Rattle.index_model.specs.Indexes.{Place, node_block, entries_of_node, is_index_body, node_of_body, node_of_part, node_of_block, nodes_of, some_entries, key_link}
+use Rattle.state_model.specs.Files.{named}
 use Rattle.index_model.specs.Laws.{HoldsIndex}
 use Rattle.index_change.specs.Orders.{link_of}
 

@@ -37,15 +37,15 @@ fn order_units(up: &Upcase, name: &[u16], key: &[u8], units: &mut [u16]) -> Orde
     up.order(name, units)
 }
 
-// The same with room for the units of any name.
+// The same with a buffer for the units of any name.
 #[tactic(auto, using(crate::proofs::KeyUnits::key_size), unfolding(record_model::specs::Values::units_of))]
-fn order_in(up: &Upcase, name: &[u16], key: &[u8], room: &mut [u16]) -> Ordering
+fn order_in(up: &Upcase, name: &[u16], key: &[u8], buffer: &mut [u16]) -> Ordering
     requires key { is_file_name key.now ≡ true }
-    requires room { 255 ≤ length room.old }
+    requires buffer { 255 ≤ length buffer.old }
     ensures { result ≡ name_order up.now name.now (units_of key.now) }
 {
     let count = usize::from(u8_at(key, 0x40));
-    order_units(up, name, key, room.split_at_mut(count).0)
+    order_units(up, name, key, buffer.split_at_mut(count).0)
 }
 
 // How a name stands to that of a key.
@@ -53,8 +53,8 @@ fn order_to(up: &Upcase, name: &[u16], key: &[u8]) -> Ordering
     requires { is_file_name key.now ≡ true }
     ensures { result ≡ name_order up.now name.now (units_of key.now) }
 {
-    let mut room = [0u16; MOST_UNITS];
-    order_in(up, name, key, &mut room)
+    let mut buffer = [0u16; MOST_UNITS];
+    order_in(up, name, key, &mut buffer)
 }
 
 // Whether a name stands before that of a key.

@@ -2,7 +2,6 @@
 use Rattle.std.specs.Prelude.{◌≡◌, ℕ, ◌/◌, ◌%◌, ◌≤◌, Bool, true, not, ◌&&◌, ◌==◌, nat_lt, if◌then◌else◌, List, [], ◌∷◌, length, slice_get, Option, Some, None, Result, Ok, Err}
 use Rattle.std.specs.List.{filter_map}
 use Rattle.std.specs.Ordering.{is_gt}
-use Rattle.host_base.specs.declared.file_ref.FileRef.{FileRef}
 use Rattle.host_base.specs.Answers.{◌>>=◌, needs}
 use Rattle.disk_model.specs.declared.block.Block.{Block}
 use Rattle.disk_model.specs.declared.block.BlockKind.TheVariants.{Index}
@@ -10,12 +9,11 @@ use Rattle.disk_model.specs.Numbers.{field}
 use Rattle.disk_model.specs.Bodies.{BodyOf}
 use Rattle.disk_model.specs.Content.{Content, is_signed}
 use Rattle.record_model.specs.declared.entry.Entry.{Entry}
-use Rattle.record_model.specs.declared.values.FileNameValue.{FileNameValue}
-use Rattle.record_model.specs.declared.values.ValueFault.{ValueFault}
 use Rattle.record_model.specs.StdValues.{file_name_of}
 use Rattle.record_model.specs.Nodes.{Node, node_at}
 use Rattle.file_tree.specs.declared.link.Link.{Link}
 use Rattle.file_tree.specs.Names.{name_order}
+use Rattle.state_model.specs.Files.{named}
 use Rattle.index_model.specs.declared.key.Key.{Key}
 use Rattle.index_model.specs.Trees.{Tree, walk, held, levels, raws_of, Stands}
 
@@ -66,10 +64,6 @@ abbrev pub nodes_of : (ℕ → Result (List Entry) ℕ) → ℕ → Option (List
 nodes_of read v = some_entries (read v)
 
 -- ---- the links of keys
-
-abbrev pub named : FileRef → Result FileNameValue ValueFault → Option Link
-named child (Ok f) = Some (record { parent = f.parent; name = f.name; space = f.space; child = child })
-named child (Err fault) = None
 
 -- the link that an entry holds; the last one holds none
 unfoldable pub entry_link : Entry → Option Link

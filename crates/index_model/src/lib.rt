@@ -11,4 +11,4 @@ mod side;
 
 pub use key::Key;
 pub use laws::{fault_breaks, one_index, walk_is_index};
-pub use side::Side;
+pub use side::{ROOT_VCN, Side};

@@ -1,3 +1,6 @@
+/// The VCN by which a fault names the root.
+pub const ROOT_VCN: u64 = 18446744073709551615;
+
 /// Where an entry of a node stands to a name that is sought.
 #[derive(Clone, Copy, Debug, PartialEq, Eq)]
 pub enum Side {

@@ -10,13 +10,11 @@ use crate::fault::PlanFault;
 use crate::frame::Frame;
 use crate::node::down_at;
 use crate::nodes::{Nodes, read_below};
+use index_model::ROOT_VCN;
 use record_model::{Entry, EntryList};
 use std::alloc::{AllocError, Global};
 
 // The way from the root down to the place of a new key.
-
-/// The VCN that stands for the root.
-pub const ROOT: u64 = 18446744073709551615;
 
 /// Which keys a new one goes before.
 pub trait Test {
@@ -77,7 +75,7 @@ pub fn way<N: Nodes, T: Test>(
     ensures cause { Fails (N.faults nodes.old) (N.faults nodes.new) result }
 {
     let mut path = Vec::new(alloc);
-    let mut above = ROOT;
+    let mut above = ROOT_VCN;
     let mut down = down_at(root, stop(test, root));
     for level in 0u32..15 {
         let Some(vcn) = down else {

@@ -23,7 +23,7 @@ mod side;
 mod trail;
 mod write;
 
-pub use descent::{ROOT, Test};
+pub use descent::Test;
 pub use draft::Draft;
 pub use fault::{PlanFault, ReadFault};
 pub use insertion::plan_insert;

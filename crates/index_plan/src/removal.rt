@@ -5,7 +5,6 @@ ghost use Rattle.index_plan.specs.Reading.{nodes_of};
 ghost use Rattle.index_plan.specs.Room.{EachFits, RootSized};
 ghost use Rattle.index_plan.specs.Seeking.{seek_of};
 
-use crate::descent::ROOT;
 use crate::draft::Draft;
 use crate::fault::PlanFault;
 use crate::nodes::Nodes;
@@ -14,6 +13,7 @@ use crate::place::Place;
 use crate::plan::{Rooted, plan_out};
 use crate::search::seek_in;
 use crate::side::Target;
+use index_model::ROOT_VCN;
 use record_model::EntryList;
 use std::alloc::Global;
 
@@ -48,7 +48,7 @@ pub fn plan_remove<N: Nodes, T: Target>(
     ensures unchanged { N.reads nodes.new ≡ N.reads nodes.old }
     ensures cause { Fails (N.faults nodes.old) (N.faults nodes.new) result }
 {
-    match seek_in(nodes, alloc, target, ROOT, &root, 15)? {
+    match seek_in(nodes, alloc, target, ROOT_VCN, &root, 15)? {
         None => Err(PlanFault::Absent),
         Some(place) => {
             let Place { at, trail } = place;

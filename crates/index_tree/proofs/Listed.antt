@@ -4,14 +4,12 @@ use Rattle.std.specs.Prelude.{slice_get}
 use Rattle.std.specs.List.{range_with_len}
 use Rattle.std.proofs.Common.{length-append}
 use Rattle.std.proofs.lemmas.Bool.Decides.{nat_tests}
-use Rattle.std.proofs.lemmas.List.Elements.{All-nil}
 use Rattle.std.proofs.lemmas.Option.{slice_get-get_or}
 use Rattle.std.proofs.lemmas.List.FromFn.{length-map-range_with_len, get_or-map-range_with_len}
 use Rattle.disk_model.specs.declared.block.Block.{Block}
 use Rattle.state_model.specs.declared.stream.Extents.{Extents}
 use Rattle.state_model.specs.Loads.{no_extents}
 use Rattle.state_model.specs.Streams.{block_at}
-use Rattle.stream_map.specs.Runs.{IsSmall}
 use Rattle.disk_model.specs.declared.block.BlockKind.TheVariants.{Index}
 use Rattle.volume_model.specs.Indexes.{void_block, or_void, index_block, block_count, blocks_of}
 use Rattle.index_tree.specs.Allocations.{IsCounted}
@@ -34,7 +32,6 @@ none_counted per e none = omega (arith, none)
 
 pub nothing_counted : (per : ℕ) → IsCounted per no_extents true 0
 nothing_counted per = record {
-  small = All-nil IsSmall;
   order = refl;
   counted = none_counted per no_extents refl;
   most = omega arith;

@@ -2,7 +2,6 @@
 use Rattle.std.specs.Prelude.{◌≡◌, ℕ, ◌+◌, ◌^◌, ◌<◌, Bool, true, ◌&&◌, nat_le, List, [], ◌∷◌}
 use Rattle.record_model.specs.declared.runs.Run.{Run}
 use Rattle.state_model.specs.declared.stream.Extents.{Extents}
-use Rattle.stream_map.specs.Runs.{AreSmall}
 use Rattle.volume_model.specs.Indexes.{block_count}
 
 -- runs stand in order, none before this VCN: each begins where the one before it ends, or behind
@@ -12,7 +11,6 @@ stand_apart end (r ∷ runs) = nat_le end r.vcn && stand_apart (r.vcn + r.len) r
 
 -- an allocation in a volume of so many sectors a cluster, with what is known of its runs and the count of its blocks
 pub record IsCounted (per : ℕ) (e : Extents) (apart : Bool) (count : ℕ) : Type 0 where
-  pub small : AreSmall e.runs
   pub order : apart ≡ stand_apart 0 e.runs
   pub counted : count ≡ block_count per e
   pub most : count < 2 ^ 52

@@ -1,7 +1,7 @@
 //! The blocks of an index, which are found by their numbers and not listed.
 ghost use Rattle.std.specs.Prelude.{◌≡◌, ◌↔◌, [], ◌∷◌, ◌++◌, ◌+◌, ◌*◌, ◌/◌, ◌^◌, ◌<◌, ◌≤◌, ℕ, true, IsTrue, OnOk, OnErr, find, length, min, slice_get};
 ghost use Rattle.state_model.specs.Streams.{holds, block_at};
-ghost use Rattle.stream_map.specs.Runs.{AreSmall};
+ghost use Rattle.record_model.specs.Runs.{AreSmall};
 ghost use Rattle.disk_model.specs.declared.block.BlockKind.TheVariants.{Index};
 ghost use Rattle.volume_model.specs.Indexes.{or_void, runs_end, index_block, block_count, blocks_of};
 ghost use Rattle.index_tree.specs.Allocations.{stand_apart};
@@ -80,7 +80,6 @@ fn runs_end(runs: &[Run]) -> u128
 // How many blocks there are.
 #[tactic(auto, unfolding(volume_model::specs::Indexes::block_count))]
 fn block_count(per: ClusterSize, extents: &Extents) -> u64
-    requires small { AreSmall extents.now.runs }
     ensures value { result ≡ block_count per extents.now }
     ensures most { result < 2 ^ 52 }
 {
@@ -152,7 +151,6 @@ fn or_void(block: Option<Block>) -> Block
 // The block of an allocation with this number.
 #[tactic(auto, unfolding(volume_model::specs::Indexes::index_block))]
 fn index_block(per: ClusterSize, extents: &Extents, apart: bool, number: u64) -> Block
-    requires small { AreSmall extents.now.runs }
     requires apart { apart ≡ stand_apart 0 extents.now.runs }
     requires place { number < 2 ^ 52 }
     ensures { result ≡ index_block per extents.now number }
@@ -199,7 +197,6 @@ impl BlockList {
     ///
     /// It takes no memory, and time linear in the runs.
     pub fn of_extents(alloc: Global, per: ClusterSize, extents: Extents) -> Self
-        requires small { AreSmall extents.runs }
         ensures { result ≡ blocks_of per extents }
     {
         let apart = stand_apart(extents.runs.as_slice());

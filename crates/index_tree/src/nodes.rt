@@ -10,6 +10,7 @@ use crate::fault::TreeFault;
 use crate::place::DirPlace;
 use block_view::{Block, Body, View, ViewFault};
 use disk_model::u64_at;
+use index_model::ROOT_VCN;
 use index_node::{EntryList, Node, NodeFault};
 use std::alloc::Global;
 
@@ -17,9 +18,6 @@ use std::alloc::Global;
 
 /// The levels that may lie below the root.
 pub const LEVELS_BELOW: u32 = 15;
-
-/// The VCN by which a fault names the root.
-pub const ROOT_VCN: u64 = u64::MAX;
 
 // The bytes of an index block.
 const BLOCK_BYTES: usize = 4096;

@@ -8,10 +8,11 @@ ghost use Rattle.index_tree.specs.Calls.{WalkGives};
 
 use crate::fault::TreeFault;
 use crate::met::{Met, entry_link};
-use crate::nodes::{LEVELS_BELOW, ROOT_VCN, read_node, read_root};
+use crate::nodes::{LEVELS_BELOW, read_node, read_root};
 use crate::place::DirPlace;
 use block_view::View;
 use file_tree::LinkList;
+use index_model::ROOT_VCN;
 use record_model::Entry;
 use std::alloc::Global;
 use upcase_order::Upcase;

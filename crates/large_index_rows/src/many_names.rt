@@ -3,7 +3,7 @@ ghost use Rattle.std.specs.Prelude.{◌≡◌, ◌*◌, ◌<◌, length, IfErr, 
 ghost use Rattle.block_view.specs.declared.fault.ViewFault.TheVariants.{Fault as fault};
 ghost use Rattle.disk_model.specs.Sectors.{sectors};
 ghost use Rattle.index_node.specs.Roots.{HaveSpelling};
-ghost use Rattle.stream_map.specs.Runs.{IsSmall, AreSmall};
+ghost use Rattle.record_model.specs.Runs.{IsSmall};
 
 use disk_model::Body;
 use host_base::{Bytes, FileRef};
@@ -180,9 +180,7 @@ fn one_block(i: u64, turned: bool) -> Run
 }
 
 // Those runs in their order, or the last one first.
-fn scattered_runs(alloc: Global, turned: bool) -> Result<Runs, AllocError>
-    ensures { IfOk result AreSmall }
-{
+fn scattered_runs(alloc: Global, turned: bool) -> Result<Runs, AllocError> {
     let mut runs = Runs::new(alloc);
     for i in 0..SCATTERED {
         runs.push(one_block(i, turned))?;

@@ -1,4 +1,5 @@
 -- A climb over the nodes and names of a tree says which files are those of the volume itself.
+use mathlib.Core.Path.{fun_ext}
 use Rattle.std.proofs.Common.{◌≡◌, ◌≢◌, ◌⊎◌, ℕ, zero, suc, ◌+◌, ◌<◌, ◌≤◌, Bool, true, false, not, cond, ◌&&◌, ◌||◌, eqb, leb, ltb, List, [], ◌∷◌, map, length, find, Option, Some, None, refl, sym, ap, ap₂, subst, ◌∙◌, inl, inr, arith}
 use Rattle.std.specs.Prelude.{count_by}
 use Rattle.std.specs.List.{filter, list_all, list_any, AllByRecursion}
@@ -15,14 +16,14 @@ use Rattle.file_tree.specs.declared.node.Kind.TheVariants.{Directory, File, Fixe
 use Rattle.file_tree.specs.declared.node.Node.{Node}
 use Rattle.file_tree.specs.declared.tree.Tree.{Tree}
 use Rattle.file_tree.specs.Trees.{node_at as node_by_number, has_number, is_directory_kind, is_long, is_short}
-use Rattle.file_tree.specs.Walks.{root}
+use Rattle.file_tree.specs.Walks.{root, at_some, first_user_record, passes_system}
 use Rattle.tree_model.specs.Refusals.{parent_of, is_system_kind, is_system_node}
 use Rattle.tree_model.specs.Refusals as tree
 use Rattle.state_model.specs.declared.stream.Stream.{Stream}
-use Rattle.state_model.specs.Files.{Table, file_at, links_of, links_at, record_links, is_directory_record, has_type}
+use Rattle.state_model.specs.Files.{Table, file_at, file_links, links_at, record_links, is_directory_record, has_type}
 use Rattle.state_model.specs.Loads.{table_in}
 use Rattle.state_model.specs.Rules.{implies, at_file, is_partner, has_partner, long_count, keeps_names, keeps_1, keeps_8}
-use Rattle.state_model.specs.Trees.{first_parent, parent_at, at_some, leads, first_user_record, is_in_system, is_system, is_nameless, all_links}
+use Rattle.state_model.specs.Trees.{first_parent, parent_at, leads, is_in_system, is_system, is_nameless, all_links}
 use Rattle.volume_model.specs.Volumes.{Volume, files_by_number, count_of, file_in, bytes_or}
 use Rattle.volume_model.specs.Nodes.{is_unread, is_unchanged, kind_in, node_with, node_by, some_node, node_at, nodes_by}
 use Rattle.volume_state.specs.Rules.{broken_1, broken_8}
@@ -130,7 +131,7 @@ number_among nodes m x is =
     let both = found_among (has_number m) x nodes is in
     subst (λ (k : ℕ). Among k (map (λ (y : Node). y.number) nodes)) (eqb-true x.number m both.1) (among_map x nodes both.0)
 
-some_named : (m d : ℕ) (o : Option Record) → first_parent (links_of m o) ≡ Some d → (r : Record) × (o ≡ Some r) × (eqb (length (record_links m r)) 0 ≡ false)
+some_named : (m d : ℕ) (o : Option Record) → first_parent (file_links m o) ≡ Some d → (r : Record) × (o ≡ Some r) × (eqb (length (record_links m r)) 0 ≡ false)
 some_named m d None is = absurd cc
 some_named m d (Some r) is = (r, refl, long (record_links m r) is)
   where
@@ -153,18 +154,8 @@ node_named bytes v m d is =
 
 -- ---- the climb over names
 
-same_at : (f g : ℕ → Bool) → ((m : ℕ) → f m ≡ g m) → (o : Option ℕ) → tree.at_some f o ≡ at_some g o
-same_at f g same None = refl
-same_at f g same (Some m) = same m
-
 same_climb : (files : List (Option Record)) (most m : ℕ) → tree.is_in_system (all_links (table_in files) (length files)) most m ≡ is_in_system (table_in files) most m
-unfolding tree.is_in_system is_in_system
-same_climb files zero m = refl
-same_climb files (suc most) m =
-    let p = table_in files in
-    let links = all_links p (length files) in
-    ap (λ (t : Bool). not (eqb m root) && (ltb m first_user_record || t))
-    (ap (tree.at_some (tree.is_in_system links most)) (own_parent files m) ∙ same_at (tree.is_in_system links most) (is_in_system p most) (same_climb files most) (parent_at p m))
+same_climb files most m = ap (λ (parent : ℕ → Option ℕ). passes_system parent most m) (fun_ext (own_parent files))
 
 -- as many steps as there are nodes are enough
 same_fuel : (bytes : Option Stream → List ℕ) (v : Volume) (n : ℕ) → leads (files_by_number v) (count_of v) n ≡ true → is_in_system (files_by_number v) (length (nodes_by bytes v)) n ≡ is_in_system (files_by_number v) (count_of v) n
@@ -305,7 +296,7 @@ unfolding node_by node_with
 node_number bytes v n r = refl
 
 root_outside : (links : List Link) (most : ℕ) → tree.is_in_system links most root ≡ false
-unfolding tree.is_in_system
+unfolding passes_system
 root_outside links zero = refl
 root_outside links (suc most) = refl
 
@@ -328,7 +319,7 @@ file_below v n r is = elim (cases_lt n (count_of v)) [
 
 own_links : (v : Volume) (n : ℕ) (r : Record) → file_in v n ≡ Some r → links_at (files_by_number v) n ≡ record_links n r
 unfolding links_at
-own_links v n r is = ap (links_of n) is
+own_links v n r is = ap (file_links n) is
 
 module _ (c : Content) (v : Volume) (n : ℕ) (r : Record) (is : file_in v n ≡ Some r) where
   climbed : Holds c v (tree_of c v) → is_directory_record r ≡ true → n ≢ root → tree.is_in_system (tree_of c v).links (length (tree_of c v).nodes) n ≡ is_system (files_by_number v) (count_of v) n (record_links n r)

@@ -2,7 +2,6 @@
 ghost use Rattle.std.specs.Prelude.{◌≡◌, ◌*◌, ◌≤◌, length, IfOk, IfSome};
 ghost use Rattle.bit_set.specs.Words.{bits_of_bytes};
 ghost use Rattle.state_model.specs.Streams.{stream_bytes};
-ghost use Rattle.stream_map.specs.Runs.{HasSmallRuns};
 ghost use Rattle.volume_model.specs.Volumes.{record_bitmap, cluster_bitmap};
 ghost use Rattle.block_view.specs.Views.{AsksView};
 ghost use Rattle.volume_map.specs.Errors.{map_cause, NeverRefused};
@@ -48,7 +47,6 @@ fn front_bits<V: View>(
     body: &mut Body,
     room: &mut [u8],
 ) -> Result<BitSet, MapFault>
-    requires small { HasSmallRuns stream.now }
     requires enough { count ≤ 8 * length room.old }
     ensures value { IfSome (V.content view.old) (λ d. IfOk result (λ bits. bits ≡ bits_of_bytes (stream_bytes d per stream.now) count)) }
     ensures kept { AsksView V.content V.kept V.faults map_cause view.old view.new result }
@@ -67,7 +65,6 @@ fn stream_bits<V: View>(
     count: u64,
     body: &mut Body,
 ) -> Result<BitSet, MapFault>
-    requires small { HasSmallRuns stream.now }
     ensures value { IfSome (V.content view.old) (λ d. IfOk result (λ bits. bits ≡ bits_of_bytes (stream_bytes d per stream.now) count)) }
     ensures kept { AsksView V.content V.kept V.faults map_cause view.old view.new result }
     ensures certain { NeverRefused result }
@@ -86,7 +83,6 @@ fn changed_bits<V: View>(
     changes: &[Change],
     body: &mut Body,
 ) -> Result<Option<BitSet>, MapFault>
-    requires small { IfSome bitmap HasSmallRuns }
     ensures value { IfSome (V.content view.old) (λ d. IfOk result (IsBits d per bitmap count changes.now)) }
     ensures kept { AsksView V.content V.kept V.faults map_cause view.old view.new result }
     ensures certain { NeverRefused result }

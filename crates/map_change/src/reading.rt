@@ -1,7 +1,6 @@
 //! The records that stand after changes.
 ghost use Rattle.std.specs.Prelude.{◌≡◌, ◌++◌, ◌∷◌, [], IfOk, IfSome, OnOk};
 ghost use Rattle.block_view.specs.Views.{AsksView};
-ghost use Rattle.stream_map.specs.Runs.{AreSmall};
 ghost use Rattle.volume_map.specs.Errors.{map_cause, NeverRefused};
 ghost use Rattle.map_change.specs.Reading.{IsRead, AreRead};
 
@@ -24,7 +23,6 @@ fn read_one<V: View>(
     number: u64,
     body: &mut Body,
 ) -> Result<Option<RecordChange>, MapFault>
-    requires small { AreSmall extents.now.runs }
     ensures value { IfSome (V.content view.old) (λ d. IfOk result (λ change. IfSome change (IsRead d per extents.now number))) }
     ensures kept { AsksView V.content V.kept V.faults map_cause view.old view.new result }
     ensures certain { NeverRefused result }
@@ -58,7 +56,6 @@ pub fn read_records<V: View>(
     numbers: &[u64],
     body: &mut Body,
 ) -> Result<Option<Vec<RecordChange>>, MapFault>
-    requires small { AreSmall extents.now.runs }
     ensures value { IfSome (V.content view.old) (λ d. IfOk result (λ found. IfSome found (λ records. AreRead d per extents.now numbers.now records.items))) }
     ensures kept { AsksView V.content V.kept V.faults map_cause view.old view.new result }
     ensures certain { NeverRefused result }

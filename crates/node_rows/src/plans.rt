@@ -3,10 +3,10 @@ ghost use Rattle.std.specs.Prelude.{◌≡◌, ◌<◌, ◌≤◌, OnOk, IfOk, l
 ghost use Rattle.index_plan.specs.Room.{Sized};
 
 use host_base::{Bytes, FileRef};
-use index_model::Key;
+use index_model::{Key, ROOT_VCN};
 use index_plan::{
-    Draft, KeySide, Nodes, Numbers, PlanFault, ROOT, ReadFault, Rooted, Target, Test, Write,
-    is_sized, plan_insert, plan_remove,
+    Draft, KeySide, Nodes, Numbers, PlanFault, ReadFault, Rooted, Target, Test, Write, is_sized,
+    plan_insert, plan_remove,
 };
 use record_model::{Entry, EntryList};
 use std::alloc::{AllocError, Global};
@@ -294,7 +294,10 @@ fn refuses_a_level_too_many(rt: HostRuntime) -> Result<(), Fail> {
 fn names_the_node_of_a_child_outside(rt: HostRuntime) -> Result<(), Fail> {
     let mut index = with_a_key(rt.alloc())?;
     index.root = last_node(rt.alloc(), Some(120))?;
-    let broken = Some(PlanFault::Node { vcn: ROOT, rule: 7 });
+    let broken = Some(PlanFault::Node {
+        vcn: ROOT_VCN,
+        rule: 7,
+    });
     assert_eq!(rt; index.refused_with(rt.alloc(), 3)?, broken);
     assert_eq!(rt; index.refused_without(rt.alloc(), 1)?, broken);
     Ok(())

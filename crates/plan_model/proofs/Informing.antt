@@ -15,7 +15,7 @@ use Rattle.file_tree.specs.declared.link.Link.{Link}
 use Rattle.bit_set.specs.Bits.{bit}
 use Rattle.state_model.specs.declared.geometry.Geometry.{Geometry}
 use Rattle.state_model.specs.declared.stream.Stream.{Stream}
-use Rattle.state_model.specs.Files.{file_at, reference, links_of, links_at, record_links, is_directory_record, info_of}
+use Rattle.state_model.specs.Files.{file_at, reference, file_links, links_at, record_links, is_directory_record, info_of}
 use Rattle.state_model.specs.Indexes.{is_names_root}
 use Rattle.state_model.specs.Loads.{Slot, Free, Used, slot_of, slot_at, is_used, whole_record, table_slot, table_in}
 use Rattle.state_model.specs.Rules.{first_failing, implies, at_file, is_directory_with, keeps_names, keeps_1, keeps_2, keeps_8}
@@ -182,7 +182,7 @@ module _ (c : Content) (g : Geometry) (clusters : ℕ) (v : Volume) (n : ℕ) (r
 
   names : KeepsNames n (table_in v.files) (table_in files)
   unfolding links_at
-  names = ap (links_of n) at_n ∙ small_names is_info only_info r s k n ∙ sym (ap (links_of n) p.file)
+  names = ap (file_links n) at_n ∙ small_names is_info only_info r s k n ∙ sym (ap (file_links n) p.file)
 
   all_named : (m : ℕ) → links_at (table_in files) m ≡ links_at (table_in v.files) m
   all_named = names_everywhere (table_in v.files) (table_in files) n differs.others names

@@ -31,11 +31,12 @@ use Rattle.file_tree.specs.declared.node.Kind.TheVariants.{Directory}
 use Rattle.bit_set.specs.Bits.{bit}
 use Rattle.state_model.specs.declared.geometry.Geometry.{Geometry}
 use Rattle.state_model.specs.declared.stream.Stream.{Stream}
-use Rattle.state_model.specs.Files.{file_at, reference, links_of, links_at, record_links, is_directory_record, info_of}
+use Rattle.state_model.specs.Files.{file_at, reference, file_links, links_at, record_links, is_directory_record, info_of}
 use Rattle.state_model.specs.Loads.{Slot, Used, table_slot, table_in, has_cut_index_block}
 use Rattle.state_model.specs.Rules.{first_failing, implies, at_file, same_link, keeps_names, keeps_1, is_directory_with, is_directory_at, keeps_2, is_name_in, is_index, keeps_8}
 use Rattle.state_model.specs.Streams.{stream_of}
-use Rattle.state_model.specs.Trees.{all_links, leads, is_system, first_user_record, is_in_system}
+use Rattle.file_tree.specs.Walks.{first_user_record}
+use Rattle.state_model.specs.Trees.{all_links, leads, is_system, is_in_system}
 use Rattle.volume_model.specs.Volumes.{Volume, count_of, file_in, files_by_number, file_stream, bytes_or, is_in_use, record_bits, cluster_bits, table_file, mirror_file, bitmap_file, upcase_file, upper_of}
 use Rattle.volume_model.specs.Indexes.{void_block, index_links, keeps_index}
 use Rattle.volume_model.specs.Nodes.{first_flags, kind_in, data_shown, node_by, some_node, node_at, spare_at, free_clusters}
@@ -238,26 +239,26 @@ module _ (c : Content) (g : Geometry) (clusters : ℕ) (v : Volume) (n dir : ℕ
 
   unnamed : links_at (table_in v.files) n ≡ []
   unfolding links_at
-  unnamed = ap (links_of n) no_file
+  unnamed = ap (file_links n) no_file
 
   named_middle : links_at (table_in middle) n ≡ link ∷ []
   unfolding links_at
-  named_middle = ap (links_of n) made_middle ∙ k.name
+  named_middle = ap (file_links n) made_middle ∙ k.name
 
   named_now : links_at (table_in files) n ≡ link ∷ []
   unfolding links_at
-  named_now = ap (links_of n) made_in ∙ k.name
+  named_now = ap (file_links n) made_in ∙ k.name
 
   dir_named : KeepsNames dir (table_in middle) (table_in files)
   unfolding links_at
-  dir_named = ap (links_of dir) dir_in ∙ small_names is_info_or_root info_or_root r s k.values dir ∙ sym (ap (links_of dir) dir_middle)
+  dir_named = ap (file_links dir) dir_in ∙ small_names is_info_or_root info_or_root r s k.values dir ∙ sym (ap (file_links dir) dir_middle)
 
   all_named : (m : ℕ) → links_at (table_in files) m ≡ links_at (table_in middle) m
   all_named = names_everywhere (table_in middle) (table_in files) dir then_differs.others dir_named
 
   middle_named : (m : ℕ) → m ≢ n → links_at (table_in middle) m ≡ links_at (table_in v.files) m
   unfolding links_at
-  middle_named m other = ap (links_of m) (file_elsewhere (table_in v.files) (table_in middle) n m first_differs.others other)
+  middle_named m other = ap (file_links m) (file_elsewhere (table_in v.files) (table_in middle) n m first_differs.others other)
 
   dir_kept : KeepsDirectory dir (table_in v.files) (table_in files)
   dir_kept = keeps_both (table_in v.files) (table_in files) dir r s k.file dir_in k.values.seq (same_directory is_info_or_root r s k.values)
@@ -572,7 +573,7 @@ module _ (c : Content) (g : Geometry) (clusters : ℕ) (v : Volume) (n dir : ℕ
   system_now : is_system (files_by_number w) (count_of w) dir (record_links dir r) ≡ is_system (files_by_number v) (count_of v) dir (record_links dir r)
   unfolding links_at
   system_now =
-      let names : links_at (table_in v.files) dir ≡ record_links dir r = ap (links_of dir) k.file in
+      let names : links_at (table_in v.files) dir ≡ record_links dir r = ap (file_links dir) k.file in
       let stays : inside dir ≡ true = ap not (ne_eqb dir n (λ same. apart (sym same))) in
       let above = subst (λ (l : List Link). AllByRecursion (λ x. inside x.parent.number ≡ true) l) names (places.above dir stays) in
       ap (λ (x : ℕ). is_system (table_in files) x dir (record_links dir r)) count_now

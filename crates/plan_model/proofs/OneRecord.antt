@@ -22,7 +22,8 @@ use Rattle.state_model.specs.Files.{only_base, is_base_record, record_links, is_
 use Rattle.state_model.specs.Loads.{Slot, Free, Used, record_count, table_slot, slot_at, slot_of, used_record, list_stream, all_attrs, cuts_index, has_cut_index_block, breaks_9, joined_file, or_rule, broken_rule, rule_at, breaks_10, data_stream}
 use Rattle.state_model.specs.Rules.{implies, at_file, keeps_names}
 use Rattle.state_model.specs.Streams.{is_attribute_of, attributes_of, stream_of, block_at, has_cut_block}
-use Rattle.state_model.specs.Trees.{is_system, is_nameless, first_user_record}
+use Rattle.file_tree.specs.Walks.{first_user_record}
+use Rattle.state_model.specs.Trees.{is_system, is_nameless}
 use Rattle.volume_model.specs.Volumes.{Volume, count_of, file_in, files_by_number, table_file, mirror_file, bitmap_file, size_or, record_bitmap, cluster_bitmap}
 use Rattle.volume_model.specs.Indexes.{void_block}
 use Rattle.volume_model.specs.Nodes.{valid_or, clusters_or, data_flags, first_flags, has_sparse_run, sparse_if, why_not, is_unread, is_unchanged, kind_in, shows_data, data_shown, node_with, node_by, some_node}

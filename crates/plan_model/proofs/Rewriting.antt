@@ -14,7 +14,7 @@ use Rattle.file_tree.specs.declared.link.Link.{Link}
 use Rattle.state_model.specs.Files.{attr_link, reference, record_links, is_directory_record, has_type, attr_info, info_of}
 use Rattle.state_model.specs.Indexes.{is_names_root}
 use Rattle.state_model.specs.Rules.{keeps_names, implies, long_count, has_partner, is_only_short}
-use Rattle.state_model.specs.Trees.{first_user_record}
+use Rattle.file_tree.specs.Walks.{first_user_record}
 use Rattle.state_model.specs.Loads.{total_clusters}
 use Rattle.state_model.specs.Streams.{form_first, first_vcn, is_attribute_of, with_attribute, sorted_into, attributes_of, form_runs, attribute_runs, form_stream, joined, stream_of}
 use Rattle.volume_model.specs.Indexes.{attr_value, root_value}

@@ -17,7 +17,8 @@ use Rattle.state_model.specs.Files.{reference, record_links, is_directory_record
 use Rattle.state_model.specs.Loads.{Used, slot_of}
 use Rattle.state_model.specs.Rules.{keeps_names, is_rising}
 use Rattle.state_model.specs.Streams.{block_at}
-use Rattle.state_model.specs.Trees.{first_user_record, is_in_system, is_system}
+use Rattle.file_tree.specs.Walks.{first_user_record}
+use Rattle.state_model.specs.Trees.{is_in_system, is_system}
 use Rattle.volume_model.specs.Volumes.{Volume, count_of, file_in, bytes_or, table_file, cluster_bits, record_bits, upper_of, files_by_number}
 use Rattle.volume_model.specs.Indexes.{void_block, index_links}
 use Rattle.volume_model.specs.Nodes.{node_by, spare_at}

@@ -25,7 +25,8 @@ use Rattle.state_model.specs.Files.{is_directory_record}
 use Rattle.state_model.specs.Loads.{Torn, boot_block, slot_of, table_of, table_slot, record_count, torn_refusal, list_stream, extents_or}
 use Rattle.state_model.specs.Rules.{implies, at_file}
 use Rattle.state_model.specs.Streams.{stream_of, block_at}
-use Rattle.state_model.specs.Trees.{first_user_record, is_system}
+use Rattle.file_tree.specs.Walks.{first_user_record}
+use Rattle.state_model.specs.Trees.{is_system}
 use Rattle.volume_model.specs.Volumes.{Volume, volume_of, count_of, file_in, file_stream, bytes_or, record_bitmap, cluster_bits, table_file, mirror_file, bitmap_file, upcase_file, upper_of}
 use Rattle.volume_model.specs.Indexes.{void_block, or_void, index_block, index_stream, keeps_index}
 use Rattle.volume_model.specs.Nodes.{shows_data, kind_in, node_at, nodes_by, free_clusters}

@@ -8,7 +8,7 @@ ghost use Rattle.plan_space.specs.declared.fault.SpaceFault.TheVariants.{Short, 
 use crate::fault::SpaceFault;
 use crate::free_bits::FreeBits;
 use host_base::Memory;
-use record_model::{Run, Runs};
+use record_model::Run;
 use std::alloc::Global;
 
 // How many bits directly behind this one are clear, so many at most.
@@ -43,13 +43,13 @@ fn next_run<B: FreeBits>(bits: &B, wanted: u64) -> Option<(u64, u64)>
 // The answer is how many it has.
 fn take_run<B: FreeBits>(
     bits: &mut B,
-    runs: &mut Runs,
+    runs: &mut Vec<Run>,
     vcn: u64,
     wanted: u64,
 ) -> Result<u64, Memory>
     requires some { 0 < wanted }
     requires room { wanted ≤ count_by not (B.bits bits.old) }
-    ensures { IfOk result (λ len. TakesRun (B.bits bits.old) (B.bits bits.new) runs.old runs.new vcn wanted len) }
+    ensures { IfOk result (λ len. TakesRun (B.bits bits.old) (B.bits bits.new) runs.old.items runs.new.items vcn wanted len) }
 {
     let Some((first, len)) = next_run(bits, wanted) else {
         return Err(Memory);
@@ -66,13 +66,13 @@ fn take_run<B: FreeBits>(
 // Takes so many clusters, wherever they are.
 fn take_anywhere<B: FreeBits>(
     bits: &mut B,
-    runs: &mut Runs,
+    runs: &mut Vec<Run>,
     vcn: u64,
     wanted: u64,
 ) -> Result<(), Memory>
     requires room { wanted ≤ count_by not (B.bits bits.old) }
     requires small { vcn + wanted < 2 ^ 64 }
-    ensures runs { OnOk result (runs.new ≡ runs.old ++ chosen_anywhere wanted (B.bits bits.old) vcn wanted) }
+    ensures runs { OnOk result (runs.new.items ≡ runs.old.items ++ chosen_anywhere wanted (B.bits bits.old) vcn wanted) }
     ensures bits { OnOk result (B.bits bits.new ≡ with_runs (chosen_anywhere wanted (B.bits bits.old) vcn wanted) (B.bits bits.old)) }
 {
     let mut taken = 0;
@@ -86,13 +86,13 @@ fn take_anywhere<B: FreeBits>(
 // are.
 fn take_behind<B: FreeBits>(
     bits: &mut B,
-    runs: &mut Runs,
+    runs: &mut Vec<Run>,
     last: Option<u64>,
     wanted: u64,
 ) -> Result<u64, Memory>
-    requires none { runs.old ≡ [] }
+    requires none { runs.old.items ≡ [] }
     requires last { IfSome last (λ at. at < length (B.bits bits.old)) }
-    ensures { IfOk result (λ len. TakesBehind (B.bits bits.old) (B.bits bits.new) runs.new last wanted len) }
+    ensures { IfOk result (λ len. TakesBehind (B.bits bits.old) (B.bits bits.new) runs.new.items last wanted len) }
 {
     let Some(last) = last else {
         return Ok(0);
@@ -124,10 +124,10 @@ pub fn choose<B: FreeBits>(
     bits: &mut B,
     last: Option<u64>,
     wanted: u64,
-) -> Result<Runs, SpaceFault>
+) -> Result<Vec<Run>, SpaceFault>
     requires last { IfSome last (λ at. at < length (B.bits bits.old)) }
-    ensures runs { IfOk result (λ runs. runs ≡ chosen (B.bits bits.old) last wanted) }
-    ensures bits { IfOk result (λ runs. B.bits bits.new ≡ with_runs runs (B.bits bits.old)) }
+    ensures runs { IfOk result (λ runs. runs.items ≡ chosen (B.bits bits.old) last wanted) }
+    ensures bits { IfOk result (λ runs. B.bits bits.new ≡ with_runs runs.items (B.bits bits.old)) }
     ensures short { count_by not (B.bits bits.old) < wanted → result ≡ Err (Short (count_by not (B.bits bits.old))) }
     ensures unchanged { count_by not (B.bits bits.old) < wanted → B.bits bits.new ≡ B.bits bits.old }
     ensures enough { wanted ≤ count_by not (B.bits bits.old) → IfErr result (λ e. e ≡ no_memory) }
@@ -136,7 +136,7 @@ pub fn choose<B: FreeBits>(
     if room < wanted {
         return Err(SpaceFault::Short { room });
     }
-    let mut runs = Runs::new(alloc);
+    let mut runs = Vec::new(alloc);
     let front = take_behind(bits, &mut runs, last, wanted)?;
     take_anywhere(bits, &mut runs, front, wanted - front)?;
     Ok(runs)

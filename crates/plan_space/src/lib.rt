@@ -14,5 +14,5 @@ pub use bit_set::BitSet;
 pub use choosing::choose;
 pub use fault::SpaceFault;
 pub use free_bits::FreeBits;
-pub use record_model::{Run, Runs};
+pub use record_model::Run;
 pub use taken::Taken;

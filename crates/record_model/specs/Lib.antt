@@ -6,6 +6,7 @@ pub mod ListEntries
 pub mod RecordLaws
 pub mod Pairs
 pub mod PairsLaws
+pub mod Runs
 pub mod StdValues
 pub mod StdValuesLaws
 pub mod Nodes

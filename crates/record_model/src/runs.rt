@@ -1,4 +1,5 @@
 ghost use Rattle.std.specs.Prelude.{◌≡◌, ◌↔◌, [], ◌∷◌, ◌++◌, IsTrue, IfOk, OnOk, OnErr, length};
+ghost use Rattle.record_model.specs.Runs.{IsSmall, AreSmall};
 
 use std::alloc::{AllocError, Global};
 use std::marker::Model;
@@ -13,7 +14,8 @@ pub struct Run {
     pub len: u64,
 }
 
-/// Runs in their order, which contracts see as a list.
+/// Runs in their order, which contracts see as a list. Each is as small as mapping pairs can give
+/// it: at most 2^32 clusters, from below cluster 2^32 of the volume on, or sparse.
 #[derive(Debug, Drop)]
 pub struct Runs {
     items: Vec<Run>,
@@ -26,14 +28,10 @@ impl Model for Runs {
     ghost Value = { List Run };
 
     ghost view = { λ r. r.items.items };
-}
 
-impl From<Vec<Run>> for Runs {
-    ghost from_gives = { λ items runs. runs ≡ items.items };
+    ghost use Rattle.record_model.specs.Runs.{AreSmall};
 
-    fn from(items: Vec<Run>) -> Self {
-        Runs { items }
-    }
+    ghost invariant = { λ r. AreSmall r.items.items };
 }
 
 impl Runs {
@@ -48,6 +46,7 @@ impl Runs {
 
     /// Adds a run at the end. The error is want of memory, and leaves the runs as they were.
     pub fn push(&mut self, run: Run) -> Result<(), AllocError>
+        requires { IsSmall run }
         ensures pushed { OnOk result (self.new ≡ self.old ++ run ∷ []) }
         ensures unchanged { OnErr result (self.new ≡ self.old) }
     {
@@ -55,9 +54,20 @@ impl Runs {
         Ok(())
     }
 
+    /// Adds these runs at the end; linear in them. The error is want of memory, and leaves the runs
+    /// as they were.
+    pub fn extend(&mut self, runs: &Runs) -> Result<(), AllocError>
+        ensures added { OnOk result (self.new ≡ self.old ++ runs.now) }
+        ensures unchanged { OnErr result (self.new ≡ self.old) }
+    {
+        self.items.extend_from_slice(&runs.items)?;
+        Ok(())
+    }
+
     /// The runs as a slice.
     pub fn as_slice(&self) -> &[Run]
-        ensures { result.now ≡ self.now }
+        ensures value { result.now ≡ self.now }
+        ensures small { AreSmall result.now }
     {
         &self.items
     }

@@ -6,7 +6,7 @@ use Rattle.std.proofs.lemmas.List.{append-nil, get_or_past}
 use Rattle.std.proofs.lemmas.List.Concat.{flat_map-append}
 use Rattle.std.proofs.lemmas.List.FromFn.{map-range_with_len_more, get_or-map-range_with_len, length-map-range_with_len}
 use Rattle.record_model.specs.Records.{Record}
-use Rattle.state_model.specs.Files.{file_at, links_at, only_base, links_of}
+use Rattle.state_model.specs.Files.{file_at, links_at, only_base, file_links}
 use Rattle.state_model.specs.Trees.{parent_at, first_parent}
 use Rattle.state_model.specs.Loads.{table_in}
 
@@ -41,7 +41,7 @@ none_past records i past = ap only_base (get_or_past records i None past)
 
 pub no_parent : (records : List (Option Record)) (i : ℕ) → length records ≤ i → parent_at (table_in records) i ≡ None
 unfolding parent_at links_at
-no_parent records i past = ap (λ o. first_parent (links_of i o)) (none_past records i past)
+no_parent records i past = ap (λ o. first_parent (file_links i o)) (none_past records i past)
 
 pub parent_past : (records : List (Option Record)) (parents : List (Option ℕ)) (i : ℕ) → parents ≡ map (parent_at (table_in records)) (range_with_len 0 (length records)) → length parents ≤ i → None ≡ parent_at (table_in records) i
 parent_past records parents i is past =

@@ -7,9 +7,9 @@ use Rattle.std.proofs.lemmas.Bool.{cases_lt, lt-ltb}
 use Rattle.std.proofs.lemmas.List.{get_or_past}
 use Rattle.std.proofs.lemmas.List.FromFn.{get_or-map-range_with_len, length-map-range_with_len}
 use Rattle.record_model.specs.Records.{Record}
-use Rattle.file_tree.specs.Walks.{root}
+use Rattle.file_tree.specs.Walks.{root, at_some, first_user_record, passes_system}
 use Rattle.state_model.specs.Files.{Table}
-use Rattle.state_model.specs.Trees.{at_some, parent_at, leads, is_in_system, first_user_record}
+use Rattle.state_model.specs.Trees.{parent_at, leads, is_in_system}
 use Rattle.state_model.specs.Loads.{table_in}
 use Rattle.record_rules.specs.declared.passing.Question.{Question}
 use Rattle.record_rules.specs.declared.passing.Question.TheVariants.{Rooted, InSystem}
@@ -74,11 +74,11 @@ system_ends false true other = refl
 system_ends false false other = refl
 
 system_zero : (p : Table) (ps : List (Option ℕ)) (n : ℕ) → climbed InSystem ps zero n ≡ is_in_system p zero n
-unfolding climbed is_in_system
+unfolding climbed passes_system
 system_zero p ps n = refl
 
 system_suc : (p : Table) (ps : List (Option ℕ)) (most n : ℕ) → at_some (climbed InSystem ps most) (get_or ps n None) ≡ at_some (is_in_system p most) (parent_at p n) → climbed InSystem ps (suc most) n ≡ is_in_system p (suc most) n
-unfolding is_in_system
+unfolding passes_system
 system_suc p ps most n above = climbed_again InSystem ps most n ∙ system_ends (n == root) (nat_lt n first_user_record) (at_some (climbed InSystem ps most) (get_or ps n None)) ∙ ap (λ b. not (n == root) && (nat_lt n first_user_record || b)) above
 
 system_is : (p : Table) (ps : List (Option ℕ)) → ((n : ℕ) → get_or ps n None ≡ parent_at p n) → (most n : ℕ) → climbed InSystem ps most n ≡ is_in_system p most n
@@ -112,7 +112,7 @@ and_false : (a b : Bool) → (not a && b) ≡ (not a && (b || false))
 and_false a b = ap (λ c. not a && c) (or_false b)
 
 system_alone : (p : Table) (count n : ℕ) → parent_at p n ≡ None → (nat_lt 0 count && (not (n == root) && nat_lt n first_user_record)) ≡ is_in_system p count n
-unfolding is_in_system
+unfolding passes_system
 system_alone p zero n none = refl
 system_alone p (suc most) n none =
     ap (λ b. b && (not (n == root) && nat_lt n first_user_record)) (lt-ltb 0 (suc most) (omega arith))

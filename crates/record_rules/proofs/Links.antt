@@ -6,7 +6,7 @@ use Rattle.std.proofs.lemmas.List.{get_or_past}
 use Rattle.std.proofs.lemmas.List.FromFn.{map-range_with_len_more, get_or-map-range_with_len, length-map-range_with_len}
 use Rattle.file_tree.specs.declared.link.Link.{Link}
 use Rattle.record_model.specs.Records.{Record}
-use Rattle.state_model.specs.Files.{Table, only_base, file_at, links_of, links_at}
+use Rattle.state_model.specs.Files.{Table, only_base, file_at, file_links, links_at}
 use Rattle.state_model.specs.Loads.{table_in}
 use Rattle.record_rules.specs.Links.{links_in}
 
@@ -15,7 +15,7 @@ links_more p n = map-range_with_len_more (links_at p) 0 n n (omega arith)
 
 past_table : (records : List (Option Record)) (n : ℕ) → length records ≤ n → links_at (table_in records) n ≡ []
 unfolding links_at file_at
-past_table records n past = let e : get_or records n None ≡ None = get_or_past records n None past in ap (λ (o : Option Record). links_of n (only_base o)) e
+past_table records n past = let e : get_or records n None ≡ None = get_or_past records n None past in ap (λ (o : Option Record). file_links n (only_base o)) e
 
 pub links_found : (records : List (Option Record)) (n : ℕ) → get_or (links_in records) n [] ≡ links_at (table_in records) n
 unfolding links_in

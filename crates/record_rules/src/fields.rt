@@ -10,9 +10,6 @@ use file_record::FileRec;
 use record_model::{Attr, AttributeFlags, OwnForm, RecordFlags, STANDARD_INFORMATION, StdInfo};
 use std_values::FixedValue;
 
-/// The first record that isn't one of the volume's own files.
-pub const FIRST_USER_RECORD: u64 = 24;
-
 /// Whether the record is that of a directory, by the flag 2 of its header (Linux-NTFS
 /// documentation, "FILE Record").
 pub fn is_directory_record(file: &FileRec) -> bool

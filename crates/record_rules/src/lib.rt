@@ -22,10 +22,7 @@ mod ways;
 pub use climbing::{Climber, all_links};
 pub use comparing::is_index;
 pub use counts::counts_in;
-pub use fields::{
-    FIRST_USER_RECORD, has_type, info_of, is_compressed, is_directory_record, is_encrypted,
-    is_sparse,
-};
+pub use fields::{has_type, info_of, is_compressed, is_directory_record, is_encrypted, is_sparse};
 pub use file_record::file_at;
 pub use linking::{links_in, links_of};
 pub use names::{push_some, record_links, value_link};

@@ -5,9 +5,9 @@ ghost use Rattle.state_model.specs.Files.{links_at};
 ghost use Rattle.state_model.specs.Rules.{is_partner, has_partner, is_short_in, is_only_short, long_count, keeps_names, keeps_1};
 ghost use Rattle.state_model.specs.Loads.{table_in};
 
-use crate::fields::{FIRST_USER_RECORD, has_type, is_directory_record};
+use crate::fields::{has_type, is_directory_record};
 use file_record::{FileRec, file_at};
-use file_tree::{Link, SHORT, WIN32};
+use file_tree::{FIRST_USER_RECORD, Link, SHORT, WIN32};
 use host_base::{FileRef, is_same_reference};
 use record_model::STANDARD_INFORMATION;
 

@@ -3,11 +3,8 @@ ghost use Rattle.std.specs.Prelude.{◌≡◌, ◌++◌, ◌∷◌, [], IfOk, le
 ghost use Rattle.std.specs.List.{range_with_len};
 ghost use Rattle.record_rules.specs.Passing.{end_of, answered, passed_answer, known, passed, climbed, reach, Tells, AreSettled};
 
-use crate::fields::FIRST_USER_RECORD;
+use file_tree::{FIRST_USER_RECORD, ROOT};
 use std::alloc::{AllocError, Global};
-
-// The root's number.
-pub const ROOT: u64 = 5;
 
 /// What is asked of the way up from a record.
 #[derive(Clone, Copy)]

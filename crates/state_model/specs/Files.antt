@@ -40,6 +40,7 @@ is_directory_record r = r.head.flags / 2 % 2 == 1
 
 -- ---- names
 
+-- the link of a file by what was read of a name's value
 abbrev pub named : FileRef → Result FileNameValue ValueFault → Option Link
 named child (Ok f) = Some (record { parent = f.parent; name = f.name; space = f.space; child = child })
 named child (Err fault) = None
@@ -56,13 +57,13 @@ attr_link child a = if a.head.kind == file_name then form_link child a.form else
 unfoldable pub record_links : ℕ → Record → List Link
 record_links n r = filter_map (attr_link (reference n r)) r.attrs
 
-abbrev pub links_of : ℕ → Option Record → List Link
-links_of n None = []
-links_of n (Some r) = record_links n r
+abbrev pub file_links : ℕ → Option Record → List Link
+file_links n None = []
+file_links n (Some r) = record_links n r
 
 -- the names of a file
 unfoldable pub links_at : Table → ℕ → List Link
-links_at p n = links_of n (file_at p n)
+links_at p n = file_links n (file_at p n)
 
 -- ---- attributes
 

@@ -11,7 +11,8 @@ use Rattle.file_tree.specs.Names.{comes_before}
 use Rattle.file_tree.specs.Trees.{win32_space, is_short, is_long}
 use Rattle.state_model.specs.declared.broken.Broken.{Broken}
 use Rattle.state_model.specs.Files.{Table, file_at, links_at, record_links, is_directory_record, has_type}
-use Rattle.state_model.specs.Trees.{leads, first_user_record}
+use Rattle.file_tree.specs.Walks.{first_user_record}
+use Rattle.state_model.specs.Trees.{leads}
 
 abbrev pub implies : Bool → Bool → Bool
 implies a b = not a || b

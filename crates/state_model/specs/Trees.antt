@@ -1,9 +1,9 @@
 -- The tree that a file table stands for.
-use Rattle.std.specs.Prelude.{ℕ, zero, suc, Bool, false, not, ◌&&◌, ◌||◌, ◌==◌, nat_lt, List, [], ◌∷◌, length, Option, Some, None}
+use Rattle.std.specs.Prelude.{ℕ, zero, suc, Bool, ◌&&◌, ◌||◌, ◌==◌, nat_lt, List, [], ◌∷◌, length, Option, Some, None}
 use Rattle.std.specs.List.{range_with_len, list_any, flat_map}
 use Rattle.record_model.specs.Records.{Record}
 use Rattle.file_tree.specs.declared.link.Link.{Link}
-use Rattle.file_tree.specs.Walks.{root}
+use Rattle.file_tree.specs.Walks.{root, first_user_record, at_some, passes_system}
 use Rattle.state_model.specs.Files.{Table, links_at, record_links}
 
 -- ---- the way up
@@ -16,23 +16,14 @@ first_parent (l ∷ links) = Some l.parent.number
 unfoldable pub parent_at : Table → ℕ → Option ℕ
 parent_at p n = first_parent (links_at p n)
 
-abbrev pub at_some : (ℕ → Bool) → Option ℕ → Bool
-at_some test None = false
-at_some test (Some n) = test n
-
 -- the way up from a directory, of at most so many steps, reaches the root
 unfoldable pub leads : Table → ℕ → ℕ → Bool
 leads p zero n = n == root
 leads p (suc most) n = n == root || at_some (leads p most) (parent_at p n)
 
--- records below 24 are those of the volume itself
-abbrev pub first_user_record : ℕ
-first_user_record = 24
-
 -- on the way up, of at most so many steps, stands a directory of the volume itself, other than the root
-unfoldable pub is_in_system : Table → ℕ → ℕ → Bool
-is_in_system p zero n = false
-is_in_system p (suc most) n = not (n == root) && (nat_lt n first_user_record || at_some (is_in_system p most) (parent_at p n))
+abbrev pub is_in_system : Table → ℕ → ℕ → Bool
+is_in_system p = passes_system (parent_at p)
 
 -- ---- nodes
 

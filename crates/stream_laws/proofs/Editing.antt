@@ -6,7 +6,7 @@ use Rattle.std.proofs.lemmas.List.{get_or-set_same, get_or-set_other}
 use Rattle.std.proofs.lemmas.List.Sums.{sum_by-cons, sum_by-set}
 use Rattle.host_base.specs.declared.file_ref.FileRef.{FileRef}
 use Rattle.record_model.specs.Records.{Record}
-use Rattle.state_model.specs.Files.{only_base, file_at, links_of, links_at}
+use Rattle.state_model.specs.Files.{only_base, file_at, file_links, links_at}
 use Rattle.state_model.specs.Loads.{table_in}
 use Rattle.state_model.specs.Rules.{count_in, names_in}
 use Rattle.volume_model.specs.Owners.{volume_runs, uses}
@@ -74,7 +74,7 @@ clusters_balance files edits x are =
 
 -- the names of a file in a directory
 abbrev names_of : FileRef → ℕ → Option Record → ℕ
-names_of directory n file = count_in directory (links_of n (only_base file))
+names_of directory n file = count_in directory (file_links n (only_base file))
 
 one_name : (directory : FileRef) (files : Files) (n : ℕ) (file : Option Record) (count : ℕ) → length files ≡ count → n < count → names_in (table_in (set files n file)) directory count + names_of directory n (get_or files n None) ≡ names_in (table_in files) directory count + names_of directory n file
 unfolding links_at file_at

@@ -3,7 +3,7 @@ use Rattle.std.proofs.Common.{◌≡◌, ℕ, zero, suc, ◌+◌, ◌<◌, ◌�
 use Rattle.std.proofs.lemmas.Bool.{cases_lt}
 use Rattle.host_base.specs.declared.file_ref.FileRef.{FileRef}
 use Rattle.record_model.specs.Records.{Record}
-use Rattle.state_model.specs.Files.{Table, only_base, file_at, links_of, links_at}
+use Rattle.state_model.specs.Files.{Table, only_base, file_at, file_links, links_at}
 use Rattle.state_model.specs.Loads.{table_in}
 use Rattle.state_model.specs.Rules.{count_in, names_in}
 use Rattle.volume_model.specs.Owners.{file_runs, volume_runs, uses}
@@ -18,7 +18,7 @@ clusters_replaced old new n x differs =
 
 pub same_names : (p q : Table) (n : ℕ) → q n ≡ p n → links_at q n ≡ links_at p n
 unfolding links_at file_at
-same_names p q n same = ap (λ (o : Option Record). links_of n (only_base o)) same
+same_names p q n same = ap (λ (o : Option Record). file_links n (only_base o)) same
 
 names_below : (p q : Table) (directory : FileRef) (count n : ℕ) → count ≤ n → SameBut n p q → names_in q directory count ≡ names_in p directory count
 unfolding names_in

@@ -4,7 +4,7 @@ use Rattle.std.specs.List.{sum_by, AllByRecursion}
 use Rattle.host_base.specs.declared.file_ref.FileRef.{FileRef}
 use Rattle.record_model.specs.Records.{Record}
 use Rattle.file_tree.specs.declared.link.Link.{Link}
-use Rattle.state_model.specs.Files.{Table, only_base, links_of, links_at}
+use Rattle.state_model.specs.Files.{Table, only_base, file_links, links_at}
 use Rattle.state_model.specs.Loads.{table_in}
 use Rattle.state_model.specs.Rules.{count_in, names_in}
 use Rattle.volume_model.specs.Owners.{file_runs, volume_runs, uses}
@@ -56,7 +56,7 @@ clusters_gained x edits = sum_by (λ e. uses (file_runs e.file) x) edits
 
 -- the names of the file that an edit puts in
 abbrev pub edit_links : FileEdit → List Link
-edit_links e = links_of e.number (only_base e.file)
+edit_links e = file_links e.number (only_base e.file)
 
 -- how many names of a directory the edits take away, and how many they add
 abbrev pub names_lost : List (Option Record) → FileRef → List FileEdit → ℕ

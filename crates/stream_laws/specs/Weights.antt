@@ -9,7 +9,7 @@ use Rattle.record_model.specs.declared.attribute.Attr.{Attr}
 use Rattle.record_model.specs.declared.runs.Run.{Run}
 use Rattle.record_model.specs.Records.{Record}
 use Rattle.file_tree.specs.declared.link.Link.{Link}
-use Rattle.state_model.specs.Files.{only_base, links_of}
+use Rattle.state_model.specs.Files.{only_base, file_links}
 use Rattle.state_model.specs.Loads.{table_in}
 use Rattle.state_model.specs.Rules.{same_link}
 use Rattle.state_model.specs.Streams.{attribute_runs, stream_of}
@@ -74,7 +74,7 @@ live_in per b n (Some r) = sum_by (attr_live per b n r.attrs) r.attrs
 
 -- how many names of a file are this link
 abbrev pub times_named : Link → ℕ → Option Record → ℕ
-times_named l n file = count_by (same_link l) (links_of n (only_base file))
+times_named l n file = count_by (same_link l) (file_links n (only_base file))
 
 -- ---- the laws
 

@@ -3,7 +3,6 @@ pub mod Joining
 pub mod Padding
 pub mod Ranges
 pub mod Reading
-pub mod SmallRuns
 pub mod ListEntries
 pub mod ListFronts
 pub mod ListReading

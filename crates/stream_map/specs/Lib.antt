@@ -1,5 +1,4 @@
 pub mod Attributes
 pub mod Reads
-pub mod Runs
 pub mod ListFronts
 pub mod ListSteps

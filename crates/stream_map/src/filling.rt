@@ -5,12 +5,11 @@ ghost use Rattle.disk_model.specs.Bytes.{zeros};
 ghost use Rattle.disk_model.specs.declared.block.BlockKind.TheVariants.{Plain};
 ghost use Rattle.block_view.specs.declared.fault.ViewFault.TheVariants.{Fault};
 ghost use Rattle.state_model.specs.Streams.{byte_at, extent_bytes, stream_bytes};
-ghost use Rattle.stream_map.specs.Reads.{placed_bytes};
-ghost use Rattle.stream_map.specs.Runs.{AreSmall, HasSmallRuns, IsResident};
+ghost use Rattle.stream_map.specs.Reads.{placed_bytes, IsResident};
 
 use super::places::block_at;
 use block_view::{Block, BlockKind, Body, View, ViewFault};
-use record_model::Run;
+use record_model::Runs;
 use state_model::{ClusterSize, Extents, Stream};
 
 #[tactic(auto, unfolding(disk_model::specs::Bytes::zeros))]
@@ -77,12 +76,11 @@ fn read_part<V: View>(
 fn fill_part<V: View>(
     v: &mut V,
     per: ClusterSize,
-    runs: &[Run],
+    runs: &Runs,
     at: u64,
     body: &mut Body,
     out: &mut [u8],
 ) -> Result<(), ViewFault>
-    requires small { AreSmall runs.now }
     requires sector { at % 512 + length out.old ≤ 512 }
     ensures bytes { IfSome (V.content v.old)
         (λ c. OnOk result (out.new ≡ placed_bytes c per runs.now at (length out.old))) }
@@ -91,7 +89,7 @@ fn fill_part<V: View>(
     ensures kept { V.kept v.new ≡ V.kept v.old }
     ensures cause { HasCause (V.faults v.old) (V.faults v.new) result }
 {
-    match block_at(per, runs, BlockKind::Plain, at / 512) {
+    match block_at(per, runs.as_slice(), BlockKind::Plain, at / 512) {
         None => {
             clear(out);
             Ok(())
@@ -104,12 +102,11 @@ fn fill_part<V: View>(
 fn fill_placed<V: View>(
     v: &mut V,
     per: ClusterSize,
-    runs: &[Run],
+    runs: &Runs,
     at: u64,
     body: &mut Body,
     out: &mut [u8],
 ) -> Result<(), ViewFault>
-    requires small { AreSmall runs.now }
     requires place { at + length out.old ≤ 2 ^ 64 }
     ensures bytes { IfSome (V.content v.old)
         (λ c. OnOk result (out.new ≡ placed_bytes c per runs.now at (length out.old))) }
@@ -146,7 +143,6 @@ pub fn fill<V: View>(
     body: &mut Body,
     out: &mut [u8],
 ) -> Result<(), ViewFault>
-    requires small { AreSmall extents.now.runs }
     requires place { at + length out.old ≤ 2 ^ 64 }
     ensures bytes { IfSome (V.content v.old)
         (λ c. OnOk result (out.new
@@ -157,7 +153,7 @@ pub fn fill<V: View>(
     ensures cause { HasCause (V.faults v.old) (V.faults v.new) result }
 {
     let known = bytes_below(extents.initialised, at, out.len());
-    fill_placed(v, per, extents.runs.as_slice(), at, body, &mut out[..known])?;
+    fill_placed(v, per, &extents.runs, at, body, &mut out[..known])?;
     clear_from(out, known);
     Ok(())
 }
@@ -181,7 +177,6 @@ fn fill_front<V: View>(
     body: &mut Body,
     out: &mut [u8],
 ) -> Result<(), ViewFault>
-    requires small { AreSmall extents.now.runs }
     ensures bytes { IfSome (V.content v.old)
         (λ c. OnOk result (out.new
         ≡ take (length out.old) (drop at (extent_bytes c per extents.now) ++ zeros (length out.old)))) }
@@ -212,7 +207,6 @@ pub fn front<V: View>(
     body: &mut Body,
     out: &mut [u8],
 ) -> Result<(), ViewFault>
-    requires small { HasSmallRuns stream.now }
     ensures bytes { IfSome (V.content v.old)
         (λ c. OnOk result (out.new
         ≡ take (length out.old) (drop at (stream_bytes c per stream.now) ++ zeros (length out.old)))) }

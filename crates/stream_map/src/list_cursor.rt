@@ -1,6 +1,5 @@
 ghost use Rattle.std.specs.Prelude.{◌≡◌, ◌≤◌, OnErr, IfOk, IfSome};
 ghost use Rattle.state_model.specs.Streams.{real_size, stream_bytes};
-ghost use Rattle.stream_map.specs.Runs.{HasSmallRuns};
 ghost use Rattle.stream_map.specs.ListSteps.{IsStep, Moves, ViewCause};
 
 use super::list_front::{FRONT_BYTES, FirstEntry, first_entry};
@@ -28,7 +27,6 @@ pub fn next_entry<V: View>(
     at: &mut u64,
     body: &mut Body,
 ) -> Result<Step, ViewFault>
-    requires small { HasSmallRuns stream.now }
     requires place { at.old ≤ real_size stream.now }
     ensures step { IfSome (V.content v.old) (λ c. IfOk result (IsStep (stream_bytes c per stream.now) at.old at.new)) }
     ensures moves { IfOk result (Moves (real_size stream.now) at.old at.new) }

@@ -2,7 +2,7 @@ ghost use Rattle.std.specs.Prelude.{not, is_some, ◌≡◌, ◌+◌, ◌-◌, �
 ghost use Rattle.std.specs.List.{list_any};
 ghost use Rattle.disk_model.specs.Sectors.{sectors};
 ghost use Rattle.state_model.specs.Streams.{holds, lcn_in, block_at, is_inside_block, cuts_block, has_cut_block};
-ghost use Rattle.stream_map.specs.Runs.{IsSmall, AreSmall};
+ghost use Rattle.record_model.specs.Runs.{IsSmall, AreSmall};
 
 use disk_model::{Block, BlockKind};
 use record_model::Run;

@@ -1,14 +1,13 @@
-ghost use Rattle.std.specs.Prelude.{◌≡◌, ◌++◌, IfOk, OnOk, IfSome, length};
+ghost use Rattle.std.specs.Prelude.{◌≡◌, ◌++◌, IfOk, OnOk, length};
 ghost use Rattle.std.specs.List.{flat_map};
 ghost use Rattle.record_model.specs.Pairs.{runs_of};
 ghost use Rattle.state_model.specs.Streams.{runs_or, form_runs, attribute_runs, joined, stream_of, real_size};
 ghost use Rattle.stream_map.specs.Attributes.{behind};
 ghost use Rattle.state_model.specs.Loads.{no_extents};
-ghost use Rattle.stream_map.specs.Runs.{AreSmall, HasSmallRuns};
 
 use super::attributes::attributes_of;
 use host_base::Memory;
-use record_model::{Attr, OwnForm, PairsFault, Run, Runs};
+use record_model::{Attr, OwnForm, PairsFault, Runs};
 use state_model::{Extents, Stream};
 use std::alloc::Global;
 
@@ -25,14 +24,14 @@ fn runs_or(alloc: Global, first: u64, pairs: &[u8]) -> Result<Runs, Memory>
     }
 }
 
-fn push_runs(alloc: Global, out: &mut Vec<Run>, form: &OwnForm) -> Result<(), Memory>
-    ensures { OnOk result (out.new.items ≡ out.old.items ++ form_runs form.now) }
+fn push_runs(alloc: Global, out: &mut Runs, form: &OwnForm) -> Result<(), Memory>
+    ensures { OnOk result (out.new ≡ out.old ++ form_runs form.now) }
 {
     match form {
         OwnForm::Resident { .. } => Ok(()),
         OwnForm::Mapped { sizes, pairs } => {
             let runs = runs_or(alloc, sizes.first, pairs.as_slice())?;
-            out.extend_from_slice(runs.as_slice())?;
+            out.extend(&runs)?;
             Ok(())
         }
     }
@@ -42,11 +41,11 @@ fn push_runs(alloc: Global, out: &mut Vec<Run>, form: &OwnForm) -> Result<(), Me
 fn joined_runs(alloc: Global, attributes: &[&Attr]) -> Result<Runs, Memory>
     ensures { IfOk result (λ runs. runs ≡ flat_map attribute_runs (behind attributes.now)) }
 {
-    let mut runs = Vec::new(alloc);
+    let mut runs = Runs::new(alloc);
     for attribute in attributes {
         push_runs(alloc, &mut runs, &attribute.form)?;
     }
-    Ok(Runs::from(runs))
+    Ok(runs)
 }
 
 fn joined(alloc: Global, attributes: &[&Attr]) -> Result<Option<Stream>, Memory>
@@ -81,7 +80,6 @@ pub fn stream_of(
     attrs: &[Attr],
 ) -> Result<Option<Stream>, Memory>
     ensures value { IfOk result (λ stream. stream ≡ stream_of kind name.now attrs.now) }
-    ensures small { IfOk result (λ stream. IfSome stream HasSmallRuns) }
 {
     let attributes = attributes_of(alloc, kind, name, attrs)?;
     joined(alloc, &attributes)
@@ -90,7 +88,6 @@ pub fn stream_of(
 /// No clusters, and no bytes; this takes no memory.
 pub fn no_extents(alloc: Global) -> Extents
     ensures value { result ≡ no_extents }
-    ensures small { AreSmall result.runs }
 {
     Extents {
         runs: Runs::new(alloc),

@@ -1,7 +1,6 @@
 //! Entries of attribute lists.
 ghost use Rattle.std.specs.Prelude.{◌≡◌, IfOk};
 ghost use Rattle.state_model.specs.Streams.{real_size};
-ghost use Rattle.stream_map.specs.Runs.{HasSmallRuns};
 
 use block_view::{Body, MemoryView};
 use disk_model::put_bytes;
@@ -91,9 +90,7 @@ fn is_as_wanted(
     per: ClusterSize,
     stream: &Stream,
     row: &Row,
-) -> Result<bool, AllocError>
-    requires small { HasSmallRuns stream.now }
-{
+) -> Result<bool, AllocError> {
     let mut body = Body::empty(alloc)?;
     let mut at = row.0.min(real_size(stream));
     let step = next_entry(alloc, view, per, stream, &mut at, &mut body).ok();
@@ -107,9 +104,7 @@ fn first_bad(
     per: ClusterSize,
     stream: &Stream,
     rows: &[Row],
-) -> Result<Option<usize>, AllocError>
-    requires small { HasSmallRuns stream.now }
-{
+) -> Result<Option<usize>, AllocError> {
     for (number, row) in rows.iter().enumerate() {
         if !is_as_wanted(alloc, view, per, stream, row)? {
             return Ok(Some(number));
@@ -132,7 +127,6 @@ fn zeros_behind_the_entries_are_a_fault(rt: HostRuntime) -> Result<(), Fail> {
 
 /// A list of 0x20C bytes in clusters 4 and 2.
 fn in_two_runs(alloc: Global) -> Result<Stream, AllocError>
-    ensures small { IfOk result HasSmallRuns }
     ensures size { IfOk result (λ stream. real_size stream ≡ 0x20C) }
 {
     let mut runs = Runs::new(alloc);

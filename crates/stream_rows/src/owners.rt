@@ -2,7 +2,7 @@
 use record_model::DATA;
 use std::alloc::{AllocError, Global};
 use std::test::Fail;
-use stream_rules::{BitSet, Runs, first_shared, first_unmarked, volume_runs};
+use stream_rules::{BitSet, Run, first_shared, first_unmarked, volume_runs};
 use volume_images::{Kept, Part, put_file, record, run};
 
 // Runs as first cluster and length, how many clusters there are, and the least shared one.
@@ -37,8 +37,8 @@ static UNMARKED: [UnmarkedRow; 7] = [
     UnmarkedRow(&[(0, 0), (2, 9)], Some(3)),
 ];
 
-fn runs_of(alloc: Global, places: &[(u64, u64)]) -> Result<Runs, AllocError> {
-    let mut runs = Runs::new(alloc);
+fn runs_of(alloc: Global, places: &[(u64, u64)]) -> Result<Vec<Run>, AllocError> {
+    let mut runs = Vec::new(alloc);
     runs.push(run(0, None, 9))?;
     for (first, len) in places {
         runs.push(run(0, Some(*first), *len))?;
@@ -67,8 +67,8 @@ fn runs_that_are_not_marked(rt: HostRuntime) -> Result<(), Fail> {
     Ok(())
 }
 
-fn long_runs(alloc: Global) -> Result<Runs, AllocError> {
-    let mut runs = Runs::new(alloc);
+fn long_runs(alloc: Global) -> Result<Vec<Run>, AllocError> {
+    let mut runs = Vec::new(alloc);
     for first in 0..100_000 {
         runs.push(run(0, Some(first), u64::MAX))?;
     }

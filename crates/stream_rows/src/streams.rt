@@ -1,6 +1,5 @@
 //! Streams of a record: where their blocks lie, and their bytes.
 ghost use Rattle.std.specs.Prelude.{IfOk, IfSome};
-ghost use Rattle.stream_map.specs.Runs.{AreSmall, HasSmallRuns};
 
 use block_view::MemoryView;
 use record_model::DATA;
@@ -28,9 +27,7 @@ static FRONTS: [(&[u16], u64, [u8; 4]); 2] = [(&[97], 1, [2, 3, 0, 0]), (&[], 59
 
 // The data with this name, of a record that has the later piece of the unnamed data first. The
 // value of the data `a` is 1, 2, 3.
-fn data(alloc: Global, name: &[u16]) -> Result<Option<Stream>, Memory>
-    ensures { IfOk result (λ stream. IfSome stream HasSmallRuns) }
-{
+fn data(alloc: Global, name: &[u16]) -> Result<Option<Stream>, Memory> {
     let later = Kept::Pairs(4, (3072, 0, 900), b"\x11\x02\x20\0");
     let first = Kept::Pairs(0, (3072, 600, 900), b"\x11\x02\x10\x01\x02\0");
     let parts = [
@@ -43,9 +40,7 @@ fn data(alloc: Global, name: &[u16]) -> Result<Option<Stream>, Memory>
 }
 
 // The clusters of the unnamed data.
-fn clusters(alloc: Global) -> Result<Extents, Fail>
-    ensures { IfOk result (λ extents. AreSmall extents.runs) }
-{
+fn clusters(alloc: Global) -> Result<Extents, Fail> {
     match data(alloc, &[])? {
         Some(Stream::Placed(extents)) => Ok(extents),
         _ => Err("no clusters".into()),

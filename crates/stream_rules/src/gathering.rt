@@ -3,12 +3,11 @@ ghost use Rattle.std.specs.Prelude.{◌≡◌, ◌++◌, IfOk, OnOk};
 ghost use Rattle.record_model.specs.Pairs.{runs_of};
 ghost use Rattle.std.specs.List.{flat_map};
 ghost use Rattle.state_model.specs.Streams.{runs_or, form_runs, attribute_runs};
-ghost use Rattle.stream_map.specs.Runs.{AreSmall};
 ghost use Rattle.volume_model.specs.Owners.{file_runs, volume_runs};
 
 use file_record::FileRec;
 use host_base::Memory;
-use record_model::{Attr, OwnForm, PairsFault, Run, Runs};
+use record_model::{Attr, OwnForm, PairsFault, Runs};
 use std::alloc::Global;
 
 /// The runs of mapping pairs, or none where these are at fault.
@@ -24,21 +23,21 @@ fn runs_or(alloc: Global, first: u64, pairs: &[u8]) -> Result<Runs, Memory>
     }
 }
 
-fn push_form(alloc: Global, out: &mut Vec<Run>, form: &OwnForm) -> Result<(), Memory>
-    ensures { OnOk result (out.new.items ≡ out.old.items ++ form_runs form.now) }
+fn push_form(alloc: Global, out: &mut Runs, form: &OwnForm) -> Result<(), Memory>
+    ensures { OnOk result (out.new ≡ out.old ++ form_runs form.now) }
 {
     match form {
         OwnForm::Resident { .. } => Ok(()),
         OwnForm::Mapped { sizes, pairs } => {
             let runs = runs_or(alloc, sizes.first, pairs.as_slice())?;
-            out.extend_from_slice(runs.as_slice())?;
+            out.extend(&runs)?;
             Ok(())
         }
     }
 }
 
-fn push_attrs(alloc: Global, out: &mut Vec<Run>, attrs: &[Attr]) -> Result<(), Memory>
-    ensures { OnOk result (out.new.items ≡ out.old.items ++ flat_map attribute_runs attrs.now) }
+fn push_attrs(alloc: Global, out: &mut Runs, attrs: &[Attr]) -> Result<(), Memory>
+    ensures { OnOk result (out.new ≡ out.old ++ flat_map attribute_runs attrs.now) }
 {
     for attr in attrs {
         push_form(alloc, out, &attr.form)?;
@@ -46,8 +45,8 @@ fn push_attrs(alloc: Global, out: &mut Vec<Run>, attrs: &[Attr]) -> Result<(), M
     Ok(())
 }
 
-fn push_file(alloc: Global, out: &mut Vec<Run>, file: &Option<FileRec>) -> Result<(), Memory>
-    ensures { OnOk result (out.new.items ≡ out.old.items ++ file_runs file.now) }
+fn push_file(alloc: Global, out: &mut Runs, file: &Option<FileRec>) -> Result<(), Memory>
+    ensures { OnOk result (out.new ≡ out.old ++ file_runs file.now) }
 {
     match file {
         Some(file) => push_attrs(alloc, out, file.attrs().as_slice()),
@@ -62,11 +61,10 @@ fn push_file(alloc: Global, out: &mut Vec<Run>, file: &Option<FileRec>) -> Resul
 #[tactic(auto, unfolding(volume_model::specs::Owners::volume_runs))]
 pub fn volume_runs(alloc: Global, files: &[Option<FileRec>]) -> Result<Runs, Memory>
     ensures value { IfOk result (λ runs. runs ≡ volume_runs files.now) }
-    ensures small { IfOk result AreSmall }
 {
-    let mut runs = Vec::new(alloc);
+    let mut runs = Runs::new(alloc);
     for file in files {
         push_file(alloc, &mut runs, file)?;
     }
-    Ok(Runs::from(runs))
+    Ok(runs)
 }

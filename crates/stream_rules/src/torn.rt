@@ -7,7 +7,7 @@ ghost use Rattle.record_model.specs.Constants.{data_type, names_index, index_all
 ghost use Rattle.state_model.specs.Files.{is_directory_record};
 ghost use Rattle.state_model.specs.Rules.{implies};
 ghost use Rattle.state_model.specs.Streams.{holds, block_at, stream_of};
-ghost use Rattle.stream_map.specs.Runs.{AreSmall, HasSmallRuns};
+ghost use Rattle.record_model.specs.Runs.{AreSmall};
 ghost use Rattle.stream_rules.specs.Errors.{sizes_cause};
 ghost use Rattle.block_view.specs.Views.{AsksView};
 ghost use Rattle.volume_model.specs.Sizes.{is_torn_at, begun, stream_has_torn, keeps_untorn};
@@ -134,7 +134,6 @@ fn has_torn<V: View>(
     stream: &Stream,
     body: &mut Body,
 ) -> Result<bool, SizesFault>
-    requires small { HasSmallRuns stream.now }
     ensures value { IfSome (V.content view.old) (λ c. IfOk result (λ torn. torn ≡ stream_has_torn c per kind (512 * sectors kind) (Some stream.now))) }
     ensures kept { AsksView V.content V.kept V.faults sizes_cause view.old view.new result }
 {
@@ -155,7 +154,6 @@ fn stream_has_torn<V: View>(
     stream: &Option<Stream>,
     body: &mut Body,
 ) -> Result<bool, SizesFault>
-    requires small { IfSome stream.now HasSmallRuns }
     ensures value { IfSome (V.content view.old) (λ c. IfOk result (λ torn. torn ≡ stream_has_torn c per kind (512 * sectors kind) stream.now)) }
     ensures kept { AsksView V.content V.kept V.faults sizes_cause view.old view.new result }
 {

@@ -1,7 +1,6 @@
 //! The table of upper-case units.
 ghost use Rattle.std.specs.Prelude.{◌≡◌, length, IfOk, IfErr, IfSome};
 ghost use Rattle.state_model.specs.Streams.{stream_bytes, real_size};
-ghost use Rattle.stream_map.specs.Runs.{HasSmallRuns};
 ghost use Rattle.upcase_order.specs.Tables.{upcase_of, standard_table};
 ghost use Rattle.volume_map.specs.Maps.{volume_in};
 ghost use Rattle.system_files.specs.Errors.{upper_cause};
@@ -56,7 +55,6 @@ fn front_table<V: View>(
     body: &mut Body,
     room: &mut [u8],
 ) -> Result<Upcase, ViewFault>
-    requires small { HasSmallRuns stream.now }
     requires long { real_size stream.now ≡ length room.old }
     ensures value { IfSome (V.content view.old) (λ c. IfOk result (λ table. table ≡ table_or_standard (upcase_of (stream_bytes c per stream.now)))) }
     ensures kept { AsksView V.content V.kept V.faults upper_cause view.old view.new result }
@@ -73,7 +71,6 @@ fn stream_table<V: View>(
     stream: &Stream,
     body: &mut Body,
 ) -> Result<Upcase, ViewFault>
-    requires small { HasSmallRuns stream.now }
     ensures value { IfSome (V.content view.old) (λ c. IfOk result (λ table. table ≡ table_or_standard (upcase_of (stream_bytes c per stream.now)))) }
     ensures kept { AsksView V.content V.kept V.faults upper_cause view.old view.new result }
 {

@@ -26,7 +26,8 @@ use Rattle.state_model.specs.declared.stream.Stream.TheVariants.{Held, Placed}
 use Rattle.state_model.specs.Files.{is_directory_record, reference}
 use Rattle.state_model.specs.Rules.{implies, at_file}
 use Rattle.state_model.specs.Streams.{stream_of, block_at, byte_at}
-use Rattle.state_model.specs.Trees.{is_nameless, first_user_record}
+use Rattle.file_tree.specs.Walks.{first_user_record}
+use Rattle.state_model.specs.Trees.{is_nameless}
 use Rattle.volume_model.specs.Volumes.{Volume, files_by_number, count_of, file_in, table_file, mirror_file, upcase_file, file_stream, bytes_or, record_bytes, is_in_use, record_bitmap, record_bits, table_or_standard, upper_of}
 use Rattle.volume_model.specs.Indexes.{index_stream, index_links, lists_names, keeps_index}
 use Rattle.volume_model.specs.Sizes.{is_torn_at, begun, has_torn, stream_has_torn, keeps_untorn, keeps_streams, keeps_sizes}

@@ -11,10 +11,10 @@ use Rattle.record_model.specs.StdValues.{file_name_of}
 use Rattle.record_model.specs.Records.{Record}
 use Rattle.record_model.specs.Constants.{file_name}
 use Rattle.file_tree.specs.declared.link.Link.{Link}
-use Rattle.file_tree.specs.Walks.{root}
-use Rattle.state_model.specs.Files.{Table, reference, named, form_link, attr_link, record_links, links_of, file_at, links_at, is_directory_record}
+use Rattle.file_tree.specs.Walks.{root, at_some, first_user_record, passes_system}
+use Rattle.state_model.specs.Files.{Table, reference, named, form_link, attr_link, record_links, file_links, file_at, links_at, is_directory_record}
 use Rattle.state_model.specs.Rules.{implies, at_file, keeps_8}
-use Rattle.state_model.specs.Trees.{first_parent, parent_at, at_some, leads, first_user_record, is_in_system, is_system}
+use Rattle.state_model.specs.Trees.{first_parent, parent_at, leads, is_in_system, is_system}
 use Rattle.tree_laws.specs.Ways.{KeepsWays}
 
 same_at_inside : (inside : ℕ → Bool) (f g : ℕ → Bool) → ((m : ℕ) → inside m ≡ true → g m ≡ f m) → (o : Option ℕ) → ((k : ℕ) → o ≡ Some k → inside k ≡ true) → at_some g o ≡ at_some f o
@@ -43,7 +43,7 @@ module _ (inside : ℕ → Bool) (p q : Table) (keeps : KeepsWays inside p q) wh
   same_way (suc most) m within = ap (λ (t : Bool). (eqb m root) || t) (same_step (leads p most) (leads q most) (same_way most) m within)
 
   same_inside : (most m : ℕ) → inside m ≡ true → is_in_system q most m ≡ is_in_system p most m
-  unfolding is_in_system
+  unfolding passes_system
   same_inside zero m within = refl
   same_inside (suc most) m within = ap (λ (t : Bool). not (eqb m root) && ((ltb m first_user_record) || t)) (same_step (is_in_system p most) (is_in_system q most) (same_inside most) m within)
 
@@ -98,7 +98,7 @@ attrs_children : (m : ℕ) (child : FileRef) → child.number ≡ m → (attrs :
 attrs_children m child same [] = tt
 attrs_children m child same (a ∷ attrs) = some_child m (attr_link child a) (filter_map (attr_link child) attrs) (λ l is. attr_child child a l is ∙ same) (attrs_children m child same attrs)
 
-file_children : (m : ℕ) (o : Option Record) → AllByRecursion (λ l. l.child.number ≡ m) (links_of m o)
+file_children : (m : ℕ) (o : Option Record) → AllByRecursion (λ l. l.child.number ≡ m) (file_links m o)
 unfolding record_links
 file_children m None = tt
 file_children m (Some r) = attrs_children m (reference m r) refl r.attrs

@@ -10,7 +10,7 @@ use Rattle.file_tree.specs.declared.tree.Tree.{Tree}
 use Rattle.bit_set.specs.Bits.{bit}
 use Rattle.upcase_order.specs.Tables.{upcase_of}
 use Rattle.state_model.specs.declared.stream.Stream.{Stream}
-use Rattle.state_model.specs.Files.{Table, only_base, reference, record_links, links_of, file_at, links_at, is_directory_record}
+use Rattle.state_model.specs.Files.{Table, only_base, reference, record_links, file_links, file_at, links_at, is_directory_record}
 use Rattle.state_model.specs.Loads.{table_in}
 use Rattle.state_model.specs.Rules.{implies, at_file, keeps_names, is_directory_with, is_directory_at, first_failing, keeps_1, keeps_2, keeps_8}
 use Rattle.state_model.specs.Trees.{first_parent, parent_at, leads, is_system}
@@ -95,7 +95,7 @@ place_8 inside p q count m keeps is kept =
 
 names_of_record : (inside : ℕ → Bool) (p : Table) (m : ℕ) (r : Record) → AllByRecursion (λ l. inside l.parent.number ≡ true) (links_at p m) → file_at p m ≡ Some r → AllByRecursion (λ l. inside l.parent.number ≡ true) (record_links m r)
 unfolding links_at
-names_of_record inside p m r above is = subst (λ (o : Option Record). AllByRecursion (λ l. inside l.parent.number ≡ true) (links_of m o)) is above
+names_of_record inside p m r above is = subst (λ (o : Option Record). AllByRecursion (λ l. inside l.parent.number ≡ true) (file_links m o)) is above
 
 module _ (touched inside : ℕ → Bool) (v : Volume) (files : List (Option Record)) (k : TouchesFiles touched inside v.files files) where
   same_file : (m : ℕ) → touched m ≡ false → file_in (with_files v files) m ≡ file_in v m

@@ -16,17 +16,17 @@ use Rattle.record_model.specs.Records.{Record, has_in_use_flag}
 use Rattle.record_model.specs.Constants.{data_type, bitmap_type}
 use Rattle.file_tree.specs.declared.link.Link.{Link}
 use Rattle.file_tree.specs.declared.tree.Tree.{Tree}
-use Rattle.file_tree.specs.Walks.{child_in}
+use Rattle.file_tree.specs.Walks.{child_in, first_user_record}
 use Rattle.bit_set.specs.Bits.{bit}
 use Rattle.bit_set.specs.Words.{byte_bit, bits_of_bytes}
 use Rattle.upcase_order.specs.Tables.{upcase_of}
 use Rattle.state_model.specs.declared.stream.Extents.{Extents}
 use Rattle.state_model.specs.declared.stream.Stream.{Stream}
-use Rattle.state_model.specs.Files.{Table, reference, record_links, links_of, file_at, links_at, is_directory_record}
+use Rattle.state_model.specs.Files.{Table, reference, record_links, file_links, file_at, links_at, is_directory_record}
 use Rattle.state_model.specs.Loads.{record_count, table_in, is_used}
 use Rattle.state_model.specs.Rules.{implies, at_file, keeps_names, is_directory_with, is_directory_at, count_in, names_in, is_rising, is_name_in, is_index, first_failing, keeps_1, keeps_2, keeps_8}
 use Rattle.state_model.specs.Streams.{block_at}
-use Rattle.state_model.specs.Trees.{leads, first_user_record, is_in_system, is_system, all_links}
+use Rattle.state_model.specs.Trees.{leads, is_in_system, is_system, all_links}
 use Rattle.volume_model.specs.Volumes.{Volume, count_of, file_in, file_stream, bytes_or, size_or, table_file, bitmap_file, upcase_file, record_bytes, record_block, block_bytes, is_in_use, cluster_bitmap, cluster_bits, record_bitmap, record_bits, table_or_standard, upper_of}
 use Rattle.volume_model.specs.Indexes.{index_links, lists_names, keeps_index}
 use Rattle.volume_model.specs.Nodes.{some_node, node_at, nodes_by, spare_sequence, spare_at, spare_numbers, free_clusters}
@@ -365,7 +365,7 @@ module _ (d : Content) (v : Volume) (f : Extents) (k : GrowsTable d v f) where
 
   names_of_record : (m : ℕ) (r : Record) → file_in v m ≡ Some r → links_at (table_in v.files) m ≡ record_links m r
   unfolding links_at
-  names_of_record m r is = ap (links_of m) is
+  names_of_record m r is = ap (file_links m) is
 
   system_same : broken_2 v ≡ None → broken_8 v ≡ None → (m : ℕ) (r : Record) → file_in v m ≡ Some r → is_system (table_in (filled_up (record_count f) v.files)) (count_of (grown v f)) m (record_links m r) ≡ is_system (table_in v.files) (count_of v) m (record_links m r)
   unfolding is_system

@@ -14,9 +14,10 @@ use Rattle.file_tree.specs.declared.tree.Tree.{Tree}
 use Rattle.file_tree.specs.Trees.{node_at as node_by_number}
 use Rattle.bit_set.specs.Bits.{bit}
 use Rattle.state_model.specs.declared.stream.Extents.{Extents}
-use Rattle.state_model.specs.Files.{only_base, file_at, links_of, links_at}
+use Rattle.state_model.specs.Files.{only_base, file_at, file_links, links_at}
 use Rattle.state_model.specs.Loads.{table_in}
-use Rattle.state_model.specs.Trees.{first_user_record, all_links}
+use Rattle.file_tree.specs.Walks.{first_user_record}
+use Rattle.state_model.specs.Trees.{all_links}
 use Rattle.volume_model.specs.Volumes.{Volume, count_of, bytes_or, record_bits, record_bytes}
 use Rattle.volume_model.specs.Nodes.{node_at, spare_sequence, spare_at, spare_numbers, free_clusters}
 use Rattle.volume_state.specs.Trees.{Holds, volume_journal, tree_with, tree_of}
@@ -104,14 +105,14 @@ edit_differs files e within = record { count = length-set files e.number e.file;
 
 edit_names : (files : List (Option Record)) (e : FileEdit) → e.number < length files → links_at (table_in (set files e.number e.file)) e.number ≡ edit_links e
 unfolding links_at file_at
-edit_names files e within = ap (λ (o : Option Record). links_of e.number (only_base o)) (get_or-set_same files e.number e.file None within)
+edit_names files e within = ap (λ (o : Option Record). file_links e.number (only_base o)) (get_or-set_same files e.number e.file None within)
 
 same_lost : (files : List (Option Record)) (n : ℕ) (file : Option Record) (edits : List FileEdit) → LeaveNumber n edits → links_lost (set files n file) edits ≡ links_lost files edits
 unfolding links_at file_at
 same_lost files n file [] leave = refl
 same_lost files n file (e ∷ edits) leave =
-    ap (λ (o : Option Record). links_of e.number (only_base o) ++ links_lost (set files n file) edits) (get_or-set_other files n e.number file None leave.0)
-    ∙ ap (λ (l : List Link). links_of e.number (only_base (get_or files e.number None)) ++ l) (same_lost files n file edits leave.1)
+    ap (λ (o : Option Record). file_links e.number (only_base o) ++ links_lost (set files n file) edits) (get_or-set_other files n e.number file None leave.0)
+    ∙ ap (λ (l : List Link). file_links e.number (only_base (get_or files e.number None)) ++ l) (same_lost files n file edits leave.1)
 
 pub links_exchanged : (files : List (Option Record)) (edits : List FileEdit) (count : ℕ) → length files ≡ count → AreEdits count edits
     → IsPermutation (all_links (table_in (with_edits edits files)) count ++ links_lost files edits) (all_links (table_in files) count ++ links_gained edits)

@@ -6,7 +6,7 @@ use Rattle.std.proofs.lemmas.Bool.{cases_Bool, eqb-true, eqb-false}
 use Rattle.std.proofs.lemmas.List.{get_or_past}
 use Rattle.record_model.specs.Records.{Record}
 use Rattle.file_tree.specs.declared.link.Link.{Link}
-use Rattle.state_model.specs.Files.{Table, only_base, file_at, links_of, links_at}
+use Rattle.state_model.specs.Files.{Table, only_base, file_at, file_links, links_at}
 use Rattle.state_model.specs.Loads.{table_in}
 use Rattle.state_model.specs.Trees.{all_links}
 use Rattle.stream_laws.specs.Replacing.{SameBut, OneFileDiffers}
@@ -42,7 +42,7 @@ no_file files n past = ap only_base (get_or_past files n None past)
 
 pub no_names : (files : List (Option Record)) (n : ℕ) → length files ≤ n → links_at (table_in files) n ≡ []
 unfolding links_at
-no_names files n past = ap (links_of n) (no_file files n past)
+no_names files n past = ap (file_links n) (no_file files n past)
 
 pub links_of_all : (old new : List (Option Record)) (n : ℕ) → OneFileDiffers n old new → PartReplaced (links_at (table_in old) n) (links_at (table_in new) n) (all_links (table_in old) (length old)) (all_links (table_in new) (length new))
 unfolding all_links

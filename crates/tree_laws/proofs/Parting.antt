@@ -8,12 +8,11 @@ use Rattle.disk_model.specs.Content.{Content}
 use Rattle.record_model.specs.Records.{Record}
 use Rattle.record_model.specs.Constants.{data_type, bitmap_type}
 use Rattle.file_tree.specs.declared.link.Link.{Link}
-use Rattle.file_tree.specs.Walks.{child_in}
+use Rattle.file_tree.specs.Walks.{child_in, first_user_record}
 use Rattle.bit_set.specs.Bits.{bit}
 use Rattle.bit_set.specs.Words.{bits_of_bytes}
 use Rattle.upcase_order.specs.Tables.{upcase_of}
 use Rattle.state_model.specs.Loads.{table_in}
-use Rattle.state_model.specs.Trees.{first_user_record}
 use Rattle.volume_model.specs.Volumes.{Volume, count_of, file_in, table_file, bitmap_file, upcase_file, file_stream, bytes_or, record_bytes, record_block, record_bits, cluster_bits, table_or_standard, upper_of}
 use Rattle.volume_model.specs.Nodes.{spare_sequence, spare_at, spare_numbers, free_clusters}
 use Rattle.volume_state.specs.Journals.{extend_file, journal_name, file_or_none, journal_file, journal_of_file, journal_of}

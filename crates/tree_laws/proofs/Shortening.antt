@@ -4,11 +4,11 @@ use Rattle.std.specs.List.{IsDistinct, list_any, AllByRecursion}
 use Rattle.std.proofs.lemmas.Bool.{cases_Bool, cases_lt, or_left, or_right, both_ways, eqb-true, ne_eqb}
 use Rattle.std.proofs.lemmas.Map.Steps.{length-le_from_distinct_below}
 use Rattle.record_model.specs.Records.{Record}
-use Rattle.file_tree.specs.Walks.{root}
+use Rattle.file_tree.specs.Walks.{root, at_some, first_user_record, passes_system}
 use Rattle.state_model.specs.Files.{Table, file_at, links_at, is_directory_record}
 use Rattle.state_model.specs.Loads.{table_in}
 use Rattle.state_model.specs.Rules.{implies, at_file, keeps_8}
-use Rattle.state_model.specs.Trees.{first_parent, parent_at, at_some, leads, first_user_record, is_in_system}
+use Rattle.state_model.specs.Trees.{first_parent, parent_at, leads, is_in_system}
 use Rattle.tree_laws.proofs.Naming.{no_names}
 
 -- ---- more steps
@@ -144,7 +144,7 @@ way_keeps_8 p count m is = asked_way (file_at p m) (leads p count m) is
 
 -- at the root nothing is in one
 root_outside : (p : Table) (most m : ℕ) → eqb m root ≡ true → is_in_system p most m ≡ false
-unfolding is_in_system
+unfolding passes_system
 root_outside p zero m is = refl
 root_outside p (suc most) m is = ap (λ (t : Bool). not t && ((ltb m first_user_record) || at_some (is_in_system p most) (parent_at p m))) is
 
@@ -157,7 +157,7 @@ same_up lead f g same None is = refl
 same_up lead f g same (Some m) is = same m is
 
 one_step_more : (p : Table) (most m : ℕ) → leads p most m ≡ true → is_in_system p (suc most) m ≡ is_in_system p most m
-unfolding leads is_in_system
+unfolding leads passes_system
 one_step_more p zero m is = ap (λ (t : Bool). not t && ((ltb m first_user_record) || at_some (is_in_system p zero) (parent_at p m))) is
 one_step_more p (suc most) m is = elim (cases_Bool (eqb m root)) [
   | inl at_root ↦
@@ -176,7 +176,7 @@ steady p most (suc more) m le is = elim (cases_lt more most) [
 ]
 
 in_system_step : (p : Table) (most m d : ℕ) → eqb m root ≡ false → parent_at p m ≡ Some d → is_in_system p (suc most) m ≡ ((ltb m first_user_record) || is_in_system p most d)
-unfolding is_in_system
+unfolding passes_system
 in_system_step p most m d below is =
     ap (λ (t : Bool). not t && ((ltb m first_user_record) || at_some (is_in_system p most) (parent_at p m))) below
     ∙ ap (λ (o : Option ℕ). (ltb m first_user_record) || at_some (is_in_system p most) o) is

@@ -16,7 +16,7 @@ use Rattle.file_tree.specs.declared.node.Node.{Node}
 use Rattle.file_tree.specs.Trees.{is_in, first_of_two, first_in_order, same_links, look_up}
 use Rattle.file_tree.specs.Walks.{child_in}
 use Rattle.state_model.specs.declared.stream.Stream.{Stream}
-use Rattle.state_model.specs.Files.{Table, reference, record_links, links_of, file_at, links_at, is_directory_record}
+use Rattle.state_model.specs.Files.{Table, reference, record_links, file_links, file_at, links_at, is_directory_record}
 use Rattle.state_model.specs.Loads.{table_in}
 use Rattle.state_model.specs.Rules.{implies, at_file, same_link, is_directory_with, is_directory_at, keeps_2, count_in, names_in, is_name_in, keeps_8}
 use Rattle.state_model.specs.Trees.{first_parent, parent_at, is_system, all_links}
@@ -164,7 +164,7 @@ leaf_3 c v files upper n m r differs other is same =
 
 names_of_file : (p : Table) (n m : ℕ) (r : Record) → IsOutside n (links_at p m) → file_at p m ≡ Some r → IsOutside n (record_links m r)
 unfolding links_at
-names_of_file p n m r outside is = subst (λ (o : Option Record). IsOutside n (links_of m o)) is outside
+names_of_file p n m r outside is = subst (λ (o : Option Record). IsOutside n (file_links m o)) is outside
 
 pub leaf_kind : (v : Volume) (files : List (Option Record)) (n m : ℕ) (r : Record) → OneFileDiffers n v.files files → IsLeaf n (table_in v.files) → m ≢ n → file_in v m ≡ Some r → kind_in (with_files v files) m r ≡ kind_in v m r
 leaf_kind v files n m r differs leaf other is =

@@ -9,7 +9,7 @@ use Rattle.state_model.specs.declared.stream.Stream.{Stream}
 use Rattle.state_model.specs.Files.{Table, links_at, reference, is_directory_record}
 use Rattle.state_model.specs.Loads.{table_in}
 use Rattle.state_model.specs.Rules.{keeps_1, keeps_2, keeps_8}
-use Rattle.state_model.specs.Trees.{first_user_record}
+use Rattle.file_tree.specs.Walks.{first_user_record}
 use Rattle.volume_model.specs.Volumes.{Volume, count_of, file_in, bytes_or, upcase_file, record_bits, upper_of}
 use Rattle.volume_model.specs.Indexes.{keeps_index}
 use Rattle.volume_model.specs.Nodes.{node_at, nodes_by, spare_at, spare_numbers}

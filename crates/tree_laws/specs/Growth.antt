@@ -8,7 +8,7 @@ use Rattle.file_tree.specs.declared.tree.Tree.{Tree}
 use Rattle.bit_set.specs.Bits.{bit}
 use Rattle.state_model.specs.declared.stream.Extents.{Extents}
 use Rattle.state_model.specs.Loads.{record_count}
-use Rattle.state_model.specs.Trees.{first_user_record}
+use Rattle.file_tree.specs.Walks.{first_user_record}
 use Rattle.volume_model.specs.Volumes.{Volume, count_of, size_or, record_bytes, record_bitmap, record_bits}
 use Rattle.volume_state.specs.Trees.{Holds, tree_of}
 use Rattle.stream_laws.specs.Rewrites.{TableGoesOn, filled_up, with_table}

@@ -10,7 +10,8 @@ use Rattle.file_tree.specs.Trees.{node_at as node_by_number}
 use Rattle.state_model.specs.declared.stream.Extents.{Extents}
 use Rattle.state_model.specs.Files.{links_at}
 use Rattle.state_model.specs.Loads.{table_in}
-use Rattle.state_model.specs.Trees.{first_user_record, all_links}
+use Rattle.file_tree.specs.Walks.{first_user_record}
+use Rattle.state_model.specs.Trees.{all_links}
 use Rattle.volume_model.specs.Volumes.{Volume, count_of, bytes_or, cluster_bits}
 use Rattle.volume_model.specs.Nodes.{node_at, spare_at, spare_numbers}
 use Rattle.volume_state.specs.Trees.{Holds, volume_journal, tree_of}

@@ -6,7 +6,7 @@ use Rattle.record_model.specs.Records.{Record}
 use Rattle.file_tree.specs.declared.node.Node.{Node}
 use Rattle.file_tree.specs.declared.tree.Tree.{Tree}
 use Rattle.state_model.specs.Loads.{table_in}
-use Rattle.state_model.specs.Trees.{first_user_record}
+use Rattle.file_tree.specs.Walks.{first_user_record}
 use Rattle.state_model.specs.Rules.{keeps_1}
 use Rattle.volume_model.specs.Volumes.{Volume, file_in, bytes_or, cluster_bitmap, upper_of}
 use Rattle.volume_model.specs.Nodes.{node_at}

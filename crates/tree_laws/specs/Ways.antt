@@ -3,11 +3,11 @@ use Rattle.std.specs.Prelude.{◌≡◌, ◌≢◌, ℕ, ◌≤◌, Bool, true, 
 use Rattle.std.specs.List.{AllByRecursion}
 use Rattle.record_model.specs.Records.{Record}
 use Rattle.file_tree.specs.declared.link.Link.{Link}
-use Rattle.file_tree.specs.Walks.{root}
+use Rattle.file_tree.specs.Walks.{root, first_user_record}
 use Rattle.state_model.specs.Files.{Table, file_at, links_at}
 use Rattle.state_model.specs.Loads.{table_in}
 use Rattle.state_model.specs.Rules.{keeps_8}
-use Rattle.state_model.specs.Trees.{parent_at, leads, first_user_record, is_in_system, is_system}
+use Rattle.state_model.specs.Trees.{parent_at, leads, is_in_system, is_system}
 
 -- no name among these stands in this directory
 abbrev pub IsOutside : ℕ → List Link → Type 0

@@ -16,7 +16,8 @@ use Rattle.tree_model.specs.Steps.{is_look, is_given_up, refused_by, refusal, st
 use Rattle.tree_model.proofs.Looks.{look_is_step}
 use Rattle.tree_model.proofs.Joining.{no_fault}
 use Rattle.tree_lookup.specs.declared.fault.LookupFault.{LookupFault}
-use Rattle.tree_lookup.specs.Asked.{without_bytes, AnswersOrFails}
+use Rattle.file_tree.specs.Trees.{without_bytes}
+use Rattle.tree_lookup.specs.Asked.{AnswersOrFails}
 use Rattle.tree_lookup.specs.Answered.{bare_result}
 
 -- ---- a part that is no name

@@ -9,13 +9,13 @@ use Rattle.host_base.proofs.Known.{one, both, always}
 use Rattle.file_tree.specs.declared.link.Link.{Link}
 use Rattle.file_tree.specs.declared.node.Node.{Node}
 use Rattle.file_tree.specs.declared.tree.Tree.{Tree}
-use Rattle.file_tree.specs.Trees.{has_number, node_at, is_directory_kind, is_directory_node, is_directory, look_up}
+use Rattle.file_tree.specs.Trees.{has_number, node_at, is_directory_kind, is_directory_node, is_directory, look_up, without_bytes}
 use Rattle.file_tree.specs.Walks.{root, child_in, is_bad_part, has_bad_part}
 use Rattle.tree_model.specs.declared.reply.Reply.{Reply}
 use Rattle.tree_model.specs.declared.reply.Reply.TheVariants.{NotFound, NotDirectory}
 use Rattle.tree_model.specs.Walks.{some_or, entered, walk, reached, reached_directory}
 use Rattle.tree_lookup.specs.declared.fault.LookupFault.{LookupFault}
-use Rattle.tree_lookup.specs.Asked.{lookup_cause, without_bytes, bare_at}
+use Rattle.tree_lookup.specs.Asked.{lookup_cause, bare_at}
 use Rattle.tree_lookup.specs.Answered.{bare_result}
 
 -- ---- one part

@@ -5,7 +5,7 @@ use Rattle.file_tree.specs.declared.node.Node.{Node}
 use Rattle.file_tree.specs.declared.tree.Tree.{Tree}
 use Rattle.tree_model.specs.declared.reply.Reply.{Reply}
 use Rattle.tree_model.specs.declared.reply.Reply.TheVariants.{Fault}
-use Rattle.tree_lookup.specs.Asked.{without_bytes}
+use Rattle.file_tree.specs.Trees.{without_bytes}
 
 -- the node that a walk leads to, without its bytes, or what ends the walk
 abbrev pub bare_result : Result Node Reply → Result Node Reply

@@ -1,11 +1,11 @@
 -- What a tree that is asked answers, and what a call leaves of it.
-use Rattle.std.specs.Prelude.{◌≡◌, ℕ, ◌≤◌, List, [], Option, Result, Ok, Err}
+use Rattle.std.specs.Prelude.{◌≡◌, ℕ, ◌≤◌, List, Option, Result, Ok, Err}
 use Rattle.std.specs.Option.{option_map}
 use Rattle.host_base.specs.Answers.{Cause, refused, no_memory, failed, ExplainsOrFails}
 use Rattle.host_base.specs.Causes.{Counts}
 use Rattle.file_tree.specs.declared.node.Node.{Node}
 use Rattle.file_tree.specs.declared.tree.Tree.{Tree}
-use Rattle.file_tree.specs.Trees.{node_at}
+use Rattle.file_tree.specs.Trees.{without_bytes, node_at}
 use Rattle.tree_lookup.specs.declared.fault.LookupFault.{LookupFault}
 use Rattle.tree_lookup.specs.declared.fault.LookupFault.TheVariants.{Outside, Memory, Broken}
 
@@ -35,25 +35,6 @@ pub record AsksTree {S Kept T : Type 0} (tree : S → Option Tree) (upper : S �
   pub counted : Counts lookup_cause (faults old) (faults new) result
 
 -- ---- nodes
-
--- a node without its bytes
-abbrev pub without_bytes : Node → Node
-without_bytes n = record {
-  number = n.number;
-  seq = n.seq;
-  kind = n.kind;
-  why = n.why;
-  held = n.held;
-  size = n.size;
-  valid = n.valid;
-  clusters = n.clusters;
-  bytes = [];
-  flags = n.flags;
-  created = n.created;
-  modified = n.modified;
-  changed = n.changed;
-  read_at = n.read_at;
-}
 
 -- the node with this number, without its bytes, if there is one
 unfoldable pub bare_at : List Node → ℕ → Option Node

@@ -7,14 +7,12 @@
 #![tactic(auto)]
 
 mod answering;
-mod choosing;
 mod fault;
 mod looking;
 mod plain;
 mod walking;
 
 pub use answering::answer;
-pub use choosing::chosen;
 pub use fault::LookupFault;
 pub use looking::Lookup;
 pub use plain::Plain;

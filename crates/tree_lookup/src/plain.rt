@@ -1,13 +1,12 @@
 //! A tree in memory, of which each list is gone through from the front.
 ghost use Rattle.std.specs.Prelude.{◌≡◌, IfOk};
 ghost use Rattle.std.specs.Option.{option_copied};
-ghost use Rattle.file_tree.specs.Trees.{same_links, look_up, long_links_in, node_at, long_names_of, IsListing};
-ghost use Rattle.tree_lookup.specs.Asked.{bare_at, without_bytes};
+ghost use Rattle.file_tree.specs.Trees.{same_links, look_up, long_links_in, node_at, long_names_of, IsListing, without_bytes};
+ghost use Rattle.tree_lookup.specs.Asked.{bare_at};
 
-use crate::choosing::chosen;
 use crate::fault::LookupFault;
 use crate::looking::Lookup;
-use file_tree::{Link, Node, SHORT, Tree, is_same_name, sort_links};
+use file_tree::{Link, Node, SHORT, Tree, chosen_link, is_same_name, sort_links};
 use host_base::Bytes;
 use std::alloc::{AllocError, Global};
 use tree_model::{Name, NameList, names_of};
@@ -100,7 +99,7 @@ fn look_up(
     ensures { IfOk result (λ link. link ≡ look_up upper.now links.now directory part.now) }
 {
     let same = same_links(alloc, upper, links, directory, part)?;
-    copy_of(chosen(upper, &same, part))
+    copy_of(chosen_link(upper, &same, part))
 }
 
 #[tactic(auto, unfolding(file_tree::specs::Trees::long_names_of))]

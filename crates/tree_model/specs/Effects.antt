@@ -11,7 +11,8 @@ use Rattle.file_tree.specs.Trees.{node_at}
 use Rattle.tree_model.specs.declared.script.Op.{Op}
 use Rattle.tree_model.specs.declared.script.Op.TheVariants as op
 use Rattle.tree_model.specs.Needs.{end_of, size_after, shrinks, clusters_for}
-use Rattle.tree_model.specs.Refusals.{first_user_number, more_records}
+use Rattle.file_tree.specs.Walks.{first_user_record}
+use Rattle.tree_model.specs.Refusals.{more_records}
 
 -- ---- a tree, by look-up
 
@@ -129,7 +130,7 @@ file_after stands op node stamp = changed_node node (bytes_after op node) (size_
 
 -- the numbers that come where none is spare, 256 from the count on; those of the volume itself are never spare
 unfoldable pub new_numbers : ℕ → List FileRef
-new_numbers count = map (λ number. record { number = number; seq = 1 }) (range_with_len (max first_user_number count) (count + more_records - max first_user_number count))
+new_numbers count = map (λ number. record { number = number; seq = 1 }) (range_with_len (max first_user_record count) (count + more_records - max first_user_record count))
 
 abbrev pub numbers_to_take : Tree → List FileRef
 numbers_to_take t = if length t.spare == 0 then new_numbers t.count else t.spare

@@ -9,7 +9,7 @@ use Rattle.file_tree.specs.declared.node.Node.{Node}
 use Rattle.file_tree.specs.declared.link.Link.{Link}
 use Rattle.file_tree.specs.declared.tree.Tree.{Tree}
 use Rattle.file_tree.specs.Trees.{is_of, is_directory_kind, same_links}
-use Rattle.file_tree.specs.Walks.{root, has_bad_part}
+use Rattle.file_tree.specs.Walks.{root, has_bad_part, passes_system}
 use Rattle.tree_model.specs.declared.script.Op.{Op}
 use Rattle.tree_model.specs.declared.script.Op.TheVariants as op
 use Rattle.tree_model.specs.declared.reply.Reply.{Reply}
@@ -56,22 +56,13 @@ is_bad_new_path path = length path == 0 || has_bad_part path || is_dots (new_nam
 
 -- ---- files of the volume itself
 
--- records below this one are those of the volume itself
-abbrev pub first_user_number : ℕ
-first_user_number = 24
-
 -- the directory of a file's first name; a directory has all its names in one
 unfoldable pub parent_of : List Link → ℕ → Option ℕ
 parent_of links number = option_map (λ (l : Link). l.parent.number) (find (is_of number) links)
 
-abbrev pub at_some : (ℕ → Bool) → Option ℕ → Bool
-at_some test None = false
-at_some test (Some n) = test n
-
 -- on the way up from a directory, of at most so many steps, stands one of the volume itself, other than the root
-unfoldable pub is_in_system : List Link → ℕ → ℕ → Bool
-is_in_system links zero number = false
-is_in_system links (suc most) number = not (number == root) && (nat_lt number first_user_number || at_some (is_in_system links most) (parent_of links number))
+abbrev pub is_in_system : List Link → ℕ → ℕ → Bool
+is_in_system links = passes_system (parent_of links)
 
 abbrev pub is_system_kind : Kind → Bool
 is_system_kind kind.System = true

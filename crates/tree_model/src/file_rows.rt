@@ -12,8 +12,8 @@ use crate::needs::{changes_file, needed_to_change, needed_to_create, reserve_of_
 use crate::plain::same_links;
 use crate::reply::Reply;
 use crate::script::Op;
-use crate::stepping::{ROOT, has_bad_part, is_directory_kind};
-use file_tree::{Kind, Link, Node, Tree, Why};
+use crate::stepping::{has_bad_part, is_directory_kind};
+use file_tree::{FIRST_USER_RECORD, Kind, Link, Node, ROOT, Tree, Why};
 use std::alloc::{AllocError, Global};
 use utf16_name::Units;
 
@@ -25,9 +25,6 @@ const MOST_RECORDS: u64 = 1_048_576;
 
 /// How many records the file table grows by.
 pub const MORE_RECORDS: u64 = 256;
-
-/// Records below this one are those of the volume itself.
-pub const FIRST_USER: u64 = 24;
 
 // A name of dots: the directory itself and the one above it.
 fn is_dots(name: &[u16]) -> bool
@@ -86,7 +83,7 @@ fn is_in_system(links: &[Link], most: usize, number: u64) -> bool
         if number == ROOT {
             return false;
         }
-        if number < FIRST_USER {
+        if number < FIRST_USER_RECORD {
             return true;
         }
         match parent_of(links, number) {

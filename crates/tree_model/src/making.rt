@@ -13,14 +13,12 @@ ghost use Rattle.tree_model.specs.Steps.{StepsBy, IsCreated, is_given_up};
 ghost use Rattle.tree_model.specs.Walks.{reached_directory};
 
 use crate::file_effects::{least_ref, new_file, renewed, with_node};
-use crate::file_rows::{
-    FIRST_USER, MORE_RECORDS, create_refusal, is_bad_new_path, new_name, parent_path,
-};
+use crate::file_rows::{MORE_RECORDS, create_refusal, is_bad_new_path, new_name, parent_path};
 use crate::needs::needed_to_create;
 use crate::plain::Plain;
 use crate::reply::Reply;
 use crate::stepping::reached_directory;
-use file_tree::{FileRef, FileRefList, Link, LinkList, Node, NodeList, Tree};
+use file_tree::{FIRST_USER_RECORD, FileRef, FileRefList, Link, LinkList, Node, NodeList, Tree};
 use host_base::Memory;
 use std::alloc::{AllocError, Global};
 use utf16_name::{Name, NameFault, Units};
@@ -32,7 +30,7 @@ fn new_numbers(alloc: Global, count: u64) -> Result<FileRefList, AllocError>
     ensures { IfOk result (λ list. list ≡ new_numbers count) }
 {
     let mut list = FileRefList::new(alloc);
-    let first = count.max(FIRST_USER);
+    let first = count.max(FIRST_USER_RECORD);
     for i in 0..count + MORE_RECORDS - first {
         list.push(FileRef {
             number: first + i,

@@ -18,13 +18,10 @@ use crate::plain::Plain;
 use crate::reading::{bytes_read, read_refusal};
 use crate::reply::Reply;
 use crate::script::Op;
-use file_tree::{Kind, Node, Tree};
+use file_tree::{Kind, Node, ROOT, Tree};
 use host_base::Memory;
 use std::alloc::{AllocError, Global};
 use utf16_name::{Units, check};
-
-/// The root's number.
-pub const ROOT: u64 = 5;
 
 impl From<AllocError> for Reply {
     ghost use Rattle.std.specs.Prelude.{◌≡◌};

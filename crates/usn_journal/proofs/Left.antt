@@ -3,12 +3,10 @@ use Rattle.std.proofs.Common.{◌≡◌, ℕ, zero, suc, ◌+◌, ◌-◌, ◌*�
 use Rattle.std.specs.Prelude.{IfSome, Option, nat_le, IsOk}
 use Rattle.std.proofs.lemmas.Bool.{lt-leb}
 use Rattle.std.proofs.lemmas.List.{append_assoc, append-nil, take-append-le}
-use Rattle.std.proofs.lemmas.List.Elements.{filter-append, All-from_recursion}
+use Rattle.std.proofs.lemmas.List.Elements.{filter-append}
 use Rattle.host_base.specs.Answers.{◌>>=◌, ExplainsOrFails}
 use Rattle.host_base.proofs.Known.{both, one}
 use Rattle.disk_model.specs.Content.{Content}
-use Rattle.record_model.specs.declared.runs.Run.{Run}
-use Rattle.stream_map.specs.Runs.{IsSmall, AreSmall}
 use Rattle.file_tree.specs.declared.journal.Usn.{Usn}
 use Rattle.state_model.specs.declared.stream.Extents.{Extents}
 use Rattle.state_model.specs.Streams.{byte_at}
@@ -17,7 +15,7 @@ use Rattle.journal_model.proofs.JournalPages.{journal_next, journal_last}
 use Rattle.volume_state.specs.Journals.{journal_first, journal_entries}
 use Rattle.usn_journal.specs.declared.pull_fault.PageFault.{PageFault}
 use Rattle.usn_journal.specs.declared.pull_fault.PageFault.TheVariants.{Broken, View, Memory}
-use Rattle.usn_journal.specs.PullErrors.{journal_cause, page_cause}
+use Rattle.usn_journal.specs.PullErrors.{whole_cause, page_cause}
 use Rattle.usn_journal.specs.Pulls.{from_on, read_entries}
 use Rattle.usn_journal.proofs.Ends.{EndBy, entries_end}
 
@@ -135,14 +133,14 @@ known_end known per e from k most found result le is left =
     ap given (ap (take most) (l.parts ∙ ap (λ (x : List Usn). found ++ from_on from x) none ∙ append-nil found) ∙ sym is)) left
 
 -- a page that is left has no record at fault
-never_broken : (fault : PageFault) (here : Result (List Usn) ℕ) (entries : List Usn) (meant : Result (List Usn) PageFault) → here ≡ Ok entries → ExplainsOrFails (page_cause fault) here → ExplainsOrFails (journal_cause fault) meant
+never_broken : (fault : PageFault) (here : Result (List Usn) ℕ) (entries : List Usn) (meant : Result (List Usn) PageFault) → here ≡ Ok entries → ExplainsOrFails (page_cause fault) here → ExplainsOrFails (whole_cause fault) meant
 never_broken (Broken at) here entries meant is said = absurd cc
 never_broken View here entries meant is said = tt
 never_broken Memory here entries meant is said = tt
 
 pub known_broken : (known : Option Content) (per : ℕ) (e : Extents) (from k most first : ℕ) (found : List Usn) (fault : PageFault) → first ≡ journal_first per e → k < (e.real + 4095) / 4096 → KnownLeft known per e from k found
     → IfSome known (λ c. ExplainsOrFails (page_cause fault) (page_entries (byte_at c per e) first e.real k))
-    → IfSome known (λ c. ExplainsOrFails (journal_cause fault) (given (take most (from_on from (read_entries (journal_entries c per e))))))
+    → IfSome known (λ c. ExplainsOrFails (whole_cause fault) (given (take most (from_on from (read_entries (journal_entries c per e))))))
 known_broken known per e from k most first found fault is lt left said =
     both known _ _ _ (λ c l h.
     let s = split (page_entries (byte_at c per e) (journal_first per e) e.real k) (journal_from (byte_at c per e) (journal_first per e) e.real (k + 1)) l.rest (sym (journal_next (byte_at c per e) (journal_first per e) e.real k lt) ∙ l.read) in
@@ -150,7 +148,3 @@ known_broken known per e from k most first found fault is lt left said =
     (subst (λ (n : ℕ). ExplainsOrFails (page_cause fault) (page_entries (byte_at c per e) n e.real k)) is h)) left said
 
 -- ---- runs
-
--- a run alone is small where it is
-pub one_small : (r : Run) → IsSmall r → AreSmall ([] ++ r ∷ [])
-one_small r small = All-from_recursion IsSmall (r ∷ []) (small, tt)

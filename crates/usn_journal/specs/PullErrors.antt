@@ -25,10 +25,10 @@ page_cause pages.View = failed
 page_cause pages.Memory = no_memory
 
 -- a record at fault is never met in a journal whose records are whole
-abbrev pub journal_cause : PageFault → Cause PageFault
-journal_cause (pages.Broken at) = never
-journal_cause pages.View = failed
-journal_cause pages.Memory = no_memory
+abbrev pub whole_cause : PageFault → Cause PageFault
+whole_cause (pages.Broken at) = never
+whole_cause pages.View = failed
+whole_cause pages.Memory = no_memory
 
 -- an error other than those of a position outside the journal
 abbrev pub IsInside : PullFault → Type 0
@@ -39,9 +39,9 @@ IsInside faults.View = ⊤
 IsInside faults.Memory = ⊤
 
 -- what a view's fault becomes for a page
-abbrev pub of_view : ViewFault → PageFault
-of_view views.Fault = pages.View
-of_view views.Memory = pages.Memory
+abbrev pub page_fault_of_view : ViewFault → PageFault
+page_fault_of_view views.Fault = pages.View
+page_fault_of_view views.Memory = pages.Memory
 
 -- and that of a record: its offset
 abbrev pub of_record : UsnFault → PageFault
@@ -50,7 +50,7 @@ of_record (entries.Shape at) = pages.Broken at
 of_record entries.Memory = pages.Memory
 
 -- what a page's fault becomes for a pull
-abbrev pub of_page : PageFault → PullFault
-of_page (pages.Broken at) = faults.Refused (Broken at)
-of_page pages.View = faults.View
-of_page pages.Memory = faults.Memory
+abbrev pub pull_fault_of_page : PageFault → PullFault
+pull_fault_of_page (pages.Broken at) = faults.Refused (Broken at)
+pull_fault_of_page pages.View = faults.View
+pull_fault_of_page pages.Memory = faults.Memory

@@ -3,7 +3,6 @@ ghost use Rattle.std.specs.Prelude.{◌≡◌, ◌+◌, ◌-◌, ◌*◌, ◌/�
 ghost use Rattle.host_base.specs.Answers.{GivesOrFails};
 ghost use Rattle.journal_model.specs.Journals.{page_entries, journal_from};
 ghost use Rattle.state_model.specs.Streams.{byte_at};
-ghost use Rattle.stream_map.specs.Runs.{AreSmall};
 ghost use Rattle.block_view.specs.Views.{AsksView};
 ghost use Rattle.volume_state.specs.Journals.{journal_first, journal_entries, journal_owned};
 ghost use Rattle.usn_journal.specs.JournalErrors.{journal_cause};
@@ -40,7 +39,6 @@ fn check_bytes<V: View>(
     body: &mut Body,
     page: &mut [u8],
 ) -> Result<(), JournalFault>
-    requires small { AreSmall extents.now.runs }
     requires begun { first < PAGE * number + PAGE }
     requires left { first ≤ extents.now.real }
     requires inside { PAGE * number < extents.now.real }
@@ -65,7 +63,6 @@ fn check_number<V: View>(
     body: &mut Body,
     room: &mut [u8],
 ) -> Result<(), JournalFault>
-    requires small { AreSmall extents.now.runs }
     requires begun { first < PAGE * number + PAGE }
     requires left { first ≤ extents.now.real }
     requires inside { PAGE * number < extents.now.real }
@@ -87,7 +84,6 @@ fn check_pages<V: View>(
     body: &mut Body,
     room: &mut [u8],
 ) -> Result<(), JournalFault>
-    requires small { AreSmall extents.now.runs }
     requires left { first ≤ extents.now.real }
     requires room { extents.now.real + 8192 < 2 ^ 64 }
     requires size { length room.old ≡ PAGE }
@@ -112,7 +108,6 @@ fn last_owned<V: View>(
     body: &mut Body,
     room: &mut [u8],
 ) -> Result<bool, JournalFault>
-    requires small { AreSmall extents.now.runs }
     requires first { first ≡ journal_first per extents.now }
     requires left { first ≤ extents.now.real }
     requires room { extents.now.real + 8192 < 2 ^ 64 }
@@ -144,7 +139,6 @@ pub fn check_entries<V: View>(
     first: u64,
     body: &mut Body,
 ) -> Result<bool, JournalFault>
-    requires small { AreSmall extents.now.runs }
     requires first { first ≡ journal_first per extents.now }
     requires left { first ≤ extents.now.real }
     ensures value { IfSome (V.content view.old) (λ c. GivesOrFails (λ owned. owned) journal_cause result (owned_in c per extents.now)) }

@@ -4,10 +4,9 @@ ghost use Rattle.host_base.specs.Answers.{GivesOrFails};
 ghost use Rattle.file_tree.specs.declared.journal.Usn.{Usn as UsnOf};
 ghost use Rattle.journal_model.specs.Journals.{page_entries};
 ghost use Rattle.state_model.specs.Streams.{byte_at};
-ghost use Rattle.stream_map.specs.Runs.{AreSmall};
 ghost use Rattle.block_view.specs.Views.{AsksView};
 ghost use Rattle.volume_state.specs.Journals.{journal_first, journal_entries};
-ghost use Rattle.usn_journal.specs.PullErrors.{journal_cause, page_cause};
+ghost use Rattle.usn_journal.specs.PullErrors.{whole_cause, page_cause};
 ghost use Rattle.usn_journal.specs.Pulls.{usn_end, from_on, read_entries};
 
 use crate::pull_fault::PageFault;
@@ -34,7 +33,6 @@ fn read_bytes<V: View>(
     body: &mut Body,
     page: &mut [u8],
 ) -> Result<UsnList, PageFault>
-    requires small { AreSmall extents.now.runs }
     requires begun { first < PAGE * number + PAGE }
     requires left { first ≤ extents.now.real }
     requires inside { PAGE * number < extents.now.real }
@@ -60,7 +58,6 @@ fn read_number<V: View>(
     body: &mut Body,
     room: &mut [u8],
 ) -> Result<UsnList, PageFault>
-    requires small { AreSmall extents.now.runs }
     requires begun { first < PAGE * number + PAGE }
     requires left { first ≤ extents.now.real }
     requires inside { PAGE * number < extents.now.real }
@@ -116,14 +113,13 @@ pub fn read_pages<V: View>(
     body: &mut Body,
     room: &mut [u8],
 ) -> Result<Vec<Usn>, PageFault>
-    requires small { AreSmall extents.now.runs }
     requires first { first ≡ journal_first per extents.now }
     requires begun { first ≤ from }
     requires left { from ≤ extents.now.real }
     requires room { extents.now.real + 8192 < 2 ^ 64 }
     requires size { length room.old ≡ PAGE }
     requires whole { IfSome (V.content view.old) (λ c. IsOk (journal_entries c per extents.now)) }
-    ensures value { IfSome (V.content view.old) (λ c. GivesOrFails (λ (v : Vec UsnOf Global). v.items) journal_cause result (Ok (take most (from_on from (read_entries (journal_entries c per extents.now)))))) }
+    ensures value { IfSome (V.content view.old) (λ c. GivesOrFails (λ (v : Vec UsnOf Global). v.items) whole_cause result (Ok (take most (from_on from (read_entries (journal_entries c per extents.now)))))) }
     ensures ends { IfOk result (λ found. All (λ (entry : UsnOf). usn_end entry < 2 ^ 64) found.items) }
     ensures kept { AsksView V.content V.kept V.faults page_cause view.old view.new result }
 {

@@ -3,7 +3,6 @@ ghost use Rattle.std.specs.Prelude.{◌≡◌, ◌≤◌, IfOk, Some, IfSome, le
 ghost use Rattle.host_base.specs.Answers.{Gives};
 ghost use Rattle.state_model.specs.Loads.{table_in};
 ghost use Rattle.state_model.specs.Trees.{all_links};
-ghost use Rattle.stream_map.specs.Runs.{AreSmall, HasSmallRuns};
 ghost use Rattle.volume_map.specs.Maps.{volume_in};
 ghost use Rattle.volume_state.specs.Journals.{journal_first, entries_in};
 ghost use Rattle.usn_journal.specs.Places.{in_shape, place_of_streams, place_of_file, journal_place, place_cause};
@@ -67,10 +66,8 @@ impl From<Memory> for PlaceFault {
 
 // The clusters of `$J`, which has these flags.
 fn entries_place(per: ClusterSize, flags: u16, entries: Stream) -> Result<Extents, PlaceFault>
-    requires small { HasSmallRuns entries }
     ensures place { Gives (λ e. e) place_cause result (in_shape (entries_in per flags entries)) }
     ensures inside { IfOk result (λ e. journal_first per e ≤ e.real) }
-    ensures small { IfOk result (λ e. AreSmall e.runs) }
 {
     let Stream::Placed(extents) = entries else {
         return Err(PlaceFault::Absent { why: NO_STREAM });
@@ -88,10 +85,8 @@ fn streams_place(
     limits: Option<Stream>,
     entries: Option<Stream>,
 ) -> Result<Extents, PlaceFault>
-    requires small { IfSome entries HasSmallRuns }
     ensures place { Gives (λ e. e) place_cause result (place_of_streams per flags limits entries) }
     ensures inside { IfOk result (λ e. journal_first per e ≤ e.real) }
-    ensures small { IfOk result (λ e. AreSmall e.runs) }
 {
     let Some(limits) = limits else {
         return Err(PlaceFault::Absent { why: NO_STREAM });
@@ -110,7 +105,6 @@ fn streams_place(
 fn file_place(alloc: Global, per: ClusterSize, file: &FileRec) -> Result<Extents, PlaceFault>
     ensures place { Gives (λ e. e) place_cause result (place_of_file per (Some file.now)) }
     ensures inside { IfOk result (λ e. journal_first per e ≤ e.real) }
-    ensures small { IfOk result (λ e. AreSmall e.runs) }
 {
     if has_type(ATTRIBUTE_LIST, file) {
         return Err(PlaceFault::Absent { why: HAS_LIST });
@@ -145,7 +139,6 @@ pub fn journal_place(
     requires links { links.now ≡ all_links (table_in map.now.files.items) (length map.now.files.items) }
     ensures place { Gives (λ e. e) place_cause result (journal_place up.now (volume_in map.now)) }
     ensures inside { IfOk result (λ e. journal_first map.now.per_cluster e ≤ e.real) }
-    ensures small { IfOk result (λ e. AreSmall e.runs) }
 {
     let number = journal_number(alloc, up, links)?;
     match file_or_none(map, number) {

@@ -78,9 +78,9 @@ impl From<AllocError> for PageFault {
 
 impl From<ViewFault> for PageFault {
     ghost use Rattle.std.specs.Prelude.{◌≡◌};
-    ghost use Rattle.usn_journal.specs.PullErrors.{of_view};
+    ghost use Rattle.usn_journal.specs.PullErrors.{page_fault_of_view};
 
-    ghost from_gives = { λ view fault. fault ≡ of_view view };
+    ghost from_gives = { λ view fault. fault ≡ page_fault_of_view view };
 
     fn from(fault: ViewFault) -> Self {
         match fault {
@@ -107,9 +107,9 @@ impl From<UsnFault> for PageFault {
 
 impl From<PageFault> for PullFault {
     ghost use Rattle.std.specs.Prelude.{◌≡◌};
-    ghost use Rattle.usn_journal.specs.PullErrors.{of_page};
+    ghost use Rattle.usn_journal.specs.PullErrors.{pull_fault_of_page};
 
-    ghost from_gives = { λ page fault. fault ≡ of_page page };
+    ghost from_gives = { λ page fault. fault ≡ pull_fault_of_page page };
 
     fn from(fault: PageFault) -> Self {
         match fault {

@@ -1,10 +1,9 @@
 ghost use Rattle.std.specs.Prelude.{◌≡◌, ◌+◌, ◌*◌, ◌^◌, ◌<◌, ◌≤◌, ◌⊎◌, length, All, IfOk, IfErr, IfSome, IsOk, Ok, Err};
 ghost use Rattle.host_base.specs.Answers.{GivesOrFails};
 ghost use Rattle.file_tree.specs.declared.journal.Usn.{Usn as UsnOf};
-ghost use Rattle.stream_map.specs.Runs.{AreSmall};
 ghost use Rattle.block_view.specs.Views.{AsksView};
 ghost use Rattle.volume_state.specs.Journals.{journal_first, journal_entries};
-ghost use Rattle.usn_journal.specs.PullErrors.{journal_cause, page_cause, pull_cause, IsInside};
+ghost use Rattle.usn_journal.specs.PullErrors.{whole_cause, page_cause, pull_cause, IsInside};
 ghost use Rattle.usn_journal.specs.declared.pull_fault.PullRefusal.TheVariants.{Trimmed, Ahead};
 ghost use Rattle.usn_journal.specs.Pulls.{usn_end, end_of, read_entries, pulled_in, pulled_of};
 
@@ -76,12 +75,11 @@ pub fn pull_inside<V: View>(
     most: u32,
     body: &mut Body,
 ) -> Result<Pulled, PageFault>
-    requires small { AreSmall extents.now.runs }
     requires first { first ≡ journal_first per extents.now }
     requires begun { first ≤ from }
     requires left { from ≤ extents.now.real }
     requires whole { IfSome (V.content view.old) (λ c. IsOk (journal_entries c per extents.now)) }
-    ensures value { IfSome (V.content view.old) (λ c. GivesOrFails (λ pulled. pulled) journal_cause result (Ok (pulled_in extents.now.real from most (read_entries (journal_entries c per extents.now))))) }
+    ensures value { IfSome (V.content view.old) (λ c. GivesOrFails (λ pulled. pulled) whole_cause result (Ok (pulled_in extents.now.real from most (read_entries (journal_entries c per extents.now))))) }
     ensures kept { AsksView V.content V.kept V.faults page_cause view.old view.new result }
 {
     let next = extents.real;
@@ -127,7 +125,6 @@ pub fn read_from<V: View>(
     most: u32,
     body: &mut Body,
 ) -> Result<Pulled, PullFault>
-    requires small { AreSmall extents.now.runs }
     requires left { journal_first per extents.now ≤ extents.now.real }
     requires whole { IfSome (V.content view.old) (λ c. IsOk (journal_entries c per extents.now)) }
     ensures value { IfSome (V.content view.old) (λ c. GivesOrFails (λ pulled. pulled) pull_cause result (pulled_of c per extents.now from most)) }

@@ -2,7 +2,6 @@
 ghost use Rattle.std.specs.Prelude.{◌≡◌, ◌≤◌, not, find, Ok, Err, MatchOption, IfSome};
 ghost use Rattle.std.specs.List.{list_all};
 ghost use Rattle.std.specs.Option.{option_copied};
-ghost use Rattle.stream_map.specs.Runs.{AreSmall, HasSmallRuns};
 ghost use Rattle.volume_model.specs.Sizes.{is_hole};
 ghost use Rattle.volume_state.specs.Journals.{ends_within, run_place, journal_first, has_journal_shape, limits_in, entries_in};
 
@@ -92,10 +91,8 @@ pub fn limits_of(stream: &Stream) -> Option<JournalMax>
 /// The clusters of `$J`, which has these flags; none where it is resident, or out of shape. A
 /// volume has `per` sectors a cluster. Linear in the runs.
 pub fn entries_of(per: ClusterSize, flags: u16, stream: &Stream) -> Option<&Extents>
-    requires small { HasSmallRuns stream.now }
     ensures value { MatchOption result (entries_in per flags stream.now ≡ Err 0) (λ e. entries_in per flags stream.now ≡ Ok e.now) }
     ensures first { IfSome result (λ e. journal_first per e.now ≤ e.now.real) }
-    ensures small { IfSome result (λ e. AreSmall e.now.runs) }
 {
     match stream {
         Stream::Placed(extents) if has_shape(per, flags, extents) => Some(extents),

@@ -4,7 +4,6 @@ ghost use Rattle.host_base.specs.Answers.{GivesOrFails};
 ghost use Rattle.disk_model.specs.Content.{Content};
 ghost use Rattle.state_model.specs.Loads.{table_in};
 ghost use Rattle.state_model.specs.Trees.{all_links};
-ghost use Rattle.stream_map.specs.Runs.{AreSmall, HasSmallRuns};
 ghost use Rattle.volume_map.specs.Maps.{volume_in};
 ghost use Rattle.block_view.specs.Views.{AsksView};
 ghost use Rattle.volume_state.specs.Journals.{journal_first, journal_owned, journal_with, journal_of_streams, journal_of_file};
@@ -63,7 +62,6 @@ fn placed_journal<V: View>(
     extents: &Extents,
     body: &mut Body,
 ) -> Result<Option<Journal>, JournalFault>
-    requires small { AreSmall extents.now.runs }
     requires left { journal_first per extents.now ≤ extents.now.real }
     ensures value { IfSome (V.content view.old) (λ c. GivesOrFails (λ journal. journal) journal_cause result (journal_in_place c per limits extents.now)) }
     ensures kept { AsksView V.content V.kept V.faults journal_cause view.old view.new result }
@@ -83,7 +81,6 @@ fn stream_journal<V: View>(
     entries: &Stream,
     body: &mut Body,
 ) -> Result<Option<Journal>, JournalFault>
-    requires small { HasSmallRuns entries.now }
     ensures value { IfSome (V.content view.old) (λ c. GivesOrFails (λ journal. journal) journal_cause result (bare (journal_of_streams c per flags (Some limits.now) (Some entries.now)))) }
     ensures kept { AsksView V.content V.kept V.faults journal_cause view.old view.new result }
 {
@@ -106,7 +103,6 @@ fn optional_journal<V: View>(
     entries: Option<Stream>,
     body: &mut Body,
 ) -> Result<Option<Journal>, JournalFault>
-    requires small { IfSome entries HasSmallRuns }
     ensures value { IfSome (V.content view.old) (λ c. GivesOrFails (λ journal. journal) journal_cause result (bare (journal_of_streams c per flags limits entries))) }
     ensures kept { AsksView V.content V.kept V.faults journal_cause view.old view.new result }
 {

@@ -20,7 +20,7 @@ use Rattle.volume_format.specs.declared.layout.Layout.{Layout}
 use Rattle.volume_format.specs.declared.naming.Data.{Data}
 use Rattle.volume_format.specs.declared.naming.Data.TheVariants.{Absent, Empty, Clusters}
 use Rattle.volume_format.specs.Layouts.{IsLayout}
-use Rattle.volume_format.specs.Files.{system_name, system_data, is_directory, sequence, resident, FitsData, allocated_of, bytes_of, standard_value, standard, name_fields, name_value, named, head_of, system_attrs, system_record, reserved_record, spare_record, record_of}
+use Rattle.volume_format.specs.Files.{system_name, system_data, is_directory, sequence, resident, FitsData, allocated_of, bytes_of, standard_value, standard, name_fields, name_value, name_attribute, head_of, system_attrs, system_record, reserved_record, spare_record, record_of}
 use Rattle.volume_format.proofs.FittingAttributes.{FitsIn, no_units, resident_fits}
 use Rattle.volume_format.proofs.FittingStreams.{below, Stand, data_fits, streams, streams_stand, streams_few}
 
@@ -143,8 +143,8 @@ standard_fits time =
     let size : length (standard_value time) ≡ 0x48 = length-std_info_over _ (zeros 0x48) ∙ length-zeros 0x48 in
     resident_fits 0 0x10 [] (standard_value time) (omega arith) (omega arith) (omega arith) no_units (omega arith) (le-leb _ _ (omega arith))
 
-named_fits : (v : Layout) → IsLayout v → (time n : ℕ) → time < 2 ^ 64 → n < 12 → FitsIn (named v time n)
-unfolding named has_lawful_value
+named_fits : (v : Layout) → IsLayout v → (time n : ℕ) → time < 2 ^ 64 → n < 12 → FitsIn (name_attribute v time n)
+unfolding name_attribute has_lawful_value
 named_fits v fits time n small lt =
     let size = length-name_value v time n in
     let short = (has_name n lt).short in
@@ -152,7 +152,7 @@ named_fits v fits time n small lt =
       attr = record { kind = omega arith; flags = omega arith; id = omega arith; name_short = omega arith; units = no_units; form = record { value_short = omega arith; indexed_byte = omega arith } };
       kind = omega arith;
       lawful = name_lawful v fits time n small lt;
-      short = let e = length-spelling (named v time n) in omega arith;
+      short = let e = length-spelling (name_attribute v time n) in omega arith;
     }
 
 -- ---- records
@@ -207,7 +207,7 @@ directory_flags true = omega arith
 directory_flags false = omega arith
 
 system_stands : (v : Layout) → IsLayout v → (time n : ℕ) → time < 2 ^ 64 → n < 12 → Stand 0 (system_attrs v time n)
-unfolding system_attrs streams standard named
+unfolding system_attrs streams standard name_attribute
 system_stands v fits time n small lt = (standard_fits time, omega arith, (named_fits v fits time n small lt, omega arith, streams_stand v fits n lt))
 
 system_fits : (v : Layout) → IsLayout v → (time n : ℕ) → time < 2 ^ 64 → n < 12 → FitsRecord (system_record v time n)

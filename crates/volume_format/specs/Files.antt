@@ -128,8 +128,8 @@ name_fields v time n = record {
 unfoldable pub name_value : Layout → ℕ → ℕ → List ℕ
 name_value v time n = file_name_over (name_fields v time n) (zeros (0x42 + 2 * length (system_name n)))
 
-unfoldable pub named : Layout → ℕ → ℕ → Attr
-named v time n = record { head = record { kind = file_name; flags = 0; id = 1 }; name = []; form = Resident (name_value v time n) 1 }
+unfoldable pub name_attribute : Layout → ℕ → ℕ → Attr
+name_attribute v time n = record { head = record { kind = file_name; flags = 0; id = 1 }; name = []; form = Resident (name_value v time n) 1 }
 
 -- data whose place has a spelling: some clusters below 2 ^ 32, and no more bytes than they have
 abbrev pub FitsData : Data → Type 0
@@ -183,7 +183,7 @@ abbrev pub head_of : ℕ → ℕ → ℕ → ℕ → RecHead
 head_of n links flags next_id = record { lsn = 0; seq = sequence n; links = links; flags = flags; base = no_file; next_id = next_id; number = n }
 
 unfoldable pub system_attrs : Layout → ℕ → ℕ → List Attr
-system_attrs v time n = standard time ∷ named v time n ∷ (data_attrs (system_data v n) ++ other_streams v n)
+system_attrs v time n = standard time ∷ name_attribute v time n ∷ (data_attrs (system_data v n) ++ other_streams v n)
 
 -- 1 is in use, 2 a directory
 unfoldable pub system_record : Layout → ℕ → ℕ → Record

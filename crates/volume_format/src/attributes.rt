@@ -2,7 +2,7 @@ ghost use Rattle.std.specs.Prelude.{◌≡◌, ◌<◌, ◌≤◌, ◌^◌, IfOk
 ghost use Rattle.record_model.specs.Attributes.{filled};
 ghost use Rattle.record_model.specs.Pairs.{pairs_of};
 ghost use Rattle.volume_format.specs.Layouts.{IsLayout};
-ghost use Rattle.volume_format.specs.Files.{resident, mapped, one_run, standard_value, standard, named};
+ghost use Rattle.volume_format.specs.Files.{resident, mapped, one_run, standard_value, standard, name_attribute};
 
 use crate::layout::Layout;
 use crate::naming::name_value;
@@ -127,11 +127,11 @@ pub fn standard(alloc: Global, time: u64) -> Result<Attr, AllocError>
 }
 
 /// The name of a system file.
-#[tactic(auto, unfolding(crate::specs::Files::named))]
-pub fn named(alloc: Global, v: Layout, time: u64, number: u64) -> Result<Attr, AllocError>
+#[tactic(auto, unfolding(crate::specs::Files::name_attribute))]
+pub fn name_attribute(alloc: Global, v: Layout, time: u64, number: u64) -> Result<Attr, AllocError>
     requires layout { IsLayout v }
     requires system { number < 12 }
-    ensures { IfOk result (λ attr. attr ≡ named v time number) }
+    ensures { IfOk result (λ attr. attr ≡ name_attribute v time number) }
 {
     let value = name_value(alloc, v, time, number)?;
     Ok(Attr {

@@ -4,7 +4,7 @@ ghost use Rattle.fixup_record.specs.Protecting.{protected_bytes};
 ghost use Rattle.volume_format.specs.Layouts.{IsLayout};
 ghost use Rattle.volume_format.specs.Files.{first_check, head_of, system_attrs, system_record, reserved_record, record_of, record_bytes, table_bytes};
 
-use crate::attributes::{named, resident, standard};
+use crate::attributes::{name_attribute, resident, standard};
 use crate::layout::Layout;
 use crate::naming::{data_of, is_directory, sequence};
 use crate::streams::{push_data, push_others};
@@ -48,7 +48,7 @@ fn system_attrs(alloc: Global, v: Layout, time: u64, number: u64) -> Result<File
 {
     let mut file = FileRec::empty(alloc, head_of(number, 0, 0, 0));
     file.push(standard(alloc, time)?)?;
-    file.push(named(alloc, v, time, number)?)?;
+    file.push(name_attribute(alloc, v, time, number)?)?;
     push_data(alloc, data_of(v, number), &mut file)?;
     push_others(alloc, v, number, &mut file)?;
     Ok(file)

@@ -7,7 +7,7 @@ use Rattle.std.proofs.lemmas.List.Elements.{filter-append, filter_map-append}
 use Rattle.record_model.specs.Records.{Record}
 use Rattle.file_tree.specs.declared.link.Link.{Link}
 use Rattle.file_tree.specs.Trees.{is_long}
-use Rattle.state_model.specs.Files.{only_base, links_of, links_at, file_at}
+use Rattle.state_model.specs.Files.{only_base, file_links, links_at, file_at}
 use Rattle.state_model.specs.Loads.{table_in}
 
 long_more : {X Y : Type 0} (p : Y → Bool) (h : X → Option Y) (xs : List X) (i : ℕ) (d : X) → i < length xs → filter p (filter_map h (take (i + 1) xs)) ≡ filter p (filter_map h (take i xs)) ++ filter p (cons_option (h (get_or xs i d)) [])
@@ -37,14 +37,14 @@ long_files p f n =
     ∙ filter-append p (flat_map f (range_with_len 0 n)) (f (0 + n) ++ [])
     ∙ ap (λ ys. filter p (flat_map f (range_with_len 0 n)) ++ filter p ys) (append-nil (f (0 + n)) ∙ ap f e)
 
-links_here : (files : List (Option Record)) (n : ℕ) (file : Option Record) → n < length files → file ≡ get_or files n file → links_of n (only_base file) ≡ links_at (table_in files) n
+links_here : (files : List (Option Record)) (n : ℕ) (file : Option Record) → n < length files → file ≡ get_or files n file → file_links n (only_base file) ≡ links_at (table_in files) n
 unfolding links_at file_at
-links_here files n file lt here = ap (λ (o : Option Record). links_of n (only_base o)) (here ∙ get_or_default files n file None lt)
+links_here files n file lt here = ap (λ (o : Option Record). file_links n (only_base o)) (here ∙ get_or_default files n file None lt)
 
 -- one file more
 pub file_step : (files : List (Option Record)) (n : ℕ) (file : Option Record) (old new : List Link) → n < length files → file ≡ get_or files n file → old ≡ filter is_long (flat_map (links_at (table_in files)) (range_with_len 0 n))
-    → new ≡ old ++ filter is_long (links_of n (only_base file)) → new ≡ filter is_long (flat_map (links_at (table_in files)) (range_with_len 0 (n + 1)))
+    → new ≡ old ++ filter is_long (file_links n (only_base file)) → new ≡ filter is_long (flat_map (links_at (table_in files)) (range_with_len 0 (n + 1)))
 file_step files n file old new lt here before after =
-    after ∙ ap (λ ls. ls ++ filter is_long (links_of n (only_base file))) before
+    after ∙ ap (λ ls. ls ++ filter is_long (file_links n (only_base file))) before
     ∙ ap (λ ls. filter is_long (flat_map (links_at (table_in files)) (range_with_len 0 n)) ++ filter is_long ls) (links_here files n file lt here)
     ∙ sym (long_files is_long (links_at (table_in files)) n)

@@ -20,7 +20,7 @@ use Rattle.file_tree.specs.Trees.{is_long}
 use Rattle.state_model.specs.declared.geometry.Geometry.{Geometry}
 use Rattle.state_model.specs.declared.geometry.MapRefusal.{MapRefusal}
 use Rattle.state_model.specs.declared.stream.Extents.{Extents}
-use Rattle.state_model.specs.Files.{Table, is_base_record, only_base, file_at, reference, links_of, links_at, has_type}
+use Rattle.state_model.specs.Files.{Table, is_base_record, only_base, file_at, reference, file_links, links_at, has_type}
 use Rattle.state_model.specs.Trees.{all_links}
 use Rattle.state_model.specs.Streams.{has_cut_block, is_attribute_of, attributes_of, stream_of}
 use Rattle.state_model.specs.Loads.{Slot, table_slot, table_in, records_of, used_record, broken_rule, record_count, list_stream, no_entries, entries_of, named_attrs, all_attrs, whole_file, joined_file, has_held_list, breaks_9, breaks_10, breaks_list, cuts_index, or_rule, rule_at, torn_refusal, rule_refusal, first_of, first_some, unless, files_of, files_in, table_of, loaded}
@@ -153,8 +153,8 @@ names_are c per e n lt h =
     let p : Table = table_in (records_of (table_slot c per e) (record_count e)) in
     let same : file_at p n ≡ file_of (table_slot c per e n) = file_is (table_slot c per e) (record_count e) n lt in
     let here : table_in (files_of c per p (record_count e)) n ≡ file_of (table_slot c per e n) = get_or-map-range_with_len (joined_file c per p (record_count e)) 0 (record_count e) n n None lt (omega arith) ∙ joined_is c per p (record_count e) n (ap has_list same ∙ h) ∙ same in
-    ap (λ (o : Option Record). filter is_long (links_of n (only_base o))) here
-    ∙ ap (λ (o : Option Record). filter is_long (links_of n o)) (base_again (used_record (table_slot c per e n)))
+    ap (λ (o : Option Record). filter is_long (file_links n (only_base o))) here
+    ∙ ap (λ (o : Option Record). filter is_long (file_links n o)) (base_again (used_record (table_slot c per e n)))
 
 links_are : (c : Content) (per : ℕ) (e : Extents) → ((n : ℕ) → n < record_count e → has_list (file_of (table_slot c per e n)) ≡ false)
     → long_links (files_of c per (table_in (records_of (table_slot c per e) (record_count e))) (record_count e)) ≡ flat_map (λ n. names_of n (table_slot c per e n)) (range_with_len 0 (record_count e))

@@ -8,7 +8,7 @@ use Rattle.file_record.specs.declared.fault.RecFault.{RecFault}
 use Rattle.file_record.specs.declared.fault.RecFault.TheVariants.{Rule, Memory as no_memory}
 use Rattle.file_tree.specs.declared.link.Link.{Link}
 use Rattle.file_tree.specs.Trees.{is_long}
-use Rattle.state_model.specs.Files.{only_base, links_of, has_type}
+use Rattle.state_model.specs.Files.{only_base, file_links, has_type}
 use Rattle.state_model.specs.Loads.{Slot, Torn as torn, used_record, broken_rule, cuts_index, or_rule, torn_refusal, rule_refusal, first_of, first_some, unless}
 use Rattle.state_model.specs.declared.geometry.MapRefusal.{MapRefusal}
 use Rattle.state_model.specs.declared.geometry.MapRefusal.TheVariants.{BadFixup}
@@ -29,7 +29,7 @@ file_of slot = only_base (used_record slot)
 
 -- the long names of a slot with this number
 unfoldable pub names_of : ℕ → Slot → List Link
-names_of n slot = filter is_long (links_of n (file_of slot))
+names_of n slot = filter is_long (file_links n (file_of slot))
 
 -- the least rule that it breaks, as a file with no attribute list
 unfoldable pub own_rule : ℕ → Slot → Option ℕ

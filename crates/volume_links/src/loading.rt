@@ -4,7 +4,6 @@ ghost use Rattle.host_base.specs.Answers.{Gives, GivesOrFails};
 ghost use Rattle.disk_model.specs.declared.block.BlockKind.TheVariants.{FileRec as file_kind};
 ghost use Rattle.state_model.specs.Streams.{has_cut_block};
 ghost use Rattle.state_model.specs.Loads.{most_records, record_count};
-ghost use Rattle.stream_map.specs.Runs.{AreSmall};
 ghost use Rattle.volume_map.specs.Errors.{map_cause};
 ghost use Rattle.volume_links.specs.Names.{links_in, loaded_links};
 ghost use Rattle.volume_links.specs.Scans.{verdict_of};
@@ -28,7 +27,6 @@ fn links_of_files<V: View>(
     extents: &Extents,
     body: &mut Body,
 ) -> Result<Vec<Link>, MapFault>
-    requires small { AreSmall extents.now.runs }
     requires records { record_count extents.now ≤ most_records }
     ensures answer { IfSome (V.content view.old) (λ c. GivesOrFails (λ links. links.items) map_cause result (links_in c per extents.now)) }
     ensures kept { AsksView V.content V.kept V.faults map_cause view.old view.new result }
@@ -55,7 +53,6 @@ fn links_in<V: View>(
     extents: &Extents,
     body: &mut Body,
 ) -> Result<Vec<Link>, MapFault>
-    requires small { AreSmall extents.now.runs }
     requires records { record_count extents.now ≤ most_records }
     ensures answer { IfSome (V.content view.old) (λ c. GivesOrFails (λ links. links.items) map_cause result (links_in c per extents.now)) }
     ensures kept { AsksView V.content V.kept V.faults map_cause view.old view.new result }

@@ -2,7 +2,7 @@
 ghost use Rattle.std.specs.Prelude.{◌≡◌, ◌++◌, [], IfOk, OnOk};
 ghost use Rattle.std.specs.List.{cons_option, filter};
 ghost use Rattle.file_tree.specs.Trees.{is_long};
-ghost use Rattle.state_model.specs.Files.{only_base, form_link, attr_link, record_links, links_of};
+ghost use Rattle.state_model.specs.Files.{only_base, form_link, attr_link, record_links, file_links};
 ghost use Rattle.volume_links.specs.Names.{long_links};
 
 use file_record::FileRec;
@@ -61,7 +61,7 @@ fn push_file(
     file: &Option<FileRec>,
     links: &mut Vec<Link>,
 ) -> Result<(), Memory>
-    ensures { OnOk result (links.new.items ≡ links.old.items ++ filter is_long (links_of number (only_base file.now))) }
+    ensures { OnOk result (links.new.items ≡ links.old.items ++ filter is_long (file_links number (only_base file.now))) }
 {
     match file {
         Some(file) if is_base_record(file) => push_record(alloc, number, file, links),

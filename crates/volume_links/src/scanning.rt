@@ -3,7 +3,6 @@ ghost use Rattle.std.specs.Prelude.{◌≡◌, ◌+◌, ◌<◌, ◌≤◌, true
 ghost use Rattle.record_model.specs.Constants.{attribute_list};
 ghost use Rattle.state_model.specs.Files.{is_base_record, has_type};
 ghost use Rattle.state_model.specs.Loads.{Free, Used, most_records, record_count, slot_in, slot_of, whole_record, table_slot, rule_refusal, first_some};
-ghost use Rattle.stream_map.specs.Runs.{AreSmall};
 ghost use Rattle.volume_map.specs.Errors.{map_cause, NeverRefused};
 ghost use Rattle.volume_links.specs.Scans.{IsUnread, IsSeen, Judges, ScannedBelow, ScansOrFails, ScansAll};
 ghost use Rattle.block_view.specs.Views.{AsksView};
@@ -155,7 +154,6 @@ fn read_body<V: View>(
     number: u64,
     body: &mut Body,
 ) -> Result<bool, MapFault>
-    requires small { AreSmall extents.now.runs }
     requires number { number < most_records }
     ensures slot { IfSome (V.content view.old) (λ c. IfOk result (λ there. table_slot c per extents.now number ≡ (if there then slot_of body.new else Free))) }
     ensures size { IfOk result (λ there. IsTrue there → length body.new.bytes ≡ 1024) }
@@ -184,7 +182,6 @@ fn take_record<V: View>(
     body: &mut Body,
     links: &mut Vec<Link>,
 ) -> Result<Seen, MapFault>
-    requires small { AreSmall extents.now.runs }
     requires number { number < most_records }
     ensures seen { IfSome (V.content view.old) (λ c. IfOk result (IsSeen per number (table_slot c per extents.now number) links.old.items links.new.items)) }
     ensures kept { AsksView V.content V.kept V.faults map_cause view.old view.new result }
@@ -246,7 +243,6 @@ fn step<V: View>(
     body: &mut Body,
     scan: &mut Scan,
 ) -> Result<bool, MapFault>
-    requires small { AreSmall extents.now.runs }
     requires number { number < most_records }
     ensures answer { IfSome (V.content view.old) (λ c. ScannedBelow per cut (table_slot c per extents.now) number scan.old → ScansOrFails per cut (table_slot c per extents.now) (number + 1) result scan.new) }
     ensures kept { AsksView V.content V.kept V.faults map_cause view.old view.new result }
@@ -267,7 +263,6 @@ pub fn scan_table<V: View>(
     cut: bool,
     body: &mut Body,
 ) -> Result<Option<Scan>, MapFault>
-    requires small { AreSmall extents.now.runs }
     requires records { record_count extents.now ≤ most_records }
     ensures answer { IfSome (V.content view.old) (λ c. ScansAll per cut (table_slot c per extents.now) (record_count extents.now) result) }
     ensures kept { AsksView V.content V.kept V.faults map_cause view.old view.new result }

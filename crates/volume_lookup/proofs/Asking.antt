@@ -10,7 +10,7 @@ use Rattle.file_tree.specs.declared.node.Kind.TheVariants.{Directory, File, Fixe
 use Rattle.file_tree.specs.declared.node.Node.{Node}
 use Rattle.file_tree.specs.declared.tree.Tree.{Tree}
 use Rattle.file_tree.specs.Names.{same_units}
-use Rattle.file_tree.specs.Trees.{node_at as node_by_number, is_directory_kind, is_directory_node, is_directory}
+use Rattle.file_tree.specs.Trees.{node_at as node_by_number, is_directory_kind, is_directory_node, is_directory, without_bytes}
 use Rattle.state_model.specs.declared.broken.Broken.{Broken}
 use Rattle.state_model.specs.declared.stream.Stream.{Stream}
 use Rattle.state_model.specs.Files.{is_directory_record}
@@ -20,7 +20,7 @@ use Rattle.volume_model.specs.Nodes.{no_bytes, kind_in, node_with, node_by, some
 use Rattle.volume_state.specs.Rules.{first_broken}
 use Rattle.volume_state.specs.Trees.{tree_with, tree_of}
 use Rattle.tree_laws.proofs.Numbering.{found_by_number}
-use Rattle.tree_lookup.specs.Asked.{without_bytes, bare_at}
+use Rattle.tree_lookup.specs.Asked.{bare_at}
 use Rattle.volume_lookup.specs.Known.{is_unbroken, is_asked_so, known_tree}
 
 -- ---- where the tree is known

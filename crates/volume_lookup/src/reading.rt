@@ -3,7 +3,6 @@ ghost use Rattle.std.specs.Prelude.{◌≡◌, [], Ok, Some, None, length, IfSom
 ghost use Rattle.host_base.specs.Answers.{GivesOrFails};
 ghost use Rattle.disk_model.specs.Bytes.{zeros};
 ghost use Rattle.block_view.specs.Views.{AsksView};
-ghost use Rattle.stream_map.specs.Runs.{HasSmallRuns};
 ghost use Rattle.volume_model.specs.Volumes.{bytes_or};
 ghost use Rattle.volume_map.specs.Maps.{volume_in};
 ghost use Rattle.tree_lookup.specs.Asked.{lookup_cause};
@@ -42,7 +41,6 @@ fn stream_front<V: View>(
     at: u64,
     out: &mut [u8],
 ) -> Result<(), LookupFault>
-    requires small { HasSmallRuns stream.now }
     ensures value { IfSome (V.content view.old) (λ c. GivesOrFails (λ _. out.new) lookup_cause result (Ok (front_of (bytes_or c per (Some stream.now)) at (length out.old)))) }
     ensures asks { AsksView V.content V.kept V.faults lookup_cause view.old view.new result }
 {

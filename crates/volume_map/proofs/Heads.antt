@@ -11,7 +11,7 @@ use Rattle.volume_map.specs.declared.fault.MapFault.{MapFault}
 use Rattle.host_base.specs.declared.file_ref.FileRef.{FileRef}
 use Rattle.disk_model.specs.Content.{Content}
 use Rattle.bit_set.specs.Bits.{bit}
-use Rattle.state_model.specs.Trees.{first_user_record}
+use Rattle.file_tree.specs.Walks.{first_user_record}
 use Rattle.state_model.specs.Rules.{implies, first_failing}
 use Rattle.volume_model.specs.Volumes.{Volume, count_of, record_bits, is_in_use}
 use Rattle.volume_model.specs.Owners.{keeps_record_bit}

@@ -7,7 +7,7 @@ use Rattle.disk_model.specs.declared.block.BlockKind.TheVariants.{FileRec}
 use Rattle.bit_set.specs.Bits.{bit}
 use Rattle.state_model.specs.declared.stream.Extents.{Extents}
 use Rattle.state_model.specs.Streams.{block_at}
-use Rattle.state_model.specs.Trees.{first_user_record}
+use Rattle.file_tree.specs.Walks.{first_user_record}
 use Rattle.state_model.specs.Rules.{implies}
 use Rattle.state_model.specs.Loads.{is_used}
 use Rattle.volume_model.specs.Volumes.{Volume, block_bytes, count_of, record_bytes}

@@ -5,7 +5,6 @@ ghost use Rattle.record_model.specs.Constants.{data_type, bitmap_type};
 ghost use Rattle.state_model.specs.Files.{file_at};
 ghost use Rattle.state_model.specs.Loads.{table_in};
 ghost use Rattle.state_model.specs.Streams.{stream_bytes};
-ghost use Rattle.stream_map.specs.Runs.{HasSmallRuns};
 ghost use Rattle.volume_map.specs.Errors.{map_cause, NeverRefused};
 ghost use Rattle.block_view.specs.Views.{AsksView};
 ghost use Rattle.volume_model.specs.Volumes.{file_stream, bytes_or, table_file, bitmap_file};
@@ -50,7 +49,6 @@ fn front_bits<V: View>(
     body: &mut Body,
     room: &mut [u8],
 ) -> Result<BitSet, MapFault>
-    requires small { HasSmallRuns stream.now }
     requires enough { count ≤ 8 * length room.old }
     ensures value { IfSome (V.content view.old) (λ c. IfOk result (λ bits. bits ≡ bits_of_bytes (stream_bytes c per stream.now) count)) }
     ensures kept { AsksView V.content V.kept V.faults map_cause view.old view.new result }
@@ -69,7 +67,6 @@ fn stream_bits<V: View>(
     count: u64,
     body: &mut Body,
 ) -> Result<BitSet, MapFault>
-    requires small { HasSmallRuns stream.now }
     ensures value { IfSome (V.content view.old) (λ c. IfOk result (λ bits. bits ≡ bits_of_bytes (stream_bytes c per stream.now) count)) }
     ensures kept { AsksView V.content V.kept V.faults map_cause view.old view.new result }
     ensures certain { NeverRefused result }

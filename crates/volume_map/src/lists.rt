@@ -6,7 +6,6 @@ ghost use Rattle.record_model.specs.declared.attribute.Attr.{Attr as attr};
 ghost use Rattle.record_model.specs.Constants.{attribute_list};
 ghost use Rattle.state_model.specs.Streams.{stream_bytes, real_size};
 ghost use Rattle.state_model.specs.Loads.{attr_name, list_stream, list_entries_in, entries_of, table_in};
-ghost use Rattle.stream_map.specs.Runs.{HasSmallRuns};
 ghost use Rattle.volume_map.specs.Errors.{map_cause, NeverRefused};
 ghost use Rattle.volume_map.specs.Lists.{read_of, list_at, lists_of, Takes, GoesOn};
 ghost use Rattle.block_view.specs.Views.{AsksView};
@@ -43,7 +42,6 @@ fn list_name(attrs: &[Attr]) -> &[u16]
 #[tactic(auto, unfolding(state_model::specs::Loads::list_stream))]
 fn list_stream(alloc: Global, file: &FileRec) -> Result<Option<Stream>, Memory>
     ensures value { IfOk result (λ stream. stream ≡ list_stream file.now) }
-    ensures small { IfOk result (λ stream. IfSome stream HasSmallRuns) }
 {
     let attrs = file.attrs().as_slice();
     stream_of(alloc, ATTRIBUTE_LIST, list_name(attrs), attrs)
@@ -76,7 +74,6 @@ fn read_step<V: View>(
     body: &mut Body,
     list: &mut ListRead,
 ) -> Result<bool, MapFault>
-    requires small { HasSmallRuns stream.now }
     requires place { at.old ≤ real_size stream.now }
     ensures step { IfSome (V.content view.old) (λ c. IfOk result (GoesOn (stream_bytes c per stream.now) at.old at.new list.old list.new)) }
     ensures moves { IfOk result (λ more. IsTrue more → at.old < at.new) }
@@ -96,7 +93,6 @@ fn read_list<V: View>(
     stream: &Stream,
     body: &mut Body,
 ) -> Result<ListRead, MapFault>
-    requires small { HasSmallRuns stream.now }
     ensures value { IfSome (V.content view.old) (λ c. IfOk result (λ list. read_of list ≡ list_entries (stream_bytes c per stream.now))) }
     ensures kept { AsksView V.content V.kept V.faults map_cause view.old view.new result }
     ensures certain { NeverRefused result }

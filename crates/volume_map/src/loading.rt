@@ -4,7 +4,6 @@ ghost use Rattle.host_base.specs.Answers.{Gives, GivesOrFails};
 ghost use Rattle.disk_model.specs.declared.block.BlockKind.TheVariants.{FileRec as file_kind};
 ghost use Rattle.state_model.specs.Streams.{has_cut_block};
 ghost use Rattle.state_model.specs.Loads.{table_in, most_records, record_count, files_in, loaded};
-ghost use Rattle.stream_map.specs.Runs.{AreSmall};
 ghost use Rattle.volume_map.specs.Errors.{map_cause};
 ghost use Rattle.volume_map.specs.Heads.{table_heads};
 ghost use Rattle.volume_map.specs.Lists.{read_of, judged_files};
@@ -100,7 +99,6 @@ pub fn read_table<V: View>(
     extents: &Extents,
     body: &mut Body,
 ) -> Result<TableRead, MapFault>
-    requires small { AreSmall extents.now.runs }
     requires records { record_count extents.now ≤ most_records }
     ensures answer { IfSome (V.content view.old) (λ c. GivesOrFails (λ read. read.files.items) map_cause result (files_in c per extents.now)) }
     ensures heads { IfSome (V.content view.old) (λ c. IfOk result (λ read. read.heads.items ≡ table_heads c per extents.now (length read.files.items))) }
@@ -124,7 +122,6 @@ pub fn files_in<V: View>(
     extents: &Extents,
     body: &mut Body,
 ) -> Result<Vec<Option<FileRec>>, MapFault>
-    requires small { AreSmall extents.now.runs }
     requires records { record_count extents.now ≤ most_records }
     ensures answer { IfSome (V.content view.old) (λ c. GivesOrFails (λ files. files.items) map_cause result (files_in c per extents.now)) }
     ensures kept { AsksView V.content V.kept V.faults map_cause view.old view.new result }

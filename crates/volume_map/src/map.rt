@@ -1,7 +1,5 @@
 //! A volume as its file table is loaded.
 ghost use Rattle.std.specs.Prelude.{◌*◌, ◌^◌, ◌<◌};
-ghost use Rattle.std.proofs.Props.{props};
-ghost use Rattle.stream_map.specs.Runs.{AreSmall};
 
 use crate::head::Head;
 use bit_set::BitSet;
@@ -29,5 +27,4 @@ pub struct VolumeMap {
     /// The bits of the clusters, set where one is in use: as many as the volume has clusters.
     pub cluster_bits: BitSet,
     pub ghost place: { mft * per_cluster < 2 ^ 62 },
-    pub ghost small: { AreSmall table.runs } by { Prim.hlevel props },
 }

@@ -1,7 +1,6 @@
 //! The loading of a volume.
 ghost use Rattle.std.specs.Prelude.{◌≡◌, ◌*◌, ◌^◌, ◌<◌, length, IfOk, IfSome};
 ghost use Rattle.host_base.specs.Answers.{GivesOrFails};
-ghost use Rattle.stream_map.specs.Runs.{AreSmall};
 ghost use Rattle.volume_model.specs.Volumes.{volume_of, record_bits, cluster_bits};
 ghost use Rattle.volume_map.specs.Errors.{map_cause, NeverRefused};
 ghost use Rattle.volume_map.specs.Maps.{volume_in, IsMapOf};
@@ -29,7 +28,6 @@ fn with_bits<V: View>(
     body: &mut Body,
 ) -> Result<VolumeMap, MapFault>
     requires place { geometry.now.mft * geometry.now.per_cluster < 2 ^ 62 }
-    requires small { AreSmall table.runs }
     ensures volume { IfOk result (λ map. volume_in map ≡ record { per = geometry.now.per_cluster; clusters = clusters; mft = geometry.now.mft; table = table; files = read.files.items }) }
     ensures heads { IfOk result (λ map. map.heads.items ≡ read.heads.items) }
     ensures records { IfSome (V.content view.old) (λ c. IfOk result (λ map. map.record_bits ≡ record_bits c (volume_in map))) }

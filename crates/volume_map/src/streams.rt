@@ -4,7 +4,6 @@ ghost use Rattle.disk_model.specs.Content.{Content as the_content};
 ghost use Rattle.state_model.specs.Files.{file_at};
 ghost use Rattle.state_model.specs.Loads.{table_in};
 ghost use Rattle.state_model.specs.Streams.{stream_bytes};
-ghost use Rattle.stream_map.specs.Runs.{HasSmallRuns};
 ghost use Rattle.volume_model.specs.Volumes.{file_stream, bytes_or};
 
 use file_record::{FileRec, file_at};
@@ -23,7 +22,6 @@ pub fn file_stream(
     kind: u32,
 ) -> Result<Option<Stream>, Memory>
     ensures value { IfOk result (λ stream. stream ≡ file_stream kind [] (file_at (table_in files.now) number)) }
-    ensures small { IfOk result (λ stream. IfSome stream HasSmallRuns) }
 {
     match file_at(files, number) {
         Some(file) => stream_of(alloc, kind, &[], file.attrs().as_slice()),
@@ -33,9 +31,7 @@ pub fn file_stream(
 
 /// The stream, or one of no bytes where there is none; this takes no memory.
 pub fn stream_or_empty(alloc: Global, stream: Option<Stream>) -> Stream
-    requires { IfSome stream HasSmallRuns }
     ensures bytes { (c : the_content) (per : ℕ) → stream_bytes c per result ≡ bytes_or c per stream }
-    ensures small { HasSmallRuns result }
 {
     match stream {
         Some(stream) => stream,

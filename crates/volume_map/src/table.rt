@@ -4,7 +4,6 @@ ghost use Rattle.host_base.specs.Answers.{Gives, GivesOrFails};
 ghost use Rattle.record_model.specs.Records.{record_at};
 ghost use Rattle.state_model.specs.Files.{has_type};
 ghost use Rattle.state_model.specs.Loads.{boot_block, judged, most_records, extents_or, record_count, table_extents, extents_in, table_of, slot_by, slot_of};
-ghost use Rattle.stream_map.specs.Runs.{AreSmall};
 ghost use Rattle.volume_map.specs.Errors.{map_cause};
 ghost use Rattle.volume_map.specs.Slots.{seen};
 ghost use Rattle.block_view.specs.Views.{AsksView};
@@ -104,7 +103,6 @@ fn extents_or(alloc: Global, stream: Option<Stream>) -> Extents
 #[tactic(auto, unfolding(state_model::specs::Loads::table_extents, state_model::specs::Loads::data_stream))]
 fn table_extents(alloc: Global, file: &FileRec) -> Result<Extents, Memory>
     ensures value { IfOk result (λ e. e ≡ table_extents file.now) }
-    ensures small { IfOk result (λ e. AreSmall e.runs) }
 {
     let stream = stream_of(alloc, DATA, &[], file.attrs().as_slice())?;
     match stream {
@@ -117,7 +115,6 @@ fn table_extents(alloc: Global, file: &FileRec) -> Result<Extents, Memory>
 #[tactic(auto, unfolding(state_model::specs::Loads::extents_in))]
 fn extents_in(alloc: Global, file: Option<FileRec>) -> Result<Extents, MapFault>
     ensures value { Gives (λ e. e) map_cause result (extents_in file) }
-    ensures small { IfOk result (λ e. AreSmall e.runs) }
     ensures few { IfOk result (λ e. record_count e ≤ most_records) }
 {
     let Some(file) = file else {
@@ -153,7 +150,6 @@ pub fn table_of<V: View>(
 ) -> Result<Extents, MapFault>
     requires { geometry.now.mft * geometry.now.per_cluster < 2 ^ 62 }
     ensures answer { IfSome (V.content view.old) (λ c. GivesOrFails (λ e. e) map_cause result (table_of c geometry.now)) }
-    ensures small { IfOk result (λ e. AreSmall e.runs) }
     ensures few { IfOk result (λ e. record_count e ≤ most_records) }
     ensures kept { AsksView V.content V.kept V.faults map_cause view.old view.new result }
 {

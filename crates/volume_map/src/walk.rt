@@ -2,7 +2,6 @@
 ghost use Rattle.std.specs.Prelude.{◌≡◌, ◌+◌, ◌*◌, ◌^◌, ◌<◌, ◌≤◌, ◌++◌, ◌∷◌, [], Ok, IfOk, IfSome, OnOk, length, ℕ};
 ghost use Rattle.host_base.specs.Answers.{Gives, GivesOrFails};
 ghost use Rattle.state_model.specs.Loads.{Free, most_records, record_count, slot_of, table_slot, torn_refusal, unless, first_of};
-ghost use Rattle.stream_map.specs.Runs.{AreSmall};
 ghost use Rattle.volume_map.specs.Errors.{map_cause};
 ghost use Rattle.volume_map.specs.Heads.{head_of, no_head, table_head, table_heads};
 ghost use Rattle.volume_map.specs.Slots.{seen};
@@ -80,7 +79,6 @@ pub fn table_found<V: View>(
     number: u64,
     body: &mut Body,
 ) -> Result<Found, MapFault>
-    requires small { AreSmall extents.now.runs }
     requires number { number < most_records }
     ensures answer { IfSome (V.content view.old) (λ c. GivesOrFails (λ found. seen found.slot) map_cause result (Ok (table_slot c per extents.now number))) }
     ensures head { IfSome (V.content view.old) (λ c. IfOk result (λ found. found.head ≡ table_head c per extents.now number)) }
@@ -137,7 +135,6 @@ fn step<V: View>(
     body: &mut Body,
     walk: &mut Walk,
 ) -> Result<(), MapFault>
-    requires small { AreSmall extents.now.runs }
     requires number { number < most_records }
     ensures answer { IfSome (V.content view.old) (λ c. WalkedBelow (table_slot c per extents.now) number walk.old → WalksOrFails (table_slot c per extents.now) (number + 1) result walk.new) }
     ensures heads { IfSome (V.content view.old) (λ c. OnOk result (walk.new.heads.items ≡ walk.old.heads.items ++ table_head c per extents.now number ∷ [])) }
@@ -157,7 +154,6 @@ pub fn walk_table<V: View>(
     extents: &Extents,
     body: &mut Body,
 ) -> Result<Walk, MapFault>
-    requires small { AreSmall extents.now.runs }
     requires records { record_count extents.now ≤ most_records }
     ensures answer { IfSome (V.content view.old) (λ c. WalksAll (table_slot c per extents.now) (record_count extents.now) result) }
     ensures heads { IfSome (V.content view.old) (λ c. IfOk result (λ walk. walk.heads.items ≡ table_heads c per extents.now (record_count extents.now))) }

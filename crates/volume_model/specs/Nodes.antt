@@ -18,7 +18,8 @@ use Rattle.bit_set.specs.Bits.{bit}
 use Rattle.state_model.specs.declared.stream.Stream.{Stream}
 use Rattle.state_model.specs.declared.stream.Stream.TheVariants.{Held, Placed}
 use Rattle.state_model.specs.Files.{record_links, is_directory_record, has_type, info_of, is_encrypted, is_compressed, is_sparse, why_by}
-use Rattle.state_model.specs.Trees.{is_system, is_nameless, first_user_record}
+use Rattle.file_tree.specs.Walks.{first_user_record}
+use Rattle.state_model.specs.Trees.{is_system, is_nameless}
 use Rattle.state_model.specs.Streams.{attributes_of}
 use Rattle.state_model.specs.Loads.{total_clusters, data_stream}
 use Rattle.volume_model.specs.Volumes.{Volume, record_bytes, files_by_number, count_of, file_in, cluster_bits, record_bits, bytes_or, size_or}

@@ -1,6 +1,5 @@
 //! Records of a change journal from a position on.
 ghost use Rattle.std.specs.Prelude.{◌≤◌, ◌<◌, ◌^◌, IfOk, IfSome};
-ghost use Rattle.stream_map.specs.Runs.{AreSmall};
 ghost use Rattle.volume_state.specs.Journals.{journal_first};
 
 use block_view::{Block, View, ViewFault};
@@ -84,7 +83,7 @@ static PULLS: [Row; 6] = [
 ];
 
 // A journal of so many sectors in one run.
-#[tactic(auto, using(usn_journal::proofs::Left::one_small), unfolding(volume_state::specs::Journals::journal_first))]
+#[tactic(auto, unfolding(volume_state::specs::Journals::journal_first))]
 fn journal_in(
     alloc: Global,
     lcn: Option<u64>,
@@ -92,7 +91,6 @@ fn journal_in(
     real: u64,
 ) -> Result<Extents, AllocError>
     requires { IfSome lcn (λ lcn. lcn < 2 ^ 32) }
-    ensures small { IfOk result (λ e. AreSmall e.runs) }
     ensures left { IfOk result (λ e. journal_first 1 e ≤ e.real) }
 {
     let mut runs = Runs::new(alloc);

@@ -16,7 +16,8 @@ use Rattle.volume_model.specs.Volumes.{Volume, volume_of, file_in, count_of, byt
 use Rattle.volume_model.specs.Nodes.{node_with, node_by, some_node, node_at, nodes_by, all_nodes, bare_nodes, no_bytes}
 use Rattle.volume_state.specs.Rules.{first_broken}
 use Rattle.volume_state.specs.Trees.{Holds, IsState, volume_journal, tree_with, tree_of, report_of, reported, checked, without_records}
-use Rattle.volume_state.specs.Laws.{without_bytes, bare}
+use Rattle.file_tree.specs.Trees.{without_bytes}
+use Rattle.volume_state.specs.Laws.{bare}
 
 -- a node without its bytes
 bare_node : (bytes : Option Stream → List ℕ) (v : Volume) (n : ℕ) (r : Record) → node_by no_bytes v n r ≡ without_bytes (node_by bytes v n r)

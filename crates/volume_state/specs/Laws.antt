@@ -1,32 +1,14 @@
 -- The laws of a volume's tree.
-use Rattle.std.specs.Prelude.{◌≡◌, ℕ, [], map, Some, Ok, Err}
+use Rattle.std.specs.Prelude.{◌≡◌, ℕ, map, Some, Ok, Err}
 use Rattle.std.specs.Option.{option_map}
 use Rattle.disk_model.specs.Content.{Content}
-use Rattle.file_tree.specs.declared.node.Node.{Node}
 use Rattle.file_tree.specs.declared.tree.Tree.{Tree}
+use Rattle.file_tree.specs.Trees.{without_bytes}
 use Rattle.state_model.specs.declared.broken.Broken.{Broken}
 use Rattle.state_model.specs.declared.geometry.Geometry.{Geometry}
 use Rattle.volume_model.specs.Volumes.{Volume, volume_of}
 use Rattle.volume_state.specs.Rules.{first_broken}
 use Rattle.volume_state.specs.Trees.{Holds, IsState, checked, without_records}
-
-abbrev pub without_bytes : Node → Node
-without_bytes n = record {
-  number = n.number;
-  seq = n.seq;
-  kind = n.kind;
-  why = n.why;
-  held = n.held;
-  size = n.size;
-  valid = n.valid;
-  clusters = n.clusters;
-  bytes = [];
-  flags = n.flags;
-  created = n.created;
-  modified = n.modified;
-  changed = n.changed;
-  read_at = n.read_at;
-}
 
 -- the tree without the bytes of its nodes and the records of its journal
 abbrev pub bare : Tree → Tree

@@ -11,10 +11,10 @@ use crate::kind::{Data, kind_in, shows_data, why_not};
 use crate::names::NamedVolume;
 use crate::stream::{clusters_or, data_flags, data_stream, has_hole, size_or, valid_or};
 use file_record::FileRec;
-use file_tree::{Kind, Link, Node, NodeList, Why};
+use file_tree::{FIRST_USER_RECORD, Kind, Link, Node, NodeList, Why};
 use host_base::{Bytes, Memory};
 use record_model::OBJECT_ID;
-use record_rules::{FIRST_USER_RECORD, file_at, has_type, info_of, links_of};
+use record_rules::{file_at, has_type, info_of, links_of};
 use state_model::Stream;
 use std::alloc::{AllocError, Global};
 

@@ -1,7 +1,6 @@
 //! The data that the nodes of a volume show.
 ghost use Rattle.std.specs.Prelude.{◌≡◌, IfOk, IfSome};
 ghost use Rattle.state_model.specs.Files.{record_links};
-ghost use Rattle.stream_map.specs.Runs.{HasSmallRuns};
 ghost use Rattle.volume_map.specs.Maps.{volume_in};
 ghost use Rattle.volume_tree.specs.Shown.{file_shown, shown_at};
 
@@ -9,9 +8,9 @@ use crate::kind::{Data, kind_in, shows_data};
 use crate::names::NamedVolume;
 use crate::stream::{data_flags, data_stream, has_hole};
 use file_record::FileRec;
-use file_tree::Link;
+use file_tree::{FIRST_USER_RECORD, Link};
 use host_base::Memory;
-use record_rules::{FIRST_USER_RECORD, file_at, links_of};
+use record_rules::{file_at, links_of};
 use state_model::Stream;
 use std::alloc::Global;
 
@@ -26,7 +25,6 @@ fn file_shown(
 ) -> Result<Option<Stream>, Memory>
     requires links { links.now ≡ record_links number file.now }
     ensures value { IfOk result (λ shown. shown ≡ file_shown (volume_in volume.now.map.now) number file.now) }
-    ensures small { IfOk result (λ shown. IfSome shown HasSmallRuns) }
 {
     let stream = data_stream(alloc, file)?;
     let about = Data {
@@ -46,7 +44,6 @@ fn file_shown(
 #[tactic(auto, using(record_rules::proofs::Links::links_found), unfolding(crate::specs::Shown::shown_at, state_model::specs::Trees::is_nameless, state_model::specs::Files::links_at))]
 pub fn shown_at(alloc: Global, volume: &NamedVolume, number: u64) -> Result<Option<Stream>, Memory>
     ensures value { IfOk result (λ shown. shown ≡ shown_at (volume_in volume.now.map.now) number) }
-    ensures small { IfOk result (λ shown. IfSome shown HasSmallRuns) }
 {
     let Some(file) = file_at(&volume.map.files, number) else {
         return Ok(None);

@@ -2,7 +2,6 @@
 ghost use Rattle.std.specs.Prelude.{◌≡◌, ◌+◌, [], IfOk, IfSome, length};
 ghost use Rattle.std.specs.List.{list_any};
 ghost use Rattle.state_model.specs.Loads.{total_clusters, data_stream};
-ghost use Rattle.stream_map.specs.Runs.{HasSmallRuns};
 ghost use Rattle.volume_model.specs.Volumes.{size_or};
 ghost use Rattle.volume_model.specs.Sizes.{is_hole, has_hole};
 ghost use Rattle.volume_model.specs.Nodes.{data_flags, valid_or, clusters_or};
@@ -27,7 +26,6 @@ pub fn data_flags(file: &FileRec) -> u16
 #[tactic(auto, unfolding(state_model::specs::Loads::data_stream))]
 pub fn data_stream(alloc: Global, file: &FileRec) -> Result<Option<Stream>, Memory>
     ensures value { IfOk result (λ stream. stream ≡ data_stream file.now) }
-    ensures small { IfOk result (λ stream. IfSome stream HasSmallRuns) }
 {
     stream_of(alloc, DATA, &[], file.attrs().as_slice())
 }

@@ -1,7 +1,6 @@
-use Rattle.std.proofs.Common.{ℕ, ◌*◌, ◌/◌, ◌<◌, ◌≤◌, List, ap, subst, arith}
+use Rattle.std.proofs.Common.{ℕ, ◌*◌, ◌/◌, ◌<◌, ◌≤◌, ap, arith}
 use Rattle.std.proofs.lemmas.Grind.{div_ceil_times}
-use Rattle.record_model.specs.declared.runs.Run.{Run}
-use Rattle.image_open.specs.LogPlaces.{stream_place, AreSectors}
+use Rattle.image_open.specs.LogPlaces.{stream_place}
 use Rattle.image_open.proofs.Alike.{streams_alike}
 use Rattle.image_open.proofs.place.placed.Goals as goal
 
@@ -13,5 +12,5 @@ returns-clause-value c =
     let end = rw c.sectors-size.ensures.value at c.div_ceil-end.ensures in
     let some : 0 < c.args.per = omega (arith, c.sectors-size.ensures.some, c.sectors-size.ensures.value) in
     let enough : 8 * pages ≤ count = omega (arith, end, (div_ceil_times (8 * pages) c.args.per some).0, ap (λ (n : ℕ). n * c.args.per) end) in
-    let are = subst (λ (runs : List Run). AreSectors c.args.per runs count c.in_ok-sectors.sectors.items) c.as_slice.ensures c.in_ok-sectors.ensures.value in
+    let are = c.in_ok-sectors.ensures.value in
     rw c.log_of.ensures.value (streams_alike c.args.per c.args.clusters c.args.device pages c.args.extents.now.initialised count c.args.extents.now.runs c.in_ok-sectors.sectors.items enough are)

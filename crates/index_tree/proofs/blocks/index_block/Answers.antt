@@ -6,5 +6,5 @@ use Rattle.index_tree.proofs.blocks.index_block.Goals as goal
 pub returns : goal.returns
 returns c =
     c.or_void.ensures
-    ∙ ap or_void (c.block_at.ensures ∙ rw c.as_slice.ensures at c.runs_near-runs.ensures.block)
+    ∙ ap or_void (c.block_at.ensures ∙ rw c.as_slice.ensures.value at c.runs_near-runs.ensures.block)
     ∙ initialised_block c.args.per c.args.extents.now c.args.number (omega arith)

@@ -7,9 +7,9 @@ use Rattle.mapping_pairs.proofs.writer.write.Goals as goal
 
 pub loop-run-init : goal.loop-run-init
 loop-run-init c = record {
-  written = none_pushed c.new-pairs.result.items 0 c.as_slice-rest.result.now c.new-pairs.ensures.items refl ∙ ap pairs_of c.as_slice-rest.ensures;
+  written = none_pushed c.new-pairs.result.items 0 c.as_slice-rest.result.now c.new-pairs.ensures.items refl ∙ ap pairs_of c.as_slice-rest.ensures.value;
   before = omega arith;
-  follow = (0, subst (λ (l : List Run). Follow (first_vcn c.args.runs.now) 0 l) (sym c.as_slice-rest.ensures) c.requires.spelling);
+  follow = (0, subst (λ (l : List Run). Follow (first_vcn c.args.runs.now) 0 l) (sym c.as_slice-rest.ensures.value) c.requires.spelling);
 }
 
 pub loop-run-preserved : goal.loop-run-preserved

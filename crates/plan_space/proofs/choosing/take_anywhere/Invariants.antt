@@ -6,7 +6,7 @@ abbrev pub invariant-loop-taken : goal.invariant-loop-taken
 invariant-loop-taken g l = record {
   few : l.taken ≤ l.wanted;
   room : l.wanted - l.taken ≤ count_by not (g.B.FreeBits.bits l.bits);
-  runs : l.runs ++ chosen_anywhere (l.wanted - l.taken) (g.B.FreeBits.bits l.bits) (l.vcn + l.taken) (l.wanted - l.taken) ≡ l.initial.runs ++ chosen_anywhere l.wanted (g.B.FreeBits.bits l.initial.bits) l.vcn l.wanted;
+  runs : l.runs.items ++ chosen_anywhere (l.wanted - l.taken) (g.B.FreeBits.bits l.bits) (l.vcn + l.taken) (l.wanted - l.taken) ≡ l.initial.runs.items ++ chosen_anywhere l.wanted (g.B.FreeBits.bits l.initial.bits) l.vcn l.wanted;
   bits : with_runs (chosen_anywhere (l.wanted - l.taken) (g.B.FreeBits.bits l.bits) (l.vcn + l.taken) (l.wanted - l.taken)) (g.B.FreeBits.bits l.bits) ≡ with_runs (chosen_anywhere l.wanted (g.B.FreeBits.bits l.initial.bits) l.vcn l.wanted) (g.B.FreeBits.bits l.initial.bits);
 }
 

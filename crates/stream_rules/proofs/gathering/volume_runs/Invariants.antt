@@ -5,4 +5,4 @@ use Rattle.stream_rules.proofs.gathering.volume_runs.Given as goal
 
 -- the runs so far and those of the files that are left are all
 abbrev pub invariant-loop-file : goal.invariant-loop-file
-invariant-loop-file l = l.runs.items ++ flat_map file_runs (drop l.file-index l.files) ≡ flat_map file_runs l.files
+invariant-loop-file l = l.runs ++ flat_map file_runs (drop l.file-index l.files) ≡ flat_map file_runs l.files

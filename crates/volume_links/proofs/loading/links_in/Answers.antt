@@ -9,4 +9,4 @@ returns-in_err-scan-clause-answer g c =
 
 pub returns-in-Some-clause-answer : goal.returns-in-Some-clause-answer
 returns-in-Some-clause-answer g c =
-    scan_answers _ _ c.args.per c.args.extents.now c.has_cut_block-cut.result c.in-Some.scan c.scanned.result (rw (← c.as_slice-runs.ensures) c.has_cut_block-cut.ensures) (rw c.in-Some.is at c.in_ok-scan.ensures.answer) c.scanned.ensures
+    scan_answers _ _ c.args.per c.args.extents.now c.has_cut_block-cut.result c.in-Some.scan c.scanned.result (rw (← c.as_slice-runs.ensures.value) c.has_cut_block-cut.ensures) (rw c.in-Some.is at c.in_ok-scan.ensures.answer) c.scanned.ensures

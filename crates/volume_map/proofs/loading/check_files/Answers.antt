@@ -20,4 +20,4 @@ pub returns : goal.returns
 returns c =
     let same : length c.join_files.new.records ≡ length c.args.records.now = grind (arith, common_steps, c.join_files.auto.records) in
     checked c.args.per c.args.extents.now c.args.records.now c.args.rules.now (map read_of c.args.lists.now) c.deref-2.result.now _ c.join_files.new.records c.has_cut_block-cut.result (length c.args.lists.now) (length c.join_files.new.records) c.check_rules.result
-    c.requires.lists same (c.deref-2.ensures.value ∙ c.in_ok-tens.ensures.value) (c.deref.ensures.value ∙ c.in_ok-extras.ensures.value) c.in_ok-join_files.ensures (rw (← c.as_slice.ensures) c.has_cut_block-cut.ensures) c.check_rules.ensures
+    c.requires.lists same (c.deref-2.ensures.value ∙ c.in_ok-tens.ensures.value) (c.deref.ensures.value ∙ c.in_ok-extras.ensures.value) c.in_ok-join_files.ensures (rw (← c.as_slice.ensures.value) c.has_cut_block-cut.ensures) c.check_rules.ensures
