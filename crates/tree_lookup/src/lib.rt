@@ -12,7 +12,7 @@ mod looking;
 mod plain;
 mod walking;
 
-pub use answering::answer;
+pub use answering::{answer, looked};
 pub use fault::LookupFault;
 pub use looking::Lookup;
 pub use plain::Plain;
