@@ -1,5 +1,5 @@
 //! The choice of clusters.
-ghost use Rattle.std.specs.Prelude.{◌≡◌, ◌+◌, ◌-◌, ◌^◌, ◌<◌, ◌≤◌, ◌++◌, [], ℕ, Err, IfOk, IfErr, IfSome, OnOk, MatchOption, length, not, count_by};
+ghost use Rattle.std.specs.Prelude.{◌≡◌, ◌+◌, ◌-◌, ◌^◌, ◌<◌, ◌≤◌, ◌++◌, [], ◌∷◌, ℕ, Err, IfOk, IfErr, IfSome, OnOk, MatchOption, length, not, count_by};
 ghost use Rattle.bit_set.specs.Bits.{IsClearRun};
 ghost use Rattle.space_model.specs.Choosing.{behind, chosen_anywhere, chosen, with_runs};
 ghost use Rattle.plan_space.specs.Choices.{IsNextRun, TakesRun, TakesBehind};
@@ -9,7 +9,7 @@ use crate::fault::SpaceFault;
 use crate::free_bits::FreeBits;
 use host_base::Memory;
 use record_model::Run;
-use std::alloc::Global;
+use std::alloc::{AllocError, Global};
 
 // How many bits directly behind this one are clear, so many at most.
 fn clear_behind<B: FreeBits>(bits: &B, last: u64, most: u64) -> u64
@@ -39,6 +39,13 @@ fn next_run<B: FreeBits>(bits: &B, wanted: u64) -> Option<(u64, u64)>
     }
 }
 
+fn push_run(runs: &mut Vec<Run>, run: Run) -> Result<(), AllocError>
+    ensures { OnOk result (runs.new.items ≡ runs.old.items ++ run ∷ []) }
+{
+    runs.push(run)?;
+    Ok(())
+}
+
 // Takes a run of clusters and adds it to the runs, of which so many clusters were taken before.
 // The answer is how many it has.
 fn take_run<B: FreeBits>(
@@ -55,11 +62,12 @@ fn take_run<B: FreeBits>(
         return Err(Memory);
     };
     bits.take(first, len)?;
-    runs.push(Run {
+    let run = Run {
         vcn,
         lcn: Some(first),
         len,
-    })?;
+    };
+    push_run(runs, run)?;
     Ok(len)
 }
 
@@ -100,11 +108,12 @@ fn take_behind<B: FreeBits>(
     let len = clear_behind(bits, last, wanted);
     if len > 0 {
         bits.take(last + 1, len)?;
-        runs.push(Run {
+        let run = Run {
             vcn: 0,
             lcn: Some(last + 1),
             len,
-        })?;
+        };
+        push_run(runs, run)?;
     }
     Ok(len)
 }

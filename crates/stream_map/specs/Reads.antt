@@ -1,5 +1,5 @@
 -- What is read of a stream: its bytes in clusters below its initialised size, and whether a view is asked for them.
-use Rattle.std.specs.Prelude.{ℕ, ◌/◌, ◌%◌, List, map, slice_index, ⊤, ⊥}
+use Rattle.std.specs.Prelude.{ℕ, ◌/◌, ◌%◌, List, map, slice_index, ⊤}
 use Rattle.std.specs.List.{range_with_len}
 use Rattle.disk_model.specs.Content.{Content}
 use Rattle.record_model.specs.declared.runs.Run.{Run}

@@ -5,4 +5,4 @@ use Rattle.stream_rules.proofs.gathering.push_attrs.Given as goal
 
 -- the runs so far and those of the attributes that are left are all
 abbrev pub invariant-loop-attr : goal.invariant-loop-attr
-invariant-loop-attr l = l.out.items ++ flat_map attribute_runs (drop l.attr-index l.attrs) ≡ l.initial.out.items ++ flat_map attribute_runs l.attrs
+invariant-loop-attr l = l.out ++ flat_map attribute_runs (drop l.attr-index l.attrs) ≡ l.initial.out ++ flat_map attribute_runs l.attrs
