@@ -17,7 +17,7 @@ use Rattle.record_model.proofs.UnitBytes.{length-zeros, length-filled}
 use Rattle.record_writer.proofs.Measures.{length-spelling}
 use Rattle.volume_format.specs.declared.layout.Layout.{Layout}
 use Rattle.volume_format.specs.Layouts.{IsLayout}
-use Rattle.volume_format.specs.Files.{name_value, resident, mapped, one_run, standard, standard_value, named}
+use Rattle.volume_format.specs.Files.{name_value, resident, mapped, one_run, standard, standard_value, name_attribute}
 use Rattle.format_blocks.proofs.Naming.{length-name_value, name_lawful, name_short}
 
 -- an attribute that has a spelling of at most so many bytes, and a lawful value
@@ -56,8 +56,8 @@ pub fits_standard : (time : ℕ) → Fits 111 (standard time)
 unfolding standard has_lawful_value
 fits_standard time = fits_resident 0 0x10 72 [] (standard_value time) (omega arith) (omega arith) (omega arith) tt (omega (arith, length-standard time)) (omega arith) (lawful_standard (standard_value time) (length-standard time))
 
-pub fits_named : (v : Layout) → IsLayout v → (time n : ℕ) → time < 2 ^ 64 → n < 12 → Fits 127 (named v time n)
-unfolding named has_lawful_value
+pub fits_named : (v : Layout) → IsLayout v → (time n : ℕ) → time < 2 ^ 64 → n < 12 → Fits 127 (name_attribute v time n)
+unfolding name_attribute has_lawful_value
 fits_named v layout time n small lt =
     let size : length (name_value v time n) ≤ 84 = omega (arith, length-name_value v time n, name_short n lt) in
     record {
@@ -70,7 +70,7 @@ fits_named v layout time n small lt =
         form = record { value_short = omega arith; indexed_byte = omega arith };
       };
       lawful = name_lawful v layout time n small lt;
-      size = omega (arith, length-spelling (named v time n));
+      size = omega (arith, length-spelling (name_attribute v time n));
     }
 
 -- ---- streams in clusters

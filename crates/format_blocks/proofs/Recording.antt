@@ -23,7 +23,7 @@ use Rattle.index_node.specs.Roots.{root_spelling, HaveSpelling}
 use Rattle.index_node.proofs.RootSpelled.{root_law}
 use Rattle.volume_format.specs.declared.layout.Layout.{Layout}
 use Rattle.volume_format.specs.Layouts.{IsLayout, block_first, cluster_bits_bytes}
-use Rattle.volume_format.specs.Files.{bad_name, resident, mapped, standard, named, system_attrs, system_data, other_streams, volume_streams, root_streams, extend_streams, system_record, reserved_record, spare_record, in_clusters, head_of, sequence, is_directory, record_of}
+use Rattle.volume_format.specs.Files.{bad_name, resident, mapped, standard, name_attribute, system_attrs, system_data, other_streams, volume_streams, root_streams, extend_streams, system_record, reserved_record, spare_record, in_clusters, head_of, sequence, is_directory, record_of}
 use Rattle.format_blocks.proofs.Naming.{of_twelve}
 use Rattle.format_blocks.proofs.Fitting.{Fits, fits_resident, fits_standard, fits_named, fits_mapped}
 
@@ -182,17 +182,17 @@ module _ (v : Layout) (layout : IsLayout v) (time : ℕ) (small : time < 2 ^ 64)
   extend_fits_place = fits_resident 2 index_root 48 names_index (root_spelling 1 (last_entry None ∷ [])) (omega arith) (omega arith) (omega arith) index_units (omega (arith, length-extend)) (omega arith) refl
 
   -- with standard information and a name
-  both : (n : ℕ) (sizes : List ℕ) (attrs : List Attr) → n < 12 → FitEach sizes attrs → FitEach (111 ∷ 127 ∷ sizes) (standard time ∷ named v time n ∷ attrs)
+  both : (n : ℕ) (sizes : List ℕ) (attrs : List Attr) → n < 12 → FitEach sizes attrs → FitEach (111 ∷ 127 ∷ sizes) (standard time ∷ name_attribute v time n ∷ attrs)
   both n sizes attrs lt fits = (fits_standard time, (fits_named v layout time n small lt, fits))
 
   -- a record of a system file with these streams
   of_streams : (n : ℕ) (flags : ℕ) (sizes : List ℕ) (attrs : List Attr) → n < 12 → flags < 2 ^ 16 → FitEach sizes attrs
       → list_all (λ (a : Attr). nat_lt a.head.kind 0xFFFFFFFF) attrs ≡ true → rise_from 0x30 attrs ≡ true → length attrs ≤ 8 → total sizes ≤ 700
-      → FitsRecord (record { head = head_of n 1 flags (length (standard time ∷ named v time n ∷ attrs)); attrs = standard time ∷ named v time n ∷ attrs })
-  unfolding standard named
+      → FitsRecord (record { head = head_of n 1 flags (length (standard time ∷ name_attribute v time n ∷ attrs)); attrs = standard time ∷ name_attribute v time n ∷ attrs })
+  unfolding standard name_attribute
   of_streams n flags sizes attrs lt flags_small fits kinds rise few short =
-      fits_record (record { head = head_of n 1 flags (length (standard time ∷ named v time n ∷ attrs)); attrs = standard time ∷ named v time n ∷ attrs }) (111 ∷ 127 ∷ sizes)
-      (head_fits n 1 flags (length (standard time ∷ named v time n ∷ attrs)) (omega arith) (omega arith) flags_small (omega arith)) (both n sizes attrs lt fits) kinds rise (omega arith)
+      fits_record (record { head = head_of n 1 flags (length (standard time ∷ name_attribute v time n ∷ attrs)); attrs = standard time ∷ name_attribute v time n ∷ attrs }) (111 ∷ 127 ∷ sizes)
+      (head_fits n 1 flags (length (standard time ∷ name_attribute v time n ∷ attrs)) (omega arith) (omega arith) flags_small (omega arith)) (both n sizes attrs lt fits) kinds rise (omega arith)
 
   system_fits : (n : ℕ) → n < 12 → FitsRecord (system_record v time n)
   unfolding system_record system_attrs system_data other_streams is_directory volume_streams root_streams extend_streams

@@ -15,7 +15,7 @@ use Rattle.volume_model.specs.Volumes.{Volume, files_by_number, count_of}
 use Rattle.volume_state.specs.Rules.{broken_1, broken_2, broken_8}
 use Rattle.volume_format.specs.declared.layout.Layout.{Layout}
 use Rattle.volume_format.specs.Layouts.{IsLayout}
-use Rattle.volume_format.specs.Files.{sequence, is_directory, name_value, standard, named as name_attr, system_attrs, system_data, other_streams, volume_streams, root_streams, extend_streams, system_record, reserved_record, spare_record, record_of, reference as new_reference}
+use Rattle.volume_format.specs.Files.{sequence, is_directory, name_value, standard, name_attribute, system_attrs, system_data, other_streams, volume_streams, root_streams, extend_streams, system_record, reserved_record, spare_record, record_of, reference as new_reference}
 use Rattle.format_files.specs.Volumes.{new_file, new_files, new_volume}
 use Rattle.format_files.specs.Rules.{NewVolumeKeepsNames}
 use Rattle.format_files.specs.Volumes.{new_link}
@@ -102,7 +102,7 @@ module _ (v : Layout) (layout : IsLayout v) (time : ℕ) (small : time < 2 ^ 64)
   one_link n o = cons_option o []
 
   pub links_are : (n : ℕ) → n < 12 → record_links n (system_record v time n) ≡ new_link n ∷ []
-  unfolding record_links attr_link system_record system_attrs system_data other_streams standard name_attr volume_streams root_streams extend_streams one_link
+  unfolding record_links attr_link system_record system_attrs system_data other_streams standard name_attribute volume_streams root_streams extend_streams one_link
   links_are n lt = of_twelve (λ k. record_links k (system_record v time k) ≡ new_link k ∷ [])
       (ap (one_link 0) (named_link 0 (omega arith)))
       (ap (one_link 1) (named_link 1 (omega arith)))

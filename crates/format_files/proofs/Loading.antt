@@ -12,7 +12,7 @@ use Rattle.state_model.specs.Streams.{is_attribute_of, attributes_of, stream_of,
 use Rattle.state_model.specs.Loads.{Free, Used, slot_in, is_used, slot_by, whole_record, has_all_pairs, list_stream, has_cut_index_block}
 use Rattle.volume_format.specs.declared.layout.Layout.{Layout}
 use Rattle.volume_format.specs.Layouts.{IsLayout}
-use Rattle.volume_format.specs.Files.{is_directory, standard, named, system_attrs, system_data, other_streams, volume_streams, root_streams, extend_streams, system_record, reserved_record, spare_record, record_of}
+use Rattle.volume_format.specs.Files.{is_directory, standard, name_attribute, system_attrs, system_data, other_streams, volume_streams, root_streams, extend_streams, system_record, reserved_record, spare_record, record_of}
 use Rattle.format_blocks.specs.Blocks.{whole}
 use Rattle.format_blocks.proofs.Naming.{of_twelve}
 use Rattle.format_files.proofs.Streams.{root_blocks_are}
@@ -101,7 +101,7 @@ unfolding system_record reserved_record
 is_base v time n lt = of_files (λ (r : Record). is_base_record r ≡ true) v time (λ k low. refl) (λ k low high. refl) n lt
 
 pub no_list : (v : Layout) (time n : ℕ) → n < 16 → list_stream (record_of v time n) ≡ None
-unfolding list_stream stream_of attributes_of is_attribute_of system_record system_attrs system_data other_streams standard named volume_streams root_streams extend_streams reserved_record
+unfolding list_stream stream_of attributes_of is_attribute_of system_record system_attrs system_data other_streams standard name_attribute volume_streams root_streams extend_streams reserved_record
 no_list v time n lt = of_files (λ (r : Record). list_stream r ≡ None) v time
     (λ k low. of_twelve (λ k. list_stream (system_record v time k) ≡ None) refl refl refl refl refl refl refl refl refl refl refl refl k low)
     (λ k low high. refl) n lt
@@ -111,7 +111,7 @@ abbrev pub uncut_index : Record → Bool
 uncut_index r = is_directory_record r && has_cut_index_block 8 (stream_of index_allocation names_index r.attrs)
 
 pub uncut : (v : Layout) → IsLayout v → (time n : ℕ) → n < 16 → uncut_index (record_of v time n) ≡ false
-unfolding has_cut_block stream_of attributes_of is_attribute_of is_directory system_record system_attrs system_data other_streams standard named volume_streams root_streams extend_streams reserved_record
+unfolding has_cut_block stream_of attributes_of is_attribute_of is_directory system_record system_attrs system_data other_streams standard name_attribute volume_streams root_streams extend_streams reserved_record
 uncut v layout time n lt = of_files (λ (r : Record). uncut_index r ≡ false) v time
     (λ k low. of_twelve (λ k. uncut_index (system_record v time k) ≡ false) refl refl refl refl refl (ap (has_cut_index_block 8) (root_blocks_are v layout time)) refl refl refl refl refl refl k low)
     (λ k low high. refl) n lt

@@ -19,7 +19,7 @@ use Rattle.volume_model.specs.Volumes.{block_bytes, record_block, record_bytes, 
 use Rattle.volume_state.specs.Rules.{broken_5, broken_6, broken_7}
 use Rattle.volume_format.specs.declared.layout.Layout.{Layout}
 use Rattle.volume_format.specs.Layouts.{IsLayout, used_clusters, block_first, cluster_bits_bytes}
-use Rattle.volume_format.specs.Files.{in_clusters, one_run, bad_name, standard, named, system_attrs, system_data, other_streams, volume_streams, root_streams, extend_streams, system_record, reserved_record, record_of}
+use Rattle.volume_format.specs.Files.{in_clusters, one_run, bad_name, standard, name_attribute, system_attrs, system_data, other_streams, volume_streams, root_streams, extend_streams, system_record, reserved_record, record_of}
 use Rattle.format_blocks.specs.Blocks.{HasBlocks}
 use Rattle.format_files.specs.Volumes.{new_file, new_files}
 use Rattle.format_files.specs.Rules.{NewVolumeKeepsBits}
@@ -63,7 +63,7 @@ module _ (v : Layout) (layout : IsLayout v) (time : ℕ) where
       ∙ ap (λ (runs : List Run). run 4 16 ++ (runs ++ [])) (mapped_runs 3 0xB0 [] (Some 3) 1 8 8 (fixed_run 3 1 (omega arith) (omega arith) (omega arith)))
 
   pub runs_are : (n : ℕ) → n < 12 → file_runs (Some (system_record v time n)) ≡ runs_of_file v n
-  unfolding system_record system_attrs system_data other_streams standard named volume_streams root_streams extend_streams only attribute_runs
+  unfolding system_record system_attrs system_data other_streams standard name_attribute volume_streams root_streams extend_streams only attribute_runs
   runs_are n lt = of_twelve (λ k. file_runs (Some (system_record v time k)) ≡ runs_of_file v k)
       table_runs
       (data_runs 2 1 4096 (fixed_run 2 1 (omega arith) (omega arith) (omega arith)))

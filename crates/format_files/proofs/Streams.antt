@@ -18,7 +18,7 @@ use Rattle.volume_format.specs.declared.layout.Layout.{Layout}
 use Rattle.volume_format.specs.declared.naming.Data.{Data}
 use Rattle.volume_format.specs.declared.naming.Data.TheVariants.{Absent, Empty, Clusters}
 use Rattle.volume_format.specs.Layouts.{IsLayout, block_first, cluster_bits_bytes}
-use Rattle.volume_format.specs.Files.{mapped, one_run, stream_sizes, in_clusters, bad_name, standard, named, system_attrs, system_data, other_streams, volume_streams, root_streams, extend_streams, system_record, reserved_record, spare_record, record_of}
+use Rattle.volume_format.specs.Files.{mapped, one_run, stream_sizes, in_clusters, bad_name, standard, name_attribute, system_attrs, system_data, other_streams, volume_streams, root_streams, extend_streams, system_record, reserved_record, spare_record, record_of}
 use Rattle.format_blocks.specs.Blocks.{block}
 use Rattle.format_files.specs.Volumes.{extents_at}
 use Rattle.format_blocks.proofs.Naming.{of_twelve}
@@ -89,7 +89,7 @@ module _ (v : Layout) (layout : IsLayout v) (time : ℕ) where
   data_in first clusters bytes small = mapped_stream 2 data_type [] (Some first) clusters bytes bytes small
 
   pub data_is : (n : ℕ) → n < 12 → data_stream (system_record v time n) ≡ stream_of_data (system_data v n)
-  unfolding data_stream stream_of attributes_of is_attribute_of system_record system_attrs system_data other_streams standard named volume_streams root_streams extend_streams
+  unfolding data_stream stream_of attributes_of is_attribute_of system_record system_attrs system_data other_streams standard name_attribute volume_streams root_streams extend_streams
   data_is n lt = of_twelve (λ k. data_stream (system_record v time k) ≡ stream_of_data (system_data v k))
       (data_in 4 16 65536 (fixed_run 4 16 (omega arith) (omega arith) (omega arith)))
       (data_in 2 1 4096 (fixed_run 2 1 (omega arith) (omega arith) (omega arith)))
@@ -107,20 +107,20 @@ module _ (v : Layout) (layout : IsLayout v) (time : ℕ) where
 
   -- the bitmap of the file table
   pub record_bitmap_is : stream_of bitmap_type [] (system_record v time 0).attrs ≡ Some (Placed (extents_at 3 1 8))
-  unfolding stream_of attributes_of is_attribute_of system_record system_attrs system_data other_streams standard named
+  unfolding stream_of attributes_of is_attribute_of system_record system_attrs system_data other_streams standard name_attribute
   record_bitmap_is = mapped_stream 3 0xB0 [] (Some 3) 1 8 8 (fixed_run 3 1 (omega arith) (omega arith) (omega arith))
 
   -- the root's index allocation, and its bitmap
   pub root_blocks_are : stream_of index_allocation names_index (system_record v time 5).attrs ≡ Some (Placed (extents_at (block_first v) 1 4096))
-  unfolding stream_of attributes_of is_attribute_of system_record system_attrs system_data other_streams root_streams standard named
+  unfolding stream_of attributes_of is_attribute_of system_record system_attrs system_data other_streams root_streams standard name_attribute
   root_blocks_are = mapped_stream 3 0xA0 (0x24 ∷ 0x49 ∷ 0x33 ∷ 0x30 ∷ []) (Some (block_first v)) 1 4096 4096 (block_run v layout)
 
   pub root_bitmap_is : stream_of bitmap_type names_index (system_record v time 5).attrs ≡ Some (Held (spell 8 1))
-  unfolding stream_of attributes_of is_attribute_of system_record system_attrs system_data other_streams root_streams standard named
+  unfolding stream_of attributes_of is_attribute_of system_record system_attrs system_data other_streams root_streams standard name_attribute
   root_bitmap_is = refl
 
   pub bad_stream_is : stream_of data_type bad_name (system_record v time 8).attrs ≡ Some (Placed (record { runs = one_run None v.clusters; allocated = 4096 * v.clusters; real = 4096 * v.clusters; initialised = 0 }))
-  unfolding stream_of attributes_of is_attribute_of system_record system_attrs system_data other_streams standard named
+  unfolding stream_of attributes_of is_attribute_of system_record system_attrs system_data other_streams standard name_attribute
   bad_stream_is = mapped_stream 2 data_type bad_name None v.clusters (4096 * v.clusters) 0 (bad_run v layout)
 
   -- ---- mapping pairs
@@ -133,7 +133,7 @@ module _ (v : Layout) (layout : IsLayout v) (time : ℕ) where
   data_fits first clusters bytes small = mapped_spans 2 data_type [] (Some first) clusters bytes bytes small
 
   pub all_pairs : (n : ℕ) → n < 12 → has_all_pairs (system_record v time n) ≡ true
-  unfolding has_all_pairs system_record system_attrs system_data other_streams standard named volume_streams root_streams extend_streams
+  unfolding has_all_pairs system_record system_attrs system_data other_streams standard name_attribute volume_streams root_streams extend_streams
   all_pairs n lt = of_twelve (λ k. has_all_pairs (system_record v time k) ≡ true)
       (pairs_fit (system_attrs v time 0) (refl, (refl, (data_fits 4 16 65536 (fixed_run 4 16 (omega arith) (omega arith) (omega arith)), (mapped_spans 3 0xB0 [] (Some 3) 1 8 8 (fixed_run 3 1 (omega arith) (omega arith) (omega arith)), tt)))))
       (pairs_fit (system_attrs v time 1) (refl, (refl, (data_fits 2 1 4096 (fixed_run 2 1 (omega arith) (omega arith) (omega arith)), tt))))

@@ -26,7 +26,7 @@ use Rattle.state_model.specs.Loads.{Free, Used, is_used, slot_by, whole_record, 
 use Rattle.volume_model.specs.Volumes.{volume_of}
 use Rattle.volume_format.specs.declared.layout.Layout.{Layout}
 use Rattle.volume_format.specs.Layouts.{IsLayout, table_first}
-use Rattle.volume_format.specs.Files.{standard, named, system_attrs, system_data, other_streams, system_record, record_of}
+use Rattle.volume_format.specs.Files.{standard, name_attribute, system_attrs, system_data, other_streams, system_record, record_of}
 use Rattle.format_blocks.specs.Blocks.{whole, HasBlocks}
 use Rattle.format_files.specs.Volumes.{new_geometry, extents_at, new_file, new_files, new_volume, NewVolumeIsLoaded}
 use Rattle.format_blocks.proofs.Recording.{record_fits}
@@ -241,7 +241,7 @@ module _ (v : Layout) (layout : IsLayout v) (time : ℕ) (small : time < 2 ^ 64)
         ∙ ap (judged 0) (used_slot record_at (spelled 0) first (used_by 0 (omega arith) ∙ flags_set v time 0 (omega arith)) (read_record 0 (omega arith)))
 
     no_list_first : has_type attribute_list first ≡ false
-    unfolding has_type record_of system_record system_attrs system_data other_streams standard named
+    unfolding has_type record_of system_record system_attrs system_data other_streams standard name_attribute
     no_list_first = refl
 
     first_extents : table_extents first ≡ table

@@ -33,7 +33,7 @@ use Rattle.image_read.specs.Errors.{broken_refusal}
 use Rattle.image_read.specs.Checks.{volume_on, judged_version, has_version, tree_on, volume_tree, loaded_in, check_in, check_of}
 use Rattle.volume_format.specs.declared.layout.Layout.{Layout}
 use Rattle.volume_format.specs.Layouts.{IsLayout, layout_of}
-use Rattle.volume_format.specs.Files.{system_data, standard, named as name_attr, system_attrs, other_streams, volume_streams, system_record, record_of}
+use Rattle.volume_format.specs.Files.{system_data, standard, name_attribute, system_attrs, other_streams, volume_streams, system_record, record_of}
 use Rattle.volume_format.specs.Images.{boot_of, log_bytes, formatted}
 use Rattle.format_blocks.specs.Blocks.{block, HasBlocks}
 use Rattle.format_files.specs.Volumes.{extents_at, new_geometry}
@@ -130,7 +130,7 @@ module _ (v : Layout) (layout : IsLayout v) (seed time : ℕ) (seed_fits : seed 
   version_read = volume_info_read (volume_info_over version (zeros 0x0C)) version (volume_info_spelled version (zeros 0x0C) (record { major = omega arith; minor = omega arith; flags = omega arith }) (omega (arith, length-zeros 0x0C)))
 
   version_in : file_info (Some (system_record v time 3)) ≡ version
-  unfolding system_record system_attrs system_data other_streams volume_streams standard name_attr
+  unfolding system_record system_attrs system_data other_streams volume_streams standard name_attribute
   version_in = ap info_or_none version_read
 
   version_here : has_version (vol v time) ≡ Ok tt

@@ -37,7 +37,7 @@ use Rattle.volume_state.specs.Rules.{broken_3, broken_9}
 use Rattle.volume_state.specs.Journals.{fault_of}
 use Rattle.volume_format.specs.declared.layout.Layout.{Layout}
 use Rattle.volume_format.specs.Layouts.{IsLayout, block_first}
-use Rattle.volume_format.specs.Files.{system_name, sequence, is_directory, name_value, standard, named as name_attr, system_attrs, system_data, other_streams, root_streams, extend_streams, system_record, reserved_record, reference as new_reference}
+use Rattle.volume_format.specs.Files.{system_name, sequence, is_directory, name_value, standard, name_attribute, system_attrs, system_data, other_streams, root_streams, extend_streams, system_record, reserved_record, reference as new_reference}
 use Rattle.volume_format.specs.Indexes.{in_order, root_entries, root_node}
 use Rattle.format_blocks.specs.Blocks.{block, whole, HasBlocks}
 use Rattle.format_files.specs.Volumes.{extents_at}
@@ -175,11 +175,11 @@ module _ (v : Layout) (layout : IsLayout v) (time : ℕ) (small : time < 2 ^ 64)
   -- ---- the values of the roots
 
   root_value_is : root_value (system_record v time 5) ≡ Some (root_spelling 1 (last_entry (Some 0) ∷ []))
-  unfolding root_value is_names_root system_record system_attrs system_data other_streams root_streams standard name_attr
+  unfolding root_value is_names_root system_record system_attrs system_data other_streams root_streams standard name_attribute
   root_value_is = refl
 
   extend_value_is : root_value (system_record v time 11) ≡ Some (root_spelling 1 (last_entry None ∷ []))
-  unfolding root_value is_names_root system_record system_attrs system_data other_streams extend_streams standard name_attr
+  unfolding root_value is_names_root system_record system_attrs system_data other_streams extend_streams standard name_attribute
   extend_value_is = refl
 
   -- ---- where the blocks lie
@@ -198,7 +198,7 @@ module _ (v : Layout) (layout : IsLayout v) (time : ℕ) (small : time < 2 ^ 64)
   root_place_is = ap (λ (s : Option Stream). place_of (stream_blocks 8 s)) (root_blocks_are v layout time) ∙ ap place_of one_block
 
   extend_place_is : index_place 8 (system_record v time 11) ≡ place_of []
-  unfolding index_place index_stream stream_of attributes_of is_attribute_of system_record system_attrs system_data other_streams extend_streams standard name_attr
+  unfolding index_place index_stream stream_of attributes_of is_attribute_of system_record system_attrs system_data other_streams extend_streams standard name_attribute
   extend_place_is = refl
 
   -- ---- the root's block

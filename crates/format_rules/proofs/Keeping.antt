@@ -22,7 +22,7 @@ use Rattle.volume_model.specs.Sizes.{keeps_place, fits_volume, keeps_stream, has
 use Rattle.volume_state.specs.Rules.{broken_4, file_count}
 use Rattle.volume_format.specs.declared.layout.Layout.{Layout}
 use Rattle.volume_format.specs.Layouts.{IsLayout, block_first, cluster_bits_first, cluster_bits_bytes}
-use Rattle.volume_format.specs.Files.{in_clusters, mapped, one_run, bad_name, standard, named, is_directory, system_attrs, system_data, other_streams, volume_streams, root_streams, extend_streams, system_record, reserved_record, record_of}
+use Rattle.volume_format.specs.Files.{in_clusters, mapped, one_run, bad_name, standard, name_attribute, is_directory, system_attrs, system_data, other_streams, volume_streams, root_streams, extend_streams, system_record, reserved_record, record_of}
 use Rattle.volume_format.specs.Indexes.{root_node}
 use Rattle.format_blocks.specs.Blocks.{block, whole, HasBlocks}
 use Rattle.format_files.specs.Volumes.{extents_at}
@@ -73,7 +73,7 @@ module _ (v : Layout) (layout : IsLayout v) (time : ℕ) where
   Kept n = list_all (keeps_stream 8 all (system_record v time n).attrs) (system_record v time n).attrs ≡ true
 
   pub streams_kept : (n : ℕ) → n < 12 → Kept n
-  unfolding keeps_stream stream_of attributes_of is_attribute_of system_record system_attrs system_data other_streams standard named volume_streams root_streams extend_streams
+  unfolding keeps_stream stream_of attributes_of is_attribute_of system_record system_attrs system_data other_streams standard name_attribute volume_streams root_streams extend_streams
   streams_kept n lt =
       let inside = layout.inside in
       let bits = layout.bitmap_whole in
@@ -115,11 +115,11 @@ module _ (v : Layout) (layout : IsLayout v) (time : ℕ) where
   data_6 = data_is v layout time 6 (omega arith)
 
   extend_blocks : stream index_allocation names_index 11 ≡ None
-  unfolding stream_of attributes_of is_attribute_of system_record system_attrs system_data other_streams extend_streams standard named
+  unfolding stream_of attributes_of is_attribute_of system_record system_attrs system_data other_streams extend_streams standard name_attribute
   extend_blocks = refl
 
   extend_bits : stream bitmap_type names_index 11 ≡ None
-  unfolding stream_of attributes_of is_attribute_of system_record system_attrs system_data other_streams extend_streams standard named
+  unfolding stream_of attributes_of is_attribute_of system_record system_attrs system_data other_streams extend_streams standard name_attribute
   extend_bits = refl
 
   no_hole : (s : Option Stream) (first clusters bytes : ℕ) → s ≡ Some (Placed (extents_at first clusters bytes)) → not (has_hole s) ≡ true

@@ -28,7 +28,7 @@ use Rattle.volume_model.specs.Volumes.{record_bytes}
 use Rattle.volume_model.specs.Nodes.{data_flags, sparse_if, why_not, kind_in, node_with, node_by, some_node, node_at, nodes_by, spare_sequence, spare_at, spare_numbers}
 use Rattle.volume_format.specs.declared.layout.Layout.{Layout}
 use Rattle.volume_format.specs.Layouts.{IsLayout}
-use Rattle.volume_format.specs.Files.{sequence, is_directory, standard_value, standard, named as name_attr, system_attrs, system_data, other_streams, volume_streams, root_streams, extend_streams, system_record, reserved_record, record_of}
+use Rattle.volume_format.specs.Files.{sequence, is_directory, standard_value, standard, name_attribute, system_attrs, system_data, other_streams, volume_streams, root_streams, extend_streams, system_record, reserved_record, record_of}
 use Rattle.format_blocks.specs.Blocks.{HasBlocks}
 use Rattle.format_rules.specs.Trees.{new_node, new_spare}
 use Rattle.format_blocks.proofs.Naming.{of_twelve}
@@ -77,7 +77,7 @@ module _ (v : Layout) (layout : IsLayout v) (time : ℕ) (small : time < 2 ^ 64)
   info_is n = ap info_or standard_read
 
   why_is : (n : ℕ) → n < 12 → why_not (system_record v time n) ≡ None
-  unfolding why_not has_type data_flags attributes_of is_attribute_of why_by system_record system_attrs system_data other_streams standard name_attr volume_streams root_streams extend_streams
+  unfolding why_not has_type data_flags attributes_of is_attribute_of why_by system_record system_attrs system_data other_streams standard name_attribute volume_streams root_streams extend_streams
   why_is n lt = of_twelve (λ k. why_not (system_record v time k) ≡ None)
       (hole 0 (omega arith)) (hole 1 (omega arith)) (hole 2 (omega arith)) (hole 3 (omega arith)) (hole 4 (omega arith)) (hole 5 (omega arith))
       (hole 6 (omega arith)) (hole 7 (omega arith)) (hole 8 (omega arith)) (hole 9 (omega arith)) (hole 10 (omega arith)) (hole 11 (omega arith)) n lt
@@ -119,7 +119,7 @@ module _ (v : Layout) (layout : IsLayout v) (time : ℕ) (small : time < 2 ^ 64)
   -- with what gives the bytes of data, where no data give none
   module _ (bytes : Option Stream → List ℕ) (empty : bytes None ≡ []) where
     plain_node : (n : ℕ) → n < 12 → node_by bytes (vol v time) n (r n) ≡ made n (sequence n) (new_node time n).kind (bytes None) (why_not (r n)) (info_of (r n))
-    unfolding made node_by node_with kind_in is_system has_type is_directory system_record system_attrs system_data other_streams standard name_attr volume_streams root_streams extend_streams
+    unfolding made node_by node_with kind_in is_system has_type is_directory system_record system_attrs system_data other_streams standard name_attribute volume_streams root_streams extend_streams
     plain_node n lt = of_twelve (λ k. node_by bytes (vol v time) k (r k) ≡ made k (sequence k) (new_node time k).kind (bytes None) (why_not (r k)) (info_of (r k))) refl refl refl refl refl refl refl refl refl refl refl refl n lt
 
     node_is : (n : ℕ) → n < 12 → node_by bytes (vol v time) n (r n) ≡ new_node time n
