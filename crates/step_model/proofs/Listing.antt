@@ -164,9 +164,11 @@ fixed_has Has rows (Some why.Compressed) k = some_has Has (reply.FixedBy why.Com
 fixed_has Has rows (Some other) k = none_has Has
 
 read_has : (Has : Reply → Type 0) → ReadRows Has → (upper : List ℕ) (t : Tree) (end : ℕ) (path : List (List ℕ)) (offset count : ℕ) → AllHave Has (step_refusals upper t end [] (op.Read path offset count))
-read_has Has rows upper t end path offset count =
-    (if_has Has (has_bad_part path) reply.BadName rows.0, there_has Has (reached upper t.nodes t.links path) (read_rows t.nodes t.links) (reached_has Has rows.1 upper t.nodes t.links path)
-    (λ node. (so_has Has _ reply.IsDirectory rows.2, (so_has Has _ reply.System rows.3, (fixed_has Has rows node.why node.kind, tt)))))
+read_has Has rows upper t end path offset count = (
+  if_has Has (has_bad_part path) reply.BadName rows.0,
+  there_has Has (reached upper t.nodes t.links path) (read_rows t.nodes t.links) (reached_has Has rows.1 upper t.nodes t.links path)
+      (λ node. (so_has Has _ reply.IsDirectory rows.2, (so_has Has _ reply.System rows.3, (fixed_has Has rows node.why node.kind, tt)))),
+)
 
 made_has : (Has : Reply → Type 0) → MadeRows Has → (upper : List ℕ) (t : Tree) (end : ℕ) (path : List (List ℕ)) → AllHave Has (step_refusals upper t end [] (op.Create path))
 made_has Has rows upper t end path = (
