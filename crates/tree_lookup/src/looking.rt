@@ -9,8 +9,8 @@ use crate::fault::LookupFault;
 use std::alloc::Global;
 use tree_model::{Link, Name, NameList, Node};
 
-/// A tree as something that is asked for its nodes, names and bytes, and may fail. Each call names its
-/// cost.
+/// A tree as something that is asked for its nodes, names and bytes, and may fail. Each call names
+/// its cost.
 ///
 /// - [`LookupFault::Outside`]: what is behind the tree failed, and counts it.
 /// - [`LookupFault::Memory`]: there is no memory left.
@@ -35,8 +35,8 @@ pub trait Lookup {
         ensures value { IfSome (tree self.old) (λ t. GivesOrFails (λ node. node) lookup_cause result (Ok (bare_at t.nodes number))) }
         ensures asks { AsksTree tree upper Self.kept faults self.old self.new result };
 
-    /// The link that this part leads to in this directory: the one of equal units, else the first in
-    /// order that is the same, if there is one.
+    /// The link that this part leads to in this directory: the one of equal units, else the first
+    /// in order that is the same, if there is one.
     fn link(
         &mut self,
         alloc: Global,
