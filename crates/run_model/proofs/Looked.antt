@@ -11,9 +11,11 @@ use Rattle.tree_model.proofs.Looks.{look_is_step}
 use Rattle.run_model.specs.declared.turn.Turn.{Turn}
 use Rattle.run_model.specs.Runs.{TakesStep}
 
-takes : {S : Type 0} (steps : Op → ℕ → Reply → S → S → Type 0) (base : ℕ) (past : List Turn) (t : Turn) (o : Op) (reply : Reply) (x y : S) → is_look o ≡ true → steps o (base + t.serial) reply x y → TakesStep steps base past t o reply x y
+-- a step of an operation that only looks is what its turn takes
+pub takes : {S : Type 0} (steps : Op → ℕ → Reply → S → S → Type 0) (base : ℕ) (past : List Turn) (t : Turn) (o : Op) (reply : Reply) (x y : S) → is_look o ≡ true → steps o (base + t.serial) reply x y → TakesStep steps base past t o reply x y
 takes steps base past t (op.Stat path) reply x y looks step = step
 takes steps base past t (op.List path) reply x y looks step = step
+takes steps base past t (op.Read path offset count) reply x y looks step = step
 takes steps base past t other reply x y looks step = absurd cc
 
 pub look_takes_step : (upper : List ℕ) (base : ℕ) (past : List Turn) (t : Turn) (o : Op) (reply : Reply) (x : Tree) → is_look o ≡ true → (reply ≢ Memory → Replies upper x.nodes x.links o reply) → reply ≢ Fault → TakesStep (IsStep upper) base past t o reply x x

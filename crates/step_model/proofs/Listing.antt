@@ -3,6 +3,8 @@ use Rattle.std.proofs.Common.{◌≡◌, ℕ, ◌+◌, Bool, true, false, cond, 
 use Rattle.std.specs.Prelude.{IsOkAnd, IsSomeAnd, ⊤}
 use Rattle.host_base.specs.Answers.{◌>>=◌, needs}
 use Rattle.file_tree.specs.declared.node.Node.{Node}
+use Rattle.file_tree.specs.declared.node.Kind.{Kind}
+use Rattle.file_tree.specs.declared.node.Kind.TheVariants as kind
 use Rattle.file_tree.specs.declared.node.Why.{Why}
 use Rattle.file_tree.specs.declared.node.Why.TheVariants as why
 use Rattle.file_tree.specs.declared.link.Link.{Link}
@@ -15,11 +17,11 @@ use Rattle.tree_model.specs.declared.reply.Reply.{Reply}
 use Rattle.tree_model.specs.declared.reply.Reply.TheVariants as reply
 use Rattle.tree_model.specs.Walks.{some_or, entered, walk, reached, reached_directory, bad_name}
 use Rattle.tree_model.specs.Needs.{changes_file, needed, reserve}
-use Rattle.tree_model.specs.Refusals.{first_of, from_there, parent_path, new_name, where_so, fixed_names, fixed_bytes, too_long, no_space, create_rows, change_rows}
+use Rattle.tree_model.specs.Refusals.{first_of, from_there, parent_path, new_name, where_so, fixed_names, fixed_bytes, fixed_list, fixed_read, read_rows, too_long, no_space, create_rows, change_rows}
 use Rattle.tree_model.specs.Effects.{numbers_to_take, least_ref}
 use Rattle.tree_model.specs.Steps.{HasStep, step_refusals, step_refusal, refused_by, Lists, stat_of, IsDone}
 use Rattle.step_model.specs.StepLaws.{is_content_row}
-use Rattle.step_model.specs.Steps.{Done, Refused, answer_of, stat_answer, list_answer, create_answer, write_answer, truncate_answer}
+use Rattle.step_model.specs.Steps.{Done, Refused, answer_of, stat_answer, list_answer, read_answer, create_answer, write_answer, truncate_answer}
 
 -- ---- rows
 
@@ -145,6 +147,29 @@ stat_has Has rows upper t end path = (if_has Has (has_bad_part path) reply.BadNa
 list_has : (Has : Reply → Type 0) → LookRows Has → (upper : List ℕ) (t : Tree) (end : ℕ) (path : List (List ℕ)) → AllHave Has (step_refusals upper t end [] (op.List path))
 list_has Has rows upper t end path = (if_has Has (has_bad_part path) reply.BadName rows.0, (refused_has Has (reached_directory upper t.nodes t.links path) (directory_has Has rows.1 upper t.nodes t.links path), tt))
 
+-- what the answers of a read are
+abbrev ReadRows : (Reply → Type 0) → Type 0
+ReadRows Has = Has reply.BadName × WalkRows Has × Has reply.IsDirectory × Has reply.System × Has (reply.FixedBy why.List) × Has (reply.FixedBy why.Reparse) × Has (reply.FixedBy why.Encrypted) × Has (reply.FixedBy why.Compressed)
+
+opaque_has : (Has : Reply → Type 0) → Has (reply.FixedBy why.List) → (k : Kind) → RowHas Has (fixed_list k)
+opaque_has Has list kind.Opaque = some_has Has (reply.FixedBy why.List) list
+opaque_has Has list other = none_has Has
+
+fixed_has : (Has : Reply → Type 0) → ReadRows Has → (fixed : Option Why) (k : Kind) → RowHas Has (fixed_read fixed k)
+fixed_has Has rows None k = none_has Has
+fixed_has Has rows (Some why.List) k = opaque_has Has rows.4 k
+fixed_has Has rows (Some why.Reparse) k = some_has Has (reply.FixedBy why.Reparse) rows.5
+fixed_has Has rows (Some why.Encrypted) k = some_has Has (reply.FixedBy why.Encrypted) rows.6
+fixed_has Has rows (Some why.Compressed) k = some_has Has (reply.FixedBy why.Compressed) rows.7
+fixed_has Has rows (Some other) k = none_has Has
+
+read_has : (Has : Reply → Type 0) → ReadRows Has → (upper : List ℕ) (t : Tree) (end : ℕ) (path : List (List ℕ)) (offset count : ℕ) → AllHave Has (step_refusals upper t end [] (op.Read path offset count))
+read_has Has rows upper t end path offset count = (
+  if_has Has (has_bad_part path) reply.BadName rows.0,
+  there_has Has (reached upper t.nodes t.links path) (read_rows t.nodes t.links) (reached_has Has rows.1 upper t.nodes t.links path)
+      (λ node. (so_has Has _ reply.IsDirectory rows.2, (so_has Has _ reply.System rows.3, (fixed_has Has rows node.why node.kind, tt)))),
+)
+
 made_has : (Has : Reply → Type 0) → MadeRows Has → (upper : List ℕ) (t : Tree) (end : ℕ) (path : List (List ℕ)) → AllHave Has (step_refusals upper t end [] (op.Create path))
 made_has Has rows upper t end path = (
   so_has Has _ reply.BadName rows.0,
@@ -157,6 +182,7 @@ abbrev RowsHave : (Reply → Type 0) → Op → Type 0
 RowsHave Has (op.Create path) = MadeRows Has
 RowsHave Has (op.Stat path) = LookRows Has
 RowsHave Has (op.List path) = LookRows Has
+RowsHave Has (op.Read path offset count) = ReadRows Has
 RowsHave Has other = ChangeRows Has
 
 all_have : (Has : Reply → Type 0) (upper : List ℕ) (t : Tree) (end : ℕ) (o : Op) → HasStep o t → RowsHave Has o → AllHave Has (step_refusals upper t end [] o)
@@ -167,7 +193,7 @@ all_have Has upper t end (op.Truncate path size) has rows = change_rows_have Has
 all_have Has upper t end (op.Stat path) has rows = stat_has Has rows upper t end path
 all_have Has upper t end (op.List path) has rows = list_has Has rows upper t end path
 all_have Has upper t end (op.Mkdir path) has rows = absurd has
-all_have Has upper t end (op.Read path offset count) has rows = absurd has
+all_have Has upper t end (op.Read path offset count) has rows = read_has Has rows upper t end path offset count
 all_have Has upper t end (op.Link path new) has rows = absurd has
 all_have Has upper t end (op.Rename path new) has rows = absurd has
 all_have Has upper t end (op.Remove path) has rows = absurd has
@@ -185,6 +211,7 @@ refuse (op.Fill path offset count byte) t has = (refl, (λ part. refl, λ part. 
 refuse (op.Truncate path size) t has = (refl, (λ part. refl, λ part. refl), refl, refl, λ w. refl, λ end. refl, λ room needed. refl)
 refuse (op.Stat path) t has = (refl, (λ part. refl, λ part. refl))
 refuse (op.List path) t has = (refl, (λ part. refl, λ part. refl))
+refuse (op.Read path offset count) t has = (refl, (λ part. refl, λ part. refl), refl, refl, refl, refl, refl, refl)
 refuse other t has = absurd has
 
 pub refused : (upper : List ℕ) (t : Tree) (end : ℕ) (o : Op) (row : Reply) → HasStep o t → step_refusal upper t end [] o ≡ Some row → answer_of o row ≡ Refused
@@ -201,6 +228,7 @@ of_tree (op.Fill path offset count byte) t has = (refl, (λ part. refl, λ part.
 of_tree (op.Truncate path size) t has = (refl, (λ part. refl, λ part. refl), refl, refl, λ w. refl, λ end. refl, λ room needed. refl)
 of_tree (op.Stat path) t has = (refl, (λ part. refl, λ part. refl))
 of_tree (op.List path) t has = (refl, (λ part. refl, λ part. refl))
+of_tree (op.Read path offset count) t has = (refl, (λ part. refl, λ part. refl), refl, refl, refl, refl, refl, refl)
 of_tree other t has = absurd has
 
 pub tree_row : (upper : List ℕ) (t : Tree) (end : ℕ) (o : Op) (row : Reply) → HasStep o t → step_refusal upper t end [] o ≡ Some row → is_content_row row ≡ false
@@ -232,7 +260,7 @@ done upper (op.Truncate path size) end stamp said t u has is = ap truncate_answe
 done upper (op.Stat path) end stamp said t u has is = ap stat_answer (ok_and (reached upper t.nodes t.links path) is.0).1
 done upper (op.List path) end stamp said t u has is = (let directory = ok_and (reached_directory upper t.nodes t.links path) is.0 in names_listed upper t.links directory.0.number said directory.1)
 done upper (op.Mkdir path) end stamp said t u has is = absurd has
-done upper (op.Read path offset count) end stamp said t u has is = absurd has
+done upper (op.Read path offset count) end stamp said t u has is = ap read_answer (ok_and (reached upper t.nodes t.links path) is.0).1
 done upper (op.Link path new) end stamp said t u has is = absurd has
 done upper (op.Rename path new) end stamp said t u has is = absurd has
 done upper (op.Remove path) end stamp said t u has is = absurd has

@@ -24,7 +24,7 @@ use Rattle.run_model.specs.declared.turn.Turn.{Turn}
 use Rattle.run_model.proofs.Segments.{segment_push, segment_join}
 use Rattle.step_model.specs.Used.{most_used}
 use Rattle.step_model.specs.Plans.{Plan, no_plan, AtNode, change_or_none, change_plan, IsChangePlan, IsPlan, with_journal, full_row, deep_row, content_rows}
-use Rattle.step_model.specs.Steps.{Answer, Done, Refused, Synced, GivenUp, Never, path_answer, stat_answer, list_answer, create_answer, write_answer, truncate_answer, answer_of, IsRefused, IsDoneIn, StepBy, HasAnswer, Step, next_or, next_in_content, IsContentTurn}
+use Rattle.step_model.specs.Steps.{Answer, Done, Refused, Synced, GivenUp, Never, path_answer, stat_answer, list_answer, read_answer, create_answer, write_answer, truncate_answer, answer_of, IsRefused, IsDoneIn, StepBy, HasAnswer, Step, next_or, next_in_content, IsContentTurn}
 use Rattle.step_model.specs.StepLaws.{is_content_row, AnswersListed, StepsStay, StepsOfTrees, TurnsOfContents}
 use Rattle.step_model.proofs.Listing.{refused, done, tree_row}
 use Rattle.step_model.proofs.Rows.{none_of_tree, row_of_content}
@@ -108,6 +108,20 @@ create_as (reply.FixedBy fixed) = by_why fixed
     by_why other = (λ is. absurd cc, λ is. refl, λ is. refl, λ is. cc)
 create_as other = (λ is. absurd cc, λ is. refl, λ is. refl, λ is. cc)
 
+-- an attribute list, a reparse point, encryption and compression alone fix a node against reading
+read_as : AnswersAs read_answer
+read_as reply.Fault = (λ is. refl, λ is. absurd cc, λ is. absurd cc, λ is. cc)
+read_as reply.Memory = (λ is. refl, λ is. absurd cc, λ is. absurd cc, λ is. cc)
+read_as (reply.FixedBy fixed) = by_why fixed
+  where
+    by_why : (fixed : Why) → (read_answer (reply.FixedBy fixed) ≡ GivenUp → false ≡ true) × (read_answer (reply.FixedBy fixed) ≡ Done → false ≡ false) × (read_answer (reply.FixedBy fixed) ≡ Refused → false ≡ false) × (read_answer (reply.FixedBy fixed) ≡ Synced → ⊥)
+    by_why why.List = (λ is. absurd cc, λ is. refl, λ is. refl, λ is. cc)
+    by_why why.Reparse = (λ is. absurd cc, λ is. refl, λ is. refl, λ is. cc)
+    by_why why.Encrypted = (λ is. absurd cc, λ is. refl, λ is. refl, λ is. cc)
+    by_why why.Compressed = (λ is. absurd cc, λ is. refl, λ is. refl, λ is. cc)
+    by_why other = (λ is. absurd cc, λ is. refl, λ is. refl, λ is. cc)
+read_as other = (λ is. absurd cc, λ is. refl, λ is. refl, λ is. cc)
+
 write_as : AnswersAs write_answer
 write_as reply.Fault = (λ is. refl, λ is. absurd cc, λ is. absurd cc, λ is. cc)
 write_as reply.Memory = (λ is. refl, λ is. absurd cc, λ is. absurd cc, λ is. cc)
@@ -126,7 +140,7 @@ answers_as (op.Truncate path size) t has = truncate_as
 answers_as (op.Stat path) t has = stat_as
 answers_as (op.List path) t has = list_as
 answers_as (op.Mkdir path) t has = absurd has
-answers_as (op.Read path offset count) t has = absurd has
+answers_as (op.Read path offset count) t has = read_as
 answers_as (op.Link path new) t has = absurd has
 answers_as (op.Rename path new) t has = absurd has
 answers_as (op.Remove path) t has = absurd has
@@ -219,6 +233,7 @@ content_listed c v (op.Truncate path size) end p row has plan none some =
     change_row truncate_answer row (λ used. refl) (full_alone p row (plan_deep c v (op.Truncate path size) end p plan (change_deep c v path (op.Truncate path size) plan.own plan.is_own)) (row_of_content (upper_of c v) (tree_of c v) end (op.Truncate path size) (content_rows p) row none some))
 content_listed c v (op.Stat path) end p row has plan none some = absurd (none_some row (sym none ∙ some))
 content_listed c v (op.List path) end p row has plan none some = absurd (none_some row (sym none ∙ some))
+content_listed c v (op.Read path offset count) end p row has plan none some = absurd (none_some row (sym none ∙ some))
 content_listed c v other end p row has plan none some = absurd has
 
 pub answers_listed : AnswersListed

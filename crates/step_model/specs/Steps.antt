@@ -54,6 +54,16 @@ abbrev pub list_answer : Reply → Answer
 list_answer (reply.Names names) = Done
 list_answer other = path_answer other
 
+abbrev pub read_answer : Reply → Answer
+read_answer (reply.Bytes bytes) = Done
+read_answer reply.IsDirectory = Refused
+read_answer reply.System = Refused
+read_answer (reply.FixedBy why.List) = Refused
+read_answer (reply.FixedBy why.Reparse) = Refused
+read_answer (reply.FixedBy why.Encrypted) = Refused
+read_answer (reply.FixedBy why.Compressed) = Refused
+read_answer other = path_answer other
+
 abbrev pub create_answer : Reply → Answer
 create_answer (reply.Created number seq) = Done
 create_answer reply.System = Refused
@@ -97,7 +107,7 @@ answer_of (op.Mkdir path) said = Never
 answer_of (op.Write path offset bytes) said = write_answer said
 answer_of (op.Fill path offset count byte) said = write_answer said
 answer_of (op.Truncate path size) said = truncate_answer said
-answer_of (op.Read path offset count) said = Never
+answer_of (op.Read path offset count) said = read_answer said
 answer_of (op.Stat path) said = stat_answer said
 answer_of (op.List path) said = list_answer said
 answer_of (op.Link path new) said = Never

@@ -7,6 +7,7 @@ use Rattle.record_model.specs.Constants.{standard_information, file_name, data_t
 use Rattle.record_model.specs.Records.{Record}
 use Rattle.file_tree.specs.declared.node.Kind.TheVariants.{File}
 use Rattle.file_tree.specs.declared.node.Node.{Node}
+use Rattle.file_tree.specs.declared.node.Why.TheVariants as why
 use Rattle.stream_laws.specs.Sharing.{StreamKey}
 use Rattle.tree_model.specs.declared.script.Op.{Op}
 use Rattle.tree_model.specs.declared.script.Op.TheVariants as op
@@ -111,4 +112,7 @@ pub record WorkedAnswers : Type 0 where
   pub failed : answer_of op.Sync reply.Fault ≡ GivenUp
   pub no_memory : answer_of op.Sync reply.Memory ≡ Never
   pub other : answer_of (op.Create []) (reply.Wrote 1) ≡ Never
+  pub read : answer_of (op.Read [] 0 1) (reply.Bytes []) ≡ Done
+  pub opaque : answer_of (op.Read [] 0 1) (reply.FixedBy why.Encrypted) ≡ Refused
+  pub sparse : answer_of (op.Read [] 0 1) (reply.FixedBy why.Sparse) ≡ Never
   pub not_yet : answer_of (op.Remove []) reply.Removed ≡ Never

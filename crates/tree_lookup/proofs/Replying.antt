@@ -9,16 +9,18 @@ use Rattle.file_tree.specs.Walks.{has_bad_part}
 use Rattle.tree_model.specs.declared.script.Op.{Op}
 use Rattle.tree_model.specs.declared.script.Op.TheVariants as op
 use Rattle.tree_model.specs.declared.reply.Reply.{Reply}
-use Rattle.tree_model.specs.declared.reply.Reply.TheVariants.{BadName}
-use Rattle.tree_model.specs.Refusals.{first_of}
+use Rattle.tree_model.specs.declared.reply.Reply.TheVariants.{BadName, Bytes}
+use Rattle.tree_model.specs.Refusals.{first_of, from_there, read_rows, is_system_node}
+use Rattle.tree_model.specs.Fronts.{front_of, count_read, bytes_read}
 use Rattle.tree_model.specs.Walks.{reached, reached_directory}
 use Rattle.tree_model.specs.Steps.{is_look, is_given_up, refused_by, refusal, stat_of, Lists, Replies, RepliesBy, IsStep}
 use Rattle.tree_model.proofs.Looks.{look_is_step}
 use Rattle.tree_model.proofs.Joining.{no_fault}
 use Rattle.tree_lookup.specs.declared.fault.LookupFault.{LookupFault}
 use Rattle.file_tree.specs.Trees.{without_bytes}
-use Rattle.tree_lookup.specs.Asked.{AnswersOrFails}
-use Rattle.tree_lookup.specs.Answered.{bare_result}
+use Rattle.tree_lookup.specs.Asked.{bytes_at, AnswersOrFails}
+use Rattle.tree_lookup.specs.Answered.{bare_result, IsRead}
+use Rattle.tree_lookup.proofs.Ways.{own_bytes}
 
 -- ---- a part that is no name
 
@@ -29,6 +31,10 @@ bad_stat upper path is t = rw is refl
 pub bad_list : (upper : List ℕ) (path : List (List ℕ)) → has_bad_part path ≡ true → (t : Tree) → Replies upper t.nodes t.links (op.List path) BadName
 unfolding refusal
 bad_list upper path is t = rw is refl
+
+pub bad_read : (upper : List ℕ) (path : List (List ℕ)) (offset count : ℕ) → has_bad_part path ≡ true → (t : Tree) → Replies upper t.nodes t.links (op.Read path offset count) BadName
+unfolding refusal
+bad_read upper path offset count is t = rw is refl
 
 -- ---- a walk that ends early
 
@@ -45,6 +51,15 @@ pub refused_list : (upper : List ℕ) (path : List (List ℕ)) (reply : Reply) �
     → ◌≡◌ {A = Result (Result Node Reply) (Unit {0})} (Ok (bare_result (reached_directory upper t.nodes t.links path))) (Ok (Err reply)) → Replies upper t.nodes t.links (op.List path) reply
 unfolding refusal
 refused_list upper path reply names t is = rw names (refused_so (reached_directory upper t.nodes t.links path) _ reply is)
+
+not_read : (found : Result Node Reply) (rows : Node → List (Option Reply)) (done : Type 0) (reply : Reply) → ◌≡◌ {A = Result (Result Node Reply) (Unit {0})} (Ok (bare_result found)) (Ok (Err reply)) → RepliesBy (first_of (None ∷ from_there found rows)) done reply
+not_read (Ok n) rows done reply is = absurd cc
+not_read (Err r) rows done reply is = let same : r ≡ reply = cc in sym same
+
+pub refused_read : (upper : List ℕ) (path : List (List ℕ)) (offset count : ℕ) (reply : Reply) → has_bad_part path ≡ false → (t : Tree)
+    → ◌≡◌ {A = Result (Result Node Reply) (Unit {0})} (Ok (bare_result (reached upper t.nodes t.links path))) (Ok (Err reply)) → Replies upper t.nodes t.links (op.Read path offset count) reply
+unfolding refusal
+refused_read upper path offset count reply names t is = rw names (not_read (reached upper t.nodes t.links path) (read_rows t.nodes t.links) _ reply is)
 
 -- ---- a walk that leads to a node
 
@@ -71,6 +86,22 @@ pub told_list : (upper : List ℕ) (path : List (List ℕ)) (node : Node) (reply
     → ◌≡◌ {A = Result (Result Node Reply) (Unit {0})} (Ok (bare_result (reached_directory upper t.nodes t.links path))) (Ok (Ok node)) → Lists upper t.links node.number reply → Replies upper t.nodes t.links (op.List path) reply
 unfolding refusal
 told_list upper path node reply names t is said = rw names (list_by (reached_directory upper t.nodes t.links path) upper t.links node reply is said)
+
+read_by : (found : Result Node Reply) (nodes : List Node) (links : List Link) (offset count : ℕ) (node : Node) (reply : Reply) → ((n : Node) → found ≡ Ok n → bytes_at nodes n.number ≡ n.bytes)
+    → ◌≡◌ {A = Result (Result Node Reply) (Unit {0})} (Ok (bare_result found)) (Ok (Ok node)) → RepliesBy (first_of (read_rows nodes links node)) (IsRead nodes node offset count reply) reply
+    → RepliesBy (first_of (None ∷ from_there found (read_rows nodes links))) (IsOkAnd found (λ n. reply ≡ Bytes (bytes_read n offset count))) reply
+unfolding is_system_node
+read_by (Ok n) nodes links offset count node reply whole is said =
+    let same : without_bytes n ≡ node = cc in
+    let there : RepliesBy (first_of (read_rows nodes links n)) (IsRead nodes n offset count reply) reply = subst (λ (x : Node). RepliesBy (first_of (read_rows nodes links x)) (IsRead nodes x offset count reply) reply) (sym same) said in
+    subst (λ (b : List ℕ). RepliesBy (first_of (read_rows nodes links n)) (reply ≡ Bytes (front_of b offset (count_read n.size offset count))) reply) (whole n refl) there
+read_by (Err r) nodes links offset count node reply whole is said = absurd cc
+
+pub told_read : (upper : List ℕ) (path : List (List ℕ)) (offset count : ℕ) (node : Node) (reply : Reply) → has_bad_part path ≡ false → (t : Tree)
+    → ◌≡◌ {A = Result (Result Node Reply) (Unit {0})} (Ok (bare_result (reached upper t.nodes t.links path))) (Ok (Ok node))
+    → RepliesBy (first_of (read_rows t.nodes t.links node)) (IsRead t.nodes node offset count reply) reply → Replies upper t.nodes t.links (op.Read path offset count) reply
+unfolding refusal
+told_read upper path offset count node reply names t is said = rw names (read_by (reached upper t.nodes t.links path) t.nodes t.links offset count node reply (own_bytes upper path t) is said)
 
 -- ---- where the tree is known
 
@@ -103,6 +134,19 @@ pub told_list_known : (known : Option Tree) (upper : List ℕ) (path : List (Lis
     → IfSome known (λ t. AnswersOrFails result (λ reply. Lists upper t.links node.number reply)) → IfSome known (λ t. AnswersOrFails result (λ reply. Replies upper t.nodes t.links (op.List path) reply))
 told_list_known known upper path node result names is told =
     both known _ _ _ (λ t h k. weaker result (λ reply. Lists upper t.links node.number reply) (λ reply. Replies upper t.nodes t.links (op.List path) reply) (λ reply said. told_list upper path node reply names t h said) k) is told
+
+pub bad_read_known : (known : Option Tree) (upper : List ℕ) (path : List (List ℕ)) (offset count : ℕ) → has_bad_part path ≡ true → IfSome known (λ t. Replies upper t.nodes t.links (op.Read path offset count) BadName)
+bad_read_known known upper path offset count is = always known _ (λ t. bad_read upper path offset count is t)
+
+pub refused_read_known : (known : Option Tree) (upper : List ℕ) (path : List (List ℕ)) (offset count : ℕ) (reply : Reply) → has_bad_part path ≡ false
+    → IfSome known (λ t. ◌≡◌ {A = Result (Result Node Reply) (Unit {0})} (Ok (bare_result (reached upper t.nodes t.links path))) (Ok (Err reply))) → IfSome known (λ t. Replies upper t.nodes t.links (op.Read path offset count) reply)
+refused_read_known known upper path offset count reply names is = one known _ _ (λ t h. refused_read upper path offset count reply names t h) is
+
+pub told_read_known : (known : Option Tree) (upper : List ℕ) (path : List (List ℕ)) (offset count : ℕ) (node : Node) (result : Result Reply LookupFault) → has_bad_part path ≡ false
+    → IfSome known (λ t. ◌≡◌ {A = Result (Result Node Reply) (Unit {0})} (Ok (bare_result (reached upper t.nodes t.links path))) (Ok (Ok node)))
+    → IfSome known (λ t. AnswersOrFails result (λ reply. RepliesBy (first_of (read_rows t.nodes t.links node)) (IsRead t.nodes node offset count reply) reply)) → IfSome known (λ t. AnswersOrFails result (λ reply. Replies upper t.nodes t.links (op.Read path offset count) reply))
+told_read_known known upper path offset count node result names is told =
+    both known _ _ _ (λ t h k. weaker result (λ reply. RepliesBy (first_of (read_rows t.nodes t.links node)) (IsRead t.nodes node offset count reply) reply) (λ reply. Replies upper t.nodes t.links (op.Read path offset count) reply) (λ reply said. told_read upper path offset count node reply names t h said) k) is told
 
 -- what is replied is a step that leaves the tree
 pub step_known : (known : Option Tree) (upper : List ℕ) (o : Op) (reply : Reply) → is_look o ≡ true → is_given_up reply ≡ false → IfSome known (λ t. Replies upper t.nodes t.links o reply)

@@ -15,7 +15,7 @@ use Rattle.tree_model.specs.declared.reply.Reply.{Reply}
 use Rattle.tree_model.specs.declared.reply.Reply.TheVariants.{NotFound, NotDirectory}
 use Rattle.tree_model.specs.Walks.{some_or, entered, walk, reached, reached_directory}
 use Rattle.tree_lookup.specs.declared.fault.LookupFault.{LookupFault}
-use Rattle.tree_lookup.specs.Asked.{lookup_cause, bare_at}
+use Rattle.tree_lookup.specs.Asked.{lookup_cause, bare_at, bytes_of, bytes_at}
 use Rattle.tree_lookup.specs.Answered.{bare_result}
 
 -- ---- one part
@@ -125,6 +125,11 @@ walked_node upper t at number [] n is = own_number t.nodes number n (some_is (no
 walked_node upper t at number (part ∷ rest) n is =
     let next = bound (entered upper t.nodes t.links at number part) (λ child. walk upper t.nodes t.links (at + 1) child rest) n (sym (walk_next upper t at number part rest (entered upper t.nodes t.links at number part) refl) ∙ is) in
     walked_node upper t (at + 1) next.0 rest n next.1
+
+-- the bytes of the node that a path leads to are those at its number
+pub own_bytes : (upper : List ℕ) (path : List (List ℕ)) (t : Tree) (n : Node) → reached upper t.nodes t.links path ≡ Ok n → bytes_at t.nodes n.number ≡ n.bytes
+unfolding reached bytes_at
+own_bytes upper path t n is = ap bytes_of (walked_node upper t 0 root path n is)
 
 record Parted (found : Result Node Reply) (n : Node) : Type 0 where
   found_is : found ≡ Ok n

@@ -4,13 +4,19 @@ use Rattle.host_base.specs.Causes.{Rose}
 use Rattle.file_tree.specs.declared.node.Node.{Node}
 use Rattle.file_tree.specs.declared.tree.Tree.{Tree}
 use Rattle.tree_model.specs.declared.reply.Reply.{Reply}
-use Rattle.tree_model.specs.declared.reply.Reply.TheVariants.{Fault}
+use Rattle.tree_model.specs.declared.reply.Reply.TheVariants.{Bytes, Fault}
+use Rattle.tree_model.specs.Fronts.{front_of, count_read}
+use Rattle.tree_lookup.specs.Asked.{bytes_at}
 use Rattle.file_tree.specs.Trees.{without_bytes}
 
 -- the node that a walk leads to, without its bytes, or what ends the walk
 abbrev pub bare_result : Result Node Reply → Result Node Reply
 bare_result (Ok node) = Ok (without_bytes node)
 bare_result (Err reply) = Err reply
+
+-- what is replied to a read of a node that nothing refuses: its bytes from an offset on, up to its size
+abbrev pub IsRead : List Node → Node → ℕ → ℕ → Reply → Type 0
+IsRead nodes node offset count reply = reply ≡ Bytes (front_of (bytes_at nodes node.number) offset (count_read node.size offset count))
 
 -- A reply `fault` says that the outside failed, which counted it; no other reply passes over a failure.
 abbrev pub CountsReply : Option Tree → ℕ → ℕ → Reply → Type 0

@@ -1,5 +1,5 @@
 -- What a tree that is asked answers, and what a call leaves of it.
-use Rattle.std.specs.Prelude.{◌≡◌, ℕ, ◌≤◌, List, Option, Result, Ok, Err}
+use Rattle.std.specs.Prelude.{◌≡◌, ℕ, ◌≤◌, List, [], Option, Some, None, Result, Ok, Err}
 use Rattle.std.specs.Option.{option_map}
 use Rattle.host_base.specs.Answers.{Cause, refused, no_memory, failed, ExplainsOrFails}
 use Rattle.host_base.specs.Causes.{Counts}
@@ -39,3 +39,11 @@ pub record AsksTree {S Kept T : Type 0} (tree : S → Option Tree) (upper : S �
 -- the node with this number, without its bytes, if there is one
 unfoldable pub bare_at : List Node → ℕ → Option Node
 bare_at nodes number = option_map without_bytes (node_at nodes number)
+
+abbrev pub bytes_of : Option Node → List ℕ
+bytes_of None = []
+bytes_of (Some node) = node.bytes
+
+-- the bytes of the node with this number; without one there are none
+unfoldable pub bytes_at : List Node → ℕ → List ℕ
+bytes_at nodes number = bytes_of (node_at nodes number)

@@ -1,8 +1,8 @@
 //! A file tree that is asked by calls that may fail, and what an operation that only looks is
 //! answered by them.
 //!
-//! The contract: each call answers of the tree, where it is known, or fails by a cause; a failure of
-//! what is behind the tree is counted, and no other answer counts one. What `answer` replies is a
+//! The contract: each call answers of the tree, where it is known, or fails by a cause; a failure
+//! of what is behind the tree is counted, and no other answer counts one. What `answer` replies is a
 //! step of the tree. Names and namespaces are those of the Linux-NTFS documentation, "$FILE_NAME".
 #![tactic(auto)]
 
@@ -12,7 +12,7 @@ mod looking;
 mod plain;
 mod walking;
 
-pub use answering::answer;
+pub use answering::{answer, looked};
 pub use fault::LookupFault;
 pub use looking::Lookup;
 pub use plain::Plain;

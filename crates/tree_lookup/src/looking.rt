@@ -1,15 +1,16 @@
-ghost use Rattle.std.specs.Prelude.{◌≡◌, ℕ, List, Option, Ok, true, IfSome};
+ghost use Rattle.std.specs.Prelude.{◌≡◌, ℕ, List, Option, Ok, true, length, IfSome};
 ghost use Rattle.host_base.specs.Answers.{GivesOrFails};
 ghost use Rattle.file_tree.specs.declared.tree.Tree.{Tree as the_tree};
 ghost use Rattle.file_tree.specs.Trees.{is_directory, look_up, long_names_of, IsListing};
-ghost use Rattle.tree_lookup.specs.Asked.{lookup_cause, bare_at, AnswersOrFails, AsksTree};
+ghost use Rattle.tree_model.specs.Fronts.{front_of};
+ghost use Rattle.tree_lookup.specs.Asked.{lookup_cause, bare_at, bytes_at, AnswersOrFails, AsksTree};
 
 use crate::fault::LookupFault;
 use std::alloc::Global;
 use tree_model::{Link, Name, NameList, Node};
 
-/// A tree as something that is asked for its nodes and names, and may fail. Each call names its
-/// cost.
+/// A tree as something that is asked for its nodes, names and bytes, and may fail. Each call names
+/// its cost.
 ///
 /// - [`LookupFault::Outside`]: what is behind the tree failed, and counts it.
 /// - [`LookupFault::Memory`]: there is no memory left.
@@ -34,8 +35,8 @@ pub trait Lookup {
         ensures value { IfSome (tree self.old) (λ t. GivesOrFails (λ node. node) lookup_cause result (Ok (bare_at t.nodes number))) }
         ensures asks { AsksTree tree upper Self.kept faults self.old self.new result };
 
-    /// The link that this part leads to in this directory: the one of equal units, else the first in
-    /// order that is the same, if there is one.
+    /// The link that this part leads to in this directory: the one of equal units, else the first
+    /// in order that is the same, if there is one.
     fn link(
         &mut self,
         alloc: Global,
@@ -55,5 +56,17 @@ pub trait Lookup {
     fn listing(&mut self, alloc: Global, directory: u64) -> Result<NameList, LookupFault>
         requires directory { IfSome (tree self.old) (λ t. is_directory t.nodes directory ≡ true) }
         ensures value { IfSome (tree self.old) (λ t. AnswersOrFails result (λ names. IsListing (upper self.old) t.links directory names)) }
+        ensures asks { AsksTree tree upper Self.kept faults self.old self.new result };
+
+    /// Makes `out` the bytes of the node with this number from a place on, and zeros behind its
+    /// end; without such a node, zeros. After an error any bytes may stand in `out`.
+    fn front(
+        &mut self,
+        alloc: Global,
+        number: u64,
+        at: u64,
+        out: &mut [u8],
+    ) -> Result<(), LookupFault>
+        ensures value { IfSome (tree self.old) (λ t. AnswersOrFails result (λ done. out.new ≡ front_of (bytes_at t.nodes number) at (length out.old))) }
         ensures asks { AsksTree tree upper Self.kept faults self.old self.new result };
 }

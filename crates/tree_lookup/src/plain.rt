@@ -2,14 +2,14 @@
 ghost use Rattle.std.specs.Prelude.{◌≡◌, IfOk};
 ghost use Rattle.std.specs.Option.{option_copied};
 ghost use Rattle.file_tree.specs.Trees.{same_links, look_up, long_links_in, node_at, long_names_of, IsListing, without_bytes};
-ghost use Rattle.tree_lookup.specs.Asked.{bare_at};
+ghost use Rattle.tree_lookup.specs.Asked.{bare_at, bytes_at};
 
 use crate::fault::LookupFault;
 use crate::looking::Lookup;
 use file_tree::{Link, Node, SHORT, Tree, chosen_link, is_same_name, sort_links};
 use host_base::Bytes;
 use std::alloc::{AllocError, Global};
-use tree_model::{Name, NameList, names_of};
+use tree_model::{Name, NameList, front_into, names_of};
 
 /// A tree in memory and the table of upper-case units by which its names are in order, which
 /// answers by going through its lists. It fails only for want of memory.
@@ -55,6 +55,16 @@ fn bare_at(alloc: Global, nodes: &[Node], number: u64) -> Option<Node>
     match node_at(nodes, number) {
         Some(node) => Some(without_bytes(alloc, node)),
         None => None,
+    }
+}
+
+#[tactic(auto, unfolding(crate::specs::Asked::bytes_at))]
+fn bytes_at(nodes: &[Node], number: u64) -> &[u8]
+    ensures { result.now ≡ bytes_at nodes.now number }
+{
+    match node_at(nodes, number) {
+        Some(node) => node.bytes.as_slice(),
+        None => &[],
     }
 }
 
@@ -177,5 +187,17 @@ impl Lookup for Plain<'_> {
     fn listing(&mut self, alloc: Global, directory: u64) -> Result<NameList, LookupFault> {
         let links = self.tree.links.as_slice();
         Ok(listing(alloc, self.upper, links, directory)?)
+    }
+
+    /// Bytes of the node with this number, in time linear in the nodes and in `out`.
+    fn front(
+        &mut self,
+        _alloc: Global,
+        number: u64,
+        at: u64,
+        out: &mut [u8],
+    ) -> Result<(), LookupFault> {
+        front_into(bytes_at(self.tree.nodes.as_slice(), number), at, out);
+        Ok(())
     }
 }

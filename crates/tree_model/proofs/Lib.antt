@@ -4,5 +4,6 @@ pub mod FileNeeds
 pub mod WaysUp
 pub mod ByNumber
 pub mod Filling
+pub mod Fronting
 pub mod NewFiles
 pub mod Joining

@@ -17,11 +17,13 @@ by_look : (upper : List ℕ) (o : Op) (stamp : ℕ) (reply : Reply) (t : Tree) �
 unfolding refusal
 by_look upper (op.Stat path) stamp reply t looks answered = (tt, by_row (refusal upper t.nodes t.links (op.Stat path)) (Done upper t.nodes t.links (op.Stat path) reply) reply t answered)
 by_look upper (op.List path) stamp reply t looks answered = (tt, by_row (refusal upper t.nodes t.links (op.List path)) (Done upper t.nodes t.links (op.List path) reply) reply t answered)
+by_look upper (op.Read path offset count) stamp reply t looks answered = (tt, by_row (refusal upper t.nodes t.links (op.Read path offset count)) (Done upper t.nodes t.links (op.Read path offset count) reply) reply t answered)
 by_look upper other stamp reply t looks answered = absurd cc
 
 has_step : (o : Op) (t : Tree) → is_look o ≡ true → HasStep o t
 has_step (op.Stat path) t looks = tt
 has_step (op.List path) t looks = tt
+has_step (op.Read path offset count) t looks = tt
 has_step other t looks = absurd cc
 
 pub look_is_step : (upper : List ℕ) (o : Op) (stamp : ℕ) (reply : Reply) (t : Tree) → is_look o ≡ true → (reply ≢ Memory → Replies upper t.nodes t.links o reply) → reply ≢ Fault → IsStep upper o stamp reply t t

@@ -85,6 +85,18 @@ abbrev pub fixed_bytes : Option Why → Option Reply
 fixed_bytes None = None
 fixed_bytes (Some why) = Some (reply.FixedBy why)
 
+-- the bytes of a file aren't those of its data where it is a reparse point, encrypted or compressed; there a list fixes them too
+abbrev pub fixed_list : Kind → Option Reply
+fixed_list kind.Opaque = Some (reply.FixedBy why.List)
+fixed_list other = None
+
+abbrev pub fixed_read : Option Why → Kind → Option Reply
+fixed_read (Some why.List) k = fixed_list k
+fixed_read (Some why.Reparse) k = Some (reply.FixedBy why.Reparse)
+fixed_read (Some why.Encrypted) k = Some (reply.FixedBy why.Encrypted)
+fixed_read (Some why.Compressed) k = Some (reply.FixedBy why.Compressed)
+fixed_read other k = None
+
 -- ---- bounds
 
 -- the most bytes that an operation writes, those of a gap among them
@@ -135,6 +147,14 @@ create_rows upper t end content op name directory =
     ∷ table_full t
     ∷ no_space t (needed t end op directory + reserve op directory)
     ∷ content
+
+-- rows of a read of this node, behind the walk
+abbrev pub read_rows : List Node → List Link → Node → List (Option Reply)
+read_rows nodes links node =
+    where_so (is_directory_kind node.kind) reply.IsDirectory
+    ∷ where_so (is_system_node nodes links node) reply.System
+    ∷ fixed_read node.why node.kind
+    ∷ []
 
 -- rows of a change of this file's bytes or size; one that changes nothing needs nothing
 abbrev pub change_rows : Tree → ℕ → List (Option Reply) → Op → Node → List (Option Reply)

@@ -10,19 +10,21 @@ use Rattle.tree_model.specs.declared.script.What.{What}
 use Rattle.tree_model.specs.declared.script.What.TheVariants.{Op as Operation, Find}
 use Rattle.tree_model.specs.declared.script.Command.{Command}
 use Rattle.tree_model.specs.declared.reply.Reply.{Reply}
-use Rattle.tree_model.specs.declared.reply.Reply.TheVariants.{Created, Wrote, Size, Stat, Names, Fault, Memory}
+use Rattle.tree_model.specs.declared.reply.Reply.TheVariants.{Created, Wrote, Size, Bytes, Stat, Names, Fault, Memory}
 use Rattle.file_tree.specs.Trees.{long_names_of, IsListing}
 use Rattle.tree_model.specs.Walks.{reached, reached_directory, bad_name}
 use Rattle.tree_model.specs.Needs.{changes_file, needed}
-use Rattle.tree_model.specs.Refusals.{first_of, file_refusals, parent_path, new_name}
+use Rattle.tree_model.specs.Refusals.{first_of, from_there, read_rows, file_refusals, parent_path, new_name}
+use Rattle.tree_model.specs.Fronts.{bytes_read}
 use Rattle.tree_model.specs.Effects.{numbers_to_take, least_ref, HasCreated, HasChanged}
 
 -- ---- operations that only look
 
--- an operation that changes nothing, and is answered by looking at nodes and names
+-- an operation that changes nothing, and is answered by looking at nodes, names and bytes
 abbrev pub is_look : Op → Bool
 is_look (op.Stat path) = true
 is_look (op.List path) = true
+is_look (op.Read path offset count) = true
 is_look other = false
 
 -- what a command asks for is a find, or such an operation
@@ -44,6 +46,7 @@ refused_by (Err reply) = Some reply
 abbrev pub refusals : List ℕ → List Node → List Link → Op → List (Option Reply)
 refusals upper nodes links (op.Stat path) = bad_name path ∷ refused_by (reached upper nodes links path) ∷ []
 refusals upper nodes links (op.List path) = bad_name path ∷ refused_by (reached_directory upper nodes links path) ∷ []
+refusals upper nodes links (op.Read path offset count) = bad_name path ∷ from_there (reached upper nodes links path) (read_rows nodes links)
 refusals upper nodes links other = []
 
 unfoldable pub refusal : List ℕ → List Node → List Link → Op → Option Reply
@@ -62,6 +65,7 @@ Lists upper links directory other = ⊥
 abbrev pub Done : List ℕ → List Node → List Link → Op → Reply → Type 0
 Done upper nodes links (op.Stat path) reply = IsOkAnd (reached upper nodes links path) (λ node. reply ≡ stat_of links node)
 Done upper nodes links (op.List path) reply = IsOkAnd (reached_directory upper nodes links path) (λ node. Lists upper links node.number reply)
+Done upper nodes links (op.Read path offset count) reply = IsOkAnd (reached upper nodes links path) (λ node. reply ≡ Bytes (bytes_read node offset count))
 Done upper nodes links other reply = ⊥
 
 abbrev pub RepliesBy : Option Reply → Type 0 → Reply → Type 0
@@ -88,6 +92,7 @@ IsWithinBounds other = ⊤
 abbrev pub HasStep : Op → Tree → Type 0
 HasStep (op.Stat path) t = ⊤
 HasStep (op.List path) t = ⊤
+HasStep (op.Read path offset count) t = ⊤
 HasStep (op.Create path) t = t.journal ≡ None
 HasStep (op.Write path offset bytes) t = t.journal ≡ None
 HasStep (op.Fill path offset count byte) t = t.journal ≡ None
@@ -98,6 +103,7 @@ HasStep other t = ⊥
 abbrev pub step_refusals : List ℕ → Tree → ℕ → List (Option Reply) → Op → List (Option Reply)
 step_refusals upper t end content (op.Stat path) = refusals upper t.nodes t.links (op.Stat path)
 step_refusals upper t end content (op.List path) = refusals upper t.nodes t.links (op.List path)
+step_refusals upper t end content (op.Read path offset count) = refusals upper t.nodes t.links (op.Read path offset count)
 step_refusals upper t end content other = file_refusals upper t end content other
 
 abbrev pub step_refusal : List ℕ → Tree → ℕ → List (Option Reply) → Op → Option Reply

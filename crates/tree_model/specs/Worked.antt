@@ -10,10 +10,11 @@ use Rattle.file_tree.specs.declared.node.Node.{Node}
 use Rattle.file_tree.specs.declared.link.Link.{Link}
 use Rattle.file_tree.specs.declared.tree.Tree.{Tree}
 use Rattle.tree_model.specs.declared.script.Op.{Op}
-use Rattle.tree_model.specs.declared.script.Op.TheVariants.{Create, Write, Fill, Truncate}
+use Rattle.tree_model.specs.declared.script.Op.TheVariants.{Create, Write, Fill, Truncate, Read}
 use Rattle.tree_model.specs.declared.reply.Reply.{Reply}
 use Rattle.tree_model.specs.declared.reply.Reply.TheVariants as reply
 use Rattle.tree_model.specs.Effects.{put_at, zeros_up_to}
+use Rattle.tree_model.specs.Fronts.{bytes_read}
 use Rattle.tree_model.specs.Steps.{step_refusal}
 
 -- ---- a small tree
@@ -97,6 +98,17 @@ pub record WorkedChanges : Type 0 where
   pub shrinking : Refuses 0 (Truncate ((102 ∷ []) ∷ []) 3) None
   pub no_bytes : Refuses 0 (Write ((102 ∷ []) ∷ []) 100000 []) None
   pub same_size : Refuses 0 (Truncate ((102 ∷ []) ∷ []) 4) None
+
+-- reads
+pub record WorkedReads : Type 0 where
+  pub root : Refuses 0 (Read [] 0 1) (Some reply.IsDirectory)
+  pub below_file : Refuses 0 (Read ((102 ∷ []) ∷ (97 ∷ []) ∷ []) 0 1) (Some (reply.NotDirectory 1))
+  pub system : Refuses 0 (Read ((109 ∷ []) ∷ []) 0 1) (Some reply.System)
+  pub fixed : Refuses 0 (Read ((101 ∷ []) ∷ []) 0 1) (Some (reply.FixedBy why.Encrypted))
+  pub file : Refuses 0 (Read ((102 ∷ []) ∷ []) 0 1) None
+  pub inside : bytes_read (worked_node 25 kind.File None 2 (1 ∷ 2 ∷ 0 ∷ 0 ∷ [])) 1 2 ≡ 2 ∷ 0 ∷ []
+  pub up_to_size : bytes_read (worked_node 25 kind.File None 2 (1 ∷ 2 ∷ 0 ∷ 0 ∷ [])) 3 9 ≡ 0 ∷ []
+  pub behind : bytes_read (worked_node 25 kind.File None 2 (1 ∷ 2 ∷ 0 ∷ 0 ∷ [])) 4 9 ≡ []
 
 -- what a write and a truncate leave of bytes of which two are initialised
 pub record WorkedBytes : Type 0 where

@@ -26,9 +26,9 @@ fn front(bytes: &[u8], place: u64) -> &[u8]
     bytes.split_at(place.min(whole) as usize).0
 }
 
-// The bytes from a place on.
+/// The bytes from a place on.
 #[tactic(auto, using(crate::proofs::Filling::drop_min))]
-fn rest(bytes: &[u8], place: u64) -> &[u8]
+pub fn rest(bytes: &[u8], place: u64) -> &[u8]
     ensures { result.now ≡ drop place bytes.now }
 {
     let whole = bytes.len() as u64;

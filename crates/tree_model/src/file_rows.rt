@@ -94,7 +94,8 @@ fn is_in_system(links: &[Link], most: usize, number: u64) -> bool
     false
 }
 
-fn is_system_kind(kind: Kind) -> bool
+/// Whether it is the kind of a file of the volume itself.
+pub fn is_system_kind(kind: Kind) -> bool
     ensures { result ≡ is_system_kind kind }
 {
     kind == Kind::System

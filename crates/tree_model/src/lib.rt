@@ -14,6 +14,7 @@ mod making;
 mod needs;
 mod path;
 mod plain;
+mod reading;
 mod reply;
 mod script;
 mod stepping;
@@ -22,10 +23,11 @@ pub use file_tree::{
     Bytes, FileRef, FileRefList, Journal, Kind, Link, LinkList, Name, Node, NodeList, SHORT, Tree,
     Units, Usn, UsnList, WIN32, Why, chosen, compare_names, is_same_name, sort_links,
 };
-pub use laws::{worked_bytes, worked_changes, worked_names};
+pub use laws::{worked_bytes, worked_changes, worked_names, worked_reads};
 pub use looking::Lookup;
 pub use path::Path;
 pub use plain::names_of;
+pub use reading::{count_read, front_into, read_refusal};
 pub use reply::{Hit, HitList, NameList, Reply};
 pub use script::{Command, Op, Script, What};
 pub use stepping::{answer, step};

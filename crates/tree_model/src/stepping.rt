@@ -1,16 +1,21 @@
-ghost use Rattle.std.specs.Prelude.{◌≡◌, true, ◌≢◌, ◌<◌, ◌^◌, ◌+◌, IfOk, length};
+ghost use Rattle.std.specs.Prelude.{◌≡◌, true, ◌≢◌, ◌<◌, ◌^◌, ◌+◌, List, IfOk, length};
 ghost use Rattle.std.specs.List.{list_any};
 ghost use Rattle.host_base.specs.Answers.{Gives};
 ghost use Rattle.file_tree.specs.Trees.{is_directory, is_directory_kind};
+ghost use Rattle.file_tree.specs.declared.node.Node.{Node as the_node};
+ghost use Rattle.file_tree.specs.declared.link.Link.{Link as the_link};
+ghost use Rattle.tree_model.specs.Fronts.{bytes_read};
+ghost use Rattle.tree_model.specs.Refusals.{first_of, read_rows};
 ghost use Rattle.tree_model.specs.Walks.{entered, reached, reached_directory};
 ghost use Rattle.file_tree.specs.Walks.{is_bad_part, has_bad_part};
-ghost use Rattle.tree_model.specs.Steps.{is_look, stat_of, reply_cause, Lists, Replies, IsWithinBounds, HasStep, IsStep};
+ghost use Rattle.tree_model.specs.Steps.{is_look, stat_of, reply_cause, Lists, Replies, RepliesBy, IsWithinBounds, HasStep, IsStep};
 
 use crate::filing::change;
 use crate::looking::Lookup;
 use crate::making::create;
 use crate::path::Path;
 use crate::plain::Plain;
+use crate::reading::{bytes_read, read_refusal};
 use crate::reply::Reply;
 use crate::script::Op;
 use file_tree::{Kind, Node, ROOT, Tree};
@@ -167,6 +172,35 @@ fn list<L: Lookup>(alloc: Global, tree: &L, path: &Path) -> Reply
     }
 }
 
+// What is answered to a read of this node, behind the walk.
+#[tactic(auto, using(crate::proofs::Joining::no_fault))]
+fn read_there(alloc: Global, node: &Node, offset: u64, count: u64) -> Reply
+    ensures value { result ≢ Reply.Memory → (nodes : List the_node) (links : List the_link) → RepliesBy (first_of (read_rows nodes links node.now)) (result ≡ Reply.Bytes (bytes_read node.now offset count)) result }
+    ensures fault { result ≢ Reply.Fault }
+{
+    if let Some(reply) = read_refusal(node) {
+        return reply;
+    }
+    match bytes_read(alloc, node, offset, count) {
+        Ok(bytes) => Reply::Bytes { bytes },
+        Err(_) => Reply::Memory,
+    }
+}
+
+#[tactic(auto, using(crate::proofs::Refusing::walk_ends), unfolding(crate::specs::Steps::refusal))]
+fn read<L: Lookup>(alloc: Global, tree: &L, path: &Path, offset: u64, count: u64) -> Reply
+    ensures value { result ≢ Reply.Memory → Replies (L.upper tree.now) (L.nodes tree.now) (L.links tree.now) (Op.Read path.now offset count) result }
+    ensures fault { result ≢ Reply.Fault }
+{
+    if has_bad_part(path.as_slice()) {
+        return Reply::BadName;
+    }
+    match reached(alloc, tree, path.as_slice()) {
+        Ok(node) => read_there(alloc, node, offset, count),
+        Err(reply) => reply,
+    }
+}
+
 /// What is answered to an operation that changes nothing: the first refusal that applies, else
 /// what it asks for; or `Memory` for want of memory. It asks the tree two questions for each
 /// part of the path, and one or two more.
@@ -178,6 +212,11 @@ pub fn answer<L: Lookup>(alloc: Global, tree: &L, op: &Op) -> Reply
     match op {
         Op::Stat { path } => stat(alloc, tree, path),
         Op::List { path } => list(alloc, tree, path),
+        Op::Read {
+            path,
+            offset,
+            count,
+        } => read(alloc, tree, path, *offset, *count),
         _ => unreachable!(),
     }
 }
@@ -237,7 +276,7 @@ pub fn step(
             let said = Reply::Size { size: *size };
             change(alloc, tree, upper, path.as_slice(), op, said, stamp)
         }
-        Op::Stat { .. } | Op::List { .. } => look(alloc, tree, upper, op, stamp),
+        Op::Stat { .. } | Op::List { .. } | Op::Read { .. } => look(alloc, tree, upper, op, stamp),
         _ => unreachable!(),
     }
 }

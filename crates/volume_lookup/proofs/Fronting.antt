@@ -11,12 +11,13 @@ use Rattle.state_model.specs.Trees.{is_nameless}
 use Rattle.volume_model.specs.Volumes.{Volume, file_in, bytes_or}
 use Rattle.volume_model.specs.Nodes.{node_with, node_by, some_node}
 use Rattle.volume_state.specs.Trees.{tree_of}
+use Rattle.tree_model.specs.Fronts.{front_of}
 use Rattle.volume_tree.specs.Shown.{file_shown, some_shown, shown_at}
 use Rattle.tree_lookup.specs.declared.fault.LookupFault.{LookupFault}
 use Rattle.tree_lookup.specs.declared.fault.LookupFault.TheVariants.{Outside, Memory, Broken}
-use Rattle.tree_lookup.specs.Asked.{lookup_cause, AnswersOrFails}
+use Rattle.tree_lookup.specs.Asked.{lookup_cause, bytes_of, bytes_at, AnswersOrFails}
 use Rattle.volume_lookup.specs.Known.{known_tree}
-use Rattle.volume_lookup.specs.Fronts.{front_of, bytes_of, bytes_at, front_shown}
+use Rattle.volume_lookup.specs.Fronts.{front_shown}
 use Rattle.volume_lookup.proofs.Asking.{of_tree, anything, found_in_tree}
 
 -- ---- no bytes

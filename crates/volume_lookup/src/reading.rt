@@ -5,8 +5,9 @@ ghost use Rattle.disk_model.specs.Bytes.{zeros};
 ghost use Rattle.block_view.specs.Views.{AsksView};
 ghost use Rattle.volume_model.specs.Volumes.{bytes_or};
 ghost use Rattle.volume_map.specs.Maps.{volume_in};
+ghost use Rattle.tree_model.specs.Fronts.{front_of};
 ghost use Rattle.tree_lookup.specs.Asked.{lookup_cause};
-ghost use Rattle.volume_lookup.specs.Fronts.{front_of, front_shown};
+ghost use Rattle.volume_lookup.specs.Fronts.{front_shown};
 
 use block_view::View;
 use disk_model::Body;
@@ -32,7 +33,7 @@ fn clear_front(out: &mut [u8], at: u64)
 }
 
 // The bytes of a stream from a place on.
-#[tactic(auto, unfolding(crate::specs::Fronts::front_of))]
+#[tactic(auto, unfolding(tree_model::specs::Fronts::front_of, disk_model::specs::Bytes::zeros))]
 fn stream_front<V: View>(
     alloc: Global,
     view: &mut V,

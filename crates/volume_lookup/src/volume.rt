@@ -1,7 +1,4 @@
-ghost use Rattle.std.specs.Prelude.{◌≡◌, None, Some, length, IfSome};
-ghost use Rattle.block_view.specs.Views.{AsksView};
-ghost use Rattle.tree_lookup.specs.Asked.{lookup_cause, AnswersOrFails};
-ghost use Rattle.volume_lookup.specs.Fronts.{front_of, bytes_at};
+ghost use Rattle.std.specs.Prelude.{◌≡◌, None, Some, IfSome};
 ghost use Rattle.volume_map.specs.Maps.{volume_in};
 ghost use Rattle.volume_model.specs.Volumes.{upper_of};
 ghost use Rattle.volume_state.specs.Rules.{first_broken};
@@ -20,7 +17,7 @@ use volume_tree::NamedVolume;
 
 /// A loaded volume on a view of its content, and its table of upper-case units. Its tree is known
 /// where the content is, the table is that of the volume, and the volume breaks no rule. It asks
-/// the view for index blocks alone.
+/// the view for index blocks, and for the sectors of the bytes that are asked.
 #[derive(Drop)]
 pub struct VolumeTree<'a, V: View> {
     view: V,
@@ -37,27 +34,6 @@ impl<'a, V: View> VolumeTree<'a, V> {
         ensures tree { IfSome (V.content view) (λ c. first_broken c (volume_in volume.now.map.now) ≡ None → up.now ≡ upper_of c (volume_in volume.now.map.now) → known_tree up.now (volume_in volume.now.map.now) (V.content view) ≡ Some (tree_of c (volume_in volume.now.map.now))) }
     {
         VolumeTree { view, volume, up }
-    }
-
-    /// Makes `out` the bytes of the node with this number from a place on, and zeros behind its end;
-    /// without such a node, and for one that shows no data, zeros. It takes time linear in the
-    /// attributes, runs and names of the file, and reads the sectors that it touches.
-    ///
-    /// - [`LookupFault::Outside`]: the view failed, and counts it; any bytes may stand in `out` then.
-    /// - [`LookupFault::Memory`]: there is no memory left.
-    pub fn front(
-        &mut self,
-        alloc: Global,
-        number: u64,
-        at: u64,
-        out: &mut [u8],
-    ) -> Result<(), LookupFault>
-        ensures value { IfSome (known_tree self.old.up.now (volume_in self.old.volume.now.map.now) (V.content self.old.view)) (λ t. AnswersOrFails result (λ done. out.new ≡ front_of (bytes_at t.nodes number) at (length out.old))) }
-        ensures asks { AsksView V.content V.kept V.faults lookup_cause self.old.view self.new.view result }
-        ensures volume { self.new.volume.now ≡ self.old.volume.now }
-        ensures up { self.new.up.now ≡ self.old.up.now }
-    {
-        front_shown(alloc, &mut self.view, self.volume, number, at, out)
     }
 
     /// The view alone.
@@ -112,5 +88,17 @@ impl<'a, V: View> Lookup for VolumeTree<'a, V> {
     /// The long names of this directory: one walk over its index.
     fn listing(&mut self, alloc: Global, directory: u64) -> Result<NameList, LookupFault> {
         names_held(alloc, &mut self.view, self.volume.map, self.up, directory)
+    }
+
+    /// Bytes of the node with this number. It takes time linear in the attributes, runs and names
+    /// of the file, and reads the sectors that it touches.
+    fn front(
+        &mut self,
+        alloc: Global,
+        number: u64,
+        at: u64,
+        out: &mut [u8],
+    ) -> Result<(), LookupFault> {
+        front_shown(alloc, &mut self.view, self.volume, number, at, out)
     }
 }

@@ -1,7 +1,9 @@
 use Rattle.std.proofs.Common.{◌-◌, ◌+◌, ◌<◌, length, ap, arith}
 use Rattle.std.specs.Prelude.{◌==◌}
+use Rattle.std.proofs.lemmas.List.Elements.{All-push}
 use Rattle.std.proofs.lemmas.List.Sums.{count_by-le-length}
 use Rattle.tree_model.specs.declared.script.Command.{Command}
+use Rattle.tree_model.specs.Steps.{OnlyLooks}
 use Rattle.script_text.proofs.reading.add.Goals as goal
 
 pub overflow_add-number : goal.overflow_add-number
@@ -10,3 +12,6 @@ overflow_add-number c =
     let place : client - 1 < length c.args.counts.now = omega arith in
     let count = c.requires.counts (client - 1) place in
     omega (arith, count, ap length c.as_slice.ensures, count_by-le-length (λ (command : Command). command.client == client - 1 + 1) c.args.commands.now)
+
+pub returns-clause-looks : goal.returns-clause-looks
+returns-clause-looks c = rw c.in_ok-push.ensures.ok (All-push (λ (x : Command). OnlyLooks x.what) c.args.commands.now _ c.requires.looks c.requires.client.2)

@@ -11,5 +11,8 @@ returns c = record {
   failed = refl;
   no_memory = refl;
   other = refl;
+  read = refl;
+  opaque = refl;
+  sparse = refl;
   not_yet = refl;
 }

@@ -1,7 +1,7 @@
 use Rattle.std.proofs.Common.{length}
 use Rattle.volume_map.specs.Maps.{volume_in}
 use Rattle.volume_lookup.proofs.Fronting.{front_known}
-use Rattle.volume_lookup.proofs.volume.VolumeTree.front.Goals as goal
+use Rattle.volume_lookup.proofs.volume.VolumeTreeLookup.front.Goals as goal
 
 pub returns-clause-value : goal.returns-clause-value
 returns-clause-value g c =
