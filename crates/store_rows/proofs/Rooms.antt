@@ -52,14 +52,14 @@ may_make f c at new enough k lie room = record {
     spelled = λ x size present. tt;
     alone = lie.alone;
     room = λ x size. enough.change f.log (λ b. (f.mark b).imaged) (change_of c at new) [] f.tx f.last (body_before f c x).bytes x.bytes
-    (record {
-      grid = and_left (is_in_grid c) (is_free (own_of f) c) lie.known;
-      wide = lie.near;
-      some = lie.some;
-      fits = lie.fits;
-      size_before = before_sized c (f.before c) x (k.blocks.sized_before c) size;
-      size = size;
-    }) room;
+        (record {
+          grid = and_left (is_in_grid c) (is_free (own_of f) c) lie.known;
+          wide = lie.near;
+          some = lie.some;
+          fits = lie.fits;
+          size_before = before_sized c (f.before c) x (k.blocks.sized_before c) size;
+          size = size;
+        }) room;
   };
   near = lie.near;
   room = room;

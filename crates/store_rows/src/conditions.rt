@@ -54,9 +54,7 @@ fn is_beside(runs: &[Extent], block: Block) -> bool
 pub fn is_known(state: &StoreState, block: Block) -> bool
     ensures { result ≡ true → is_known (own_of (facts_of state.now)) block ≡ true }
 {
-    state.found().is_empty()
-        && is_in_grid(block)
-        && is_beside(state.place().runs.as_slice(), block)
+    state.found().is_empty() && is_in_grid(block) && is_beside(state.place().runs.as_slice(), block)
 }
 
 // Whether the open transaction changed a rival of the block.

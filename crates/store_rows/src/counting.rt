@@ -27,7 +27,12 @@ fn changes(alloc: Global, count: u64, bytes: usize) -> Result<Vec<Change>, Alloc
 }
 
 /// Changes a sector, in a transaction of its own, and commits; whether that went well.
-fn is_committed(alloc: Global, run: &mut Run, number: u64, bytes: usize) -> Result<bool, AllocError> {
+fn is_committed(
+    alloc: Global,
+    run: &mut Run,
+    number: u64,
+    bytes: usize,
+) -> Result<bool, AllocError> {
     let change = Step::Change(plain(FIRST + number.min(100)), 0, bytes, 0x22);
     for made in [Step::Begin, change, Step::Commit] {
         if make(alloc, run, made)? != Answer::Done {

@@ -114,7 +114,11 @@ fn is_recovered(alloc: Global, run: &Run, history: &History) -> Result<bool, Rec
 /// Makes the steps of a run, up to the first behind which an image doesn't recover; that step, or
 /// none, and how many calls of the device there were. Images are tried behind each step that fails,
 /// and at the end.
-fn first_wrong(alloc: Global, failing: &[u64], tearing: usize) -> Result<(Option<u64>, u64), RecoveryFault> {
+fn first_wrong(
+    alloc: Global,
+    failing: &[u64],
+    tearing: usize,
+) -> Result<(Option<u64>, u64), RecoveryFault> {
     let Some(mut run) = Run::open(alloc, 16, disk(alloc, failing, tearing)?)? else {
         return Ok((Some(0), 0));
     };

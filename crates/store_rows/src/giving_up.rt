@@ -7,10 +7,7 @@ use crate::running::Answer::{Barred, Done, Fault};
 use std::test::Fail;
 
 /// Two sectors.
-const TWO: [Watch; 2] = [
-    Watch(S0, 0, 512),
-    Watch(S1, 0, 512),
-];
+const TWO: [Watch; 2] = [Watch(S0, 0, 512), Watch(S1, 0, 512)];
 
 const FIRST: Step = Change(S0, 0, 512, 0x22);
 
@@ -184,10 +181,7 @@ fn what_is_given_up_is_undone(rt: HostRuntime) -> Result<(), Fail> {
 }
 
 /// An index block, and a sector in it, which is the device's where it is shadowed.
-const RIVALS: [Watch; 2] = [
-    Watch(X, 0x40, 4032),
-    Watch(IN_X, 0, 500),
-];
+const RIVALS: [Watch; 2] = [Watch(X, 0x40, 4032), Watch(IN_X, 0, 500)];
 
 const STALE: Step = Change(IN_X, 0, 512, 0x33);
 

@@ -1,9 +1,9 @@
 //! What recovery makes of the images that a crash may leave.
 use crate::disk::place;
-use device_view::{DeviceView, piece_room};
 use block_view::{View, ViewFault};
+use device_view::{DeviceView, piece_room};
 use disk_model::{Block, Body};
-use log_recovery::{RecoveredView, recover_view, RecoveryFault, places_of};
+use log_recovery::{RecoveredView, RecoveryFault, places_of, recover_view};
 use sector_device::{KeptCall, MemoryDevice};
 use std::alloc::{AllocError, Global};
 
@@ -26,7 +26,11 @@ fn unsynced(device: &MemoryDevice) -> usize {
     let mut count: usize = 0;
     for call in device.done.iter() {
         match call {
-            KeptCall::Write { at: _, first: _, old } => {
+            KeptCall::Write {
+                at: _,
+                first: _,
+                old,
+            } => {
                 count = count.saturating_add(old.as_slice().len() / 512);
             }
             KeptCall::Sync { at: _ } => count = 0,
@@ -92,7 +96,11 @@ fn push(all: &mut Vec<Sight>, sight: Sight) -> Result<(), AllocError> {
 }
 
 /// What is seen of a view.
-fn sights<V: View>(alloc: Global, view: &mut V, watched: &[Watch]) -> Result<Vec<Sight>, RecoveryFault> {
+fn sights<V: View>(
+    alloc: Global,
+    view: &mut V,
+    watched: &[Watch],
+) -> Result<Vec<Sight>, RecoveryFault> {
     let mut all = Vec::new(alloc);
     let mut body = Body::empty(alloc)?;
     for Watch(block, at, count) in watched {
@@ -103,7 +111,12 @@ fn sights<V: View>(alloc: Global, view: &mut V, watched: &[Watch]) -> Result<Vec
 }
 
 /// What is seen of an image once it is recovered, by a log of so many pages; or why it is refused.
-fn recovered(alloc: Global, pages: u32, image: Vec<u8>, watched: &[Watch]) -> Result<Vec<Sight>, RecoveryFault> {
+fn recovered(
+    alloc: Global,
+    pages: u32,
+    image: Vec<u8>,
+    watched: &[Watch],
+) -> Result<Vec<Sight>, RecoveryFault> {
     if image.len() % 512 != 0 {
         return Ok(Vec::new(alloc));
     }
@@ -118,13 +131,25 @@ fn recovered(alloc: Global, pages: u32, image: Vec<u8>, watched: &[Watch]) -> Re
 }
 
 /// What is seen of the image by these flags, once it is recovered.
-pub fn left_by(alloc: Global, pages: u32, device: &MemoryDevice, take: &[bool], watched: &[Watch]) -> Result<Vec<Sight>, RecoveryFault> {
+pub fn left_by(
+    alloc: Global,
+    pages: u32,
+    device: &MemoryDevice,
+    take: &[bool],
+    watched: &[Watch],
+) -> Result<Vec<Sight>, RecoveryFault> {
     let image = device.left_by(alloc, device.done.len(), take)?;
     recovered(alloc, pages, image, watched)
 }
 
 /// What is seen of some images by a seed.
-pub fn left_by_seed(alloc: Global, pages: u32, device: &MemoryDevice, count: u64, watched: &[Watch]) -> Result<Vec<Vec<Sight>>, RecoveryFault> {
+pub fn left_by_seed(
+    alloc: Global,
+    pages: u32,
+    device: &MemoryDevice,
+    count: u64,
+    watched: &[Watch],
+) -> Result<Vec<Vec<Sight>>, RecoveryFault> {
     let mut all = Vec::new(alloc);
     for seed in 0..count {
         let flags = flags_by(alloc, unsynced(device), seed)?;
@@ -145,7 +170,12 @@ fn put(all: &mut Vec<Vec<Sight>>, sights: Vec<Sight>) -> Result<(), AllocError> 
 }
 
 /// What is seen of each image that a crash may leave now: each outcome once.
-pub fn left(alloc: Global, pages: u32, device: &MemoryDevice, watched: &[Watch]) -> Result<Vec<Vec<Sight>>, RecoveryFault> {
+pub fn left(
+    alloc: Global,
+    pages: u32,
+    device: &MemoryDevice,
+    watched: &[Watch],
+) -> Result<Vec<Vec<Sight>>, RecoveryFault> {
     let count = unsynced(device);
     if FEW < count {
         return left_by_seed(alloc, pages, device, MANY, watched);

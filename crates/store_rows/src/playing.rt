@@ -42,7 +42,13 @@ pub fn make(alloc: Global, run: &mut Run, step: Step) -> Result<Answer, AllocErr
 pub type Outcome = (Option<usize>, u64, u64, Vec<Vec<Sight>>);
 
 /// Makes the steps.
-pub fn play(alloc: Global, pages: u32, run: &mut Run, steps: &[(Step, Answer)], watched: &[Watch]) -> Result<Outcome, RecoveryFault> {
+pub fn play(
+    alloc: Global,
+    pages: u32,
+    run: &mut Run,
+    steps: &[(Step, Answer)],
+    watched: &[Watch],
+) -> Result<Outcome, RecoveryFault> {
     let mut wrong = None;
     for (number, row) in steps.iter().enumerate() {
         let found = make(alloc, run, row.0)?;
@@ -94,7 +100,12 @@ pub enum Differs {
 }
 
 /// The first thing that differs of a row, by a log of so many pages.
-pub fn first_wrong(alloc: Global, pages: u32, row: &Row, watched: &[Watch]) -> Result<Option<Differs>, RecoveryFault> {
+pub fn first_wrong(
+    alloc: Global,
+    pages: u32,
+    row: &Row,
+    watched: &[Watch],
+) -> Result<Option<Differs>, RecoveryFault> {
     let device = disk(alloc, row.failing, row.tearing)?;
     let Some(mut run) = Run::open(alloc, pages, device)? else {
         return Ok(Some(Differs::Opening));

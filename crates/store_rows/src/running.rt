@@ -95,11 +95,7 @@ fn change_of(alloc: Global, block: Block, at: usize, new: &[u8]) -> Result<Chang
 
 impl Run {
     /// A store whose log has so many pages and no entry, on this device, which is synced.
-    pub fn open(
-        alloc: Global,
-        pages: u32,
-        memory: MemoryDevice,
-    ) -> Result<Option<Run>, ViewFault> {
+    pub fn open(alloc: Global, pages: u32, memory: MemoryDevice) -> Result<Option<Run>, ViewFault> {
         let place = place(alloc, pages)?;
         let mut device = BlindDevice { device: memory };
         if !is_ring_place(alloc, &place)? || device.sectors() < place.device {

@@ -1,4 +1,4 @@
-use Rattle.std.proofs.Common.{◌≡◌, List, []  , ◌∷◌, length, get_or, true, inl, inr, arith}
+use Rattle.std.proofs.Common.{◌≡◌, List, [], ◌∷◌, length, get_or, true, inl, inr, arith}
 use Rattle.std.proofs.lemmas.Bool.{ltb-true}
 use Rattle.log_page.specs.declared.places.Extent.{Extent}
 use Rattle.store_rows.proofs.Beside.{lone}
