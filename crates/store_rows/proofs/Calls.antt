@@ -12,7 +12,6 @@ use Rattle.log_model.specs.declared.entry.Act.TheVariants.{Commit}
 use Rattle.log_model.specs.Logs.{is_in_grid}
 use Rattle.log_area.specs.Areas.{LogAreaOf, is_filling, appended}
 use Rattle.store_model.specs.Volumes.{is_free}
-use Rattle.block_view.specs.declared.fault.ViewFault.{ViewFault}
 use Rattle.device_blocks.specs.declared.word.CheckWord.{CheckWord}
 use Rattle.device_blocks.specs.declared.word.CheckWord.TheVariants.{Unread, Missing, Stands, Sent}
 use Rattle.txn_model.specs.Values.{StoreFacts, own_of}
@@ -23,6 +22,7 @@ use Rattle.txn_laws.proofs.Syncs.{and_left}
 use Rattle.txn_log.specs.Laws.{IsFilled, HasRoom, IsLogged, acts_of, PagesAreEnough}
 use Rattle.txn_log.proofs.Rooms.{step}
 use Rattle.txn_log.proofs.Sharing.{same_self}
+use Rattle.txn_core.specs.declared.fault.ChangeFault.{ChangeFault}
 use Rattle.txn_core.specs.Calls.{page_facts, sync_facts, out_facts}
 use Rattle.txn_core.specs.Changes.{MayChangeNow, HasChanged}
 use Rattle.store_rows.specs.Running.{IsRunning, MayBegin, MayMake, change_of, pages_of_changes}
@@ -149,6 +149,6 @@ changed_running f g c at new x enough make r k is =
       lap = log_lap f.log f.tx f.last (change_acts f c at new x) ∙ r.lap;
     })
 
-pub running_changed : (result : Result (Unit {0}) ViewFault) (f g : StoreFacts) (c : Block) (at : ℕ) (new : List ℕ) → PagesAreEnough → MayMake f c at new → IsRunning f → IsStore g → HasChanged result None f g c at new → IsRunning g
+pub running_changed : (result : Result (Unit {0}) ChangeFault) (f g : StoreFacts) (c : Block) (at : ℕ) (new : List ℕ) → PagesAreEnough → MayMake f c at new → IsRunning f → IsStore g → HasChanged result None f g c at new → IsRunning g
 running_changed (Ok u) f g c at new enough make r k done = changed_running f g c at new done.0 enough make r k done.2
 running_changed (Err e) f g c at new enough make r k done = running_given_up f g done r

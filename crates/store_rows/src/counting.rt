@@ -42,6 +42,21 @@ fn is_committed(
     Ok(true)
 }
 
+/// Commits so many of them; whether each went well.
+fn are_committed(
+    alloc: Global,
+    run: &mut Run,
+    count: u64,
+    bytes: usize,
+) -> Result<bool, AllocError> {
+    for number in 0..count {
+        if !is_committed(alloc, run, number, bytes)? {
+            return Ok(false);
+        }
+    }
+    Ok(true)
+}
+
 /// The pages that are told of the changes of so many sectors, and those that are used by as many
 /// transactions; none where one of them isn't made.
 fn pages(alloc: Global, count: u64, bytes: usize) -> Result<Option<(u64, u64)>, ViewFault> {
@@ -52,10 +67,8 @@ fn pages(alloc: Global, count: u64, bytes: usize) -> Result<Option<(u64, u64)>, 
         return Ok(None);
     };
     let room = run.state().log().room();
-    for number in 0..count {
-        if !is_committed(alloc, &mut run, number, bytes)? {
-            return Ok(None);
-        }
+    if !are_committed(alloc, &mut run, count, bytes)? {
+        return Ok(None);
     }
     Ok(Some((told, room.saturating_sub(run.state().log().room()))))
 }

@@ -16,7 +16,7 @@ const WATCHED: [Watch; 4] = [
 ];
 
 /// So many images are tried by a seed at each place.
-const IMAGES: u64 = 6;
+const IMAGES: u64 = 4;
 
 /// What the blocks hold.
 type Held = [Sight; 4];
@@ -82,7 +82,7 @@ fn follow(history: &mut History, number: u64, answer: Answer) -> Result<(), Allo
             let block = (number / 10 + number % 10 - 1) % 4;
             history.present[block as usize] = Some((0x40 + number % 64) as u8);
         }
-        (1 | 2, Answer::Fault | Answer::Memory) => history.present = newest,
+        (1 | 2, Answer::Fault | Answer::Memory | Answer::Unspelled) => history.present = newest,
         (3, Answer::Done) => keep(history)?,
         _ => {}
     }
@@ -111,9 +111,24 @@ fn is_recovered(alloc: Global, run: &Run, history: &History) -> Result<bool, Rec
     Ok(are_contents(history, run.state().durable(), &seen))
 }
 
+/// Makes a step, and tells whether an image doesn't recover behind it. Images are tried behind each
+/// step that fails, and behind the last one.
+fn goes_wrong(
+    alloc: Global,
+    run: &mut Run,
+    history: &mut History,
+    number: u64,
+) -> Result<bool, RecoveryFault> {
+    let answer = make(alloc, run, step_of(number))?;
+    follow(history, number, answer)?;
+    if answer != Answer::Fault && number != 59 {
+        return Ok(false);
+    }
+    Ok(!is_recovered(alloc, run, history)?)
+}
+
 /// Makes the steps of a run, up to the first behind which an image doesn't recover; that step, or
-/// none, and how many calls of the device there were. Images are tried behind each step that fails,
-/// and at the end.
+/// none, and how many calls of the device there were.
 fn first_wrong(
     alloc: Global,
     failing: &[u64],
@@ -128,10 +143,7 @@ fn first_wrong(
     };
     keep(&mut history)?;
     for number in 0..60 {
-        let answer = make(alloc, &mut run, step_of(number))?;
-        follow(&mut history, number, answer)?;
-        let is_last = number == 59;
-        if (answer == Answer::Fault || is_last) && !is_recovered(alloc, &run, &history)? {
+        if goes_wrong(alloc, &mut run, &mut history, number)? {
             return Ok((Some(number), run.memory().calls));
         }
     }

@@ -17,9 +17,9 @@ pub type Sight = Option<u8>;
 
 /// All images are tried up to so many sectors that aren't synced, and of more than those so many that
 /// a seed chooses.
-const FEW: usize = 8;
+const FEW: usize = 4;
 
-const MANY: u64 = 200;
+const MANY: u64 = 34;
 
 /// How many sectors were written since the last sync that succeeded.
 fn unsynced(device: &MemoryDevice) -> usize {
@@ -59,14 +59,15 @@ fn flags_of(alloc: Global, count: usize, number: u64) -> Result<Vec<bool>, Alloc
     Ok(flags)
 }
 
-/// So many flags by a generator, of which a part is set that the seed chooses too.
+/// So many flags by a seed, which tells how many sixteenths of them are set: the first of 17 seeds
+/// sets none, and the fourth all.
 fn flags_by(alloc: Global, count: usize, seed: u64) -> Result<Vec<bool>, AllocError> {
     let mut flags = Vec::new(alloc);
     let mut state = next(next(seed));
-    let part = state >> 60;
+    let part = seed.wrapping_mul(11) % 17;
     for _ in 0..count {
         state = next(state);
-        flags.push(state >> 60 <= part)?;
+        flags.push(state >> 60 < part)?;
     }
     Ok(flags)
 }

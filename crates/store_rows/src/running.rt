@@ -21,7 +21,7 @@ use log_reading::is_ring_place;
 use sector_device::{Device, MemoryDevice};
 use std::alloc::{AllocError, Global};
 use std::marker::Model;
-use txn_core::{Store, open_log};
+use txn_core::{ChangeFault, Store, open_log};
 use txn_log::pages_are_enough;
 use txn_state::StoreState;
 
@@ -49,6 +49,7 @@ pub enum Answer {
     Barred,
     Fault,
     Memory,
+    Unspelled,
 }
 
 fn told(done: Result<(), Failed>) -> Answer {
@@ -175,8 +176,9 @@ impl Run {
         pages_are_enough();
         let answer = match self.store.change(alloc, block, at, new) {
             Ok(()) => Answer::Done,
-            Err(ViewFault::Fault) => Answer::Fault,
-            Err(ViewFault::Memory) => Answer::Memory,
+            Err(ChangeFault::Fault) => Answer::Fault,
+            Err(ChangeFault::Memory) => Answer::Memory,
+            Err(ChangeFault::Unspelled) => Answer::Unspelled,
         };
         self.store.state().known();
         Ok(answer)
