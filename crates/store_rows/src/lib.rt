@@ -1,7 +1,6 @@
 //! Rows of inputs and answers of a store of blocks: commits before and after their pages are
-//! durable, write-outs that are cut, give-ups, rivals, pages that are counted, and device calls that
-//! fail in turn; each with what recovery makes of the images that a crash may leave. The crate has
-//! tests and what they share, and no more.
+//! durable, write-outs that are cut, give-ups and rivals; each with what recovery makes of the
+//! images that a crash may leave. The crate has tests and what they share, and no more.
 #![tactic(auto)]
 
 #[cfg(test)]
@@ -11,11 +10,7 @@ mod committing;
 #[cfg(test)]
 mod conditions;
 #[cfg(test)]
-mod counting;
-#[cfg(test)]
 mod disk;
-#[cfg(test)]
-mod failing;
 #[cfg(test)]
 mod giving_up;
 #[cfg(test)]
