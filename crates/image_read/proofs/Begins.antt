@@ -8,9 +8,10 @@ use Rattle.disk_model.specs.Content.{Content}
 use Rattle.file_tree.specs.declared.journal.Usn.{Usn}
 use Rattle.state_model.specs.declared.stream.Extents.{Extents}
 use Rattle.state_model.specs.Streams.{byte_at}
+use Rattle.disk_model.specs.Bytes.{all_zeros}
 use Rattle.journal_model.specs.declared.fault.UsnFault.{UsnFault}
 use Rattle.journal_model.specs.declared.fault.UsnFault.TheVariants.{Cut, Shape}
-use Rattle.journal_model.specs.UsnRecords.{is_whole, is_length, own_bytes, all_zeros, is_usn, usn_of, entry_in, usn_in, known_version}
+use Rattle.journal_model.specs.UsnRecords.{is_whole, is_length, own_bytes, is_usn, usn_of, entry_in, usn_in, known_version}
 use Rattle.journal_model.specs.Pages.{with_entry, records_in, records_of}
 use Rattle.journal_model.specs.Journals.{bytes_between, placed, joined, page_entries, page_from, page_to, journal_from, journal_in}
 use Rattle.journal_model.proofs.UsnRead.{sound_parts}

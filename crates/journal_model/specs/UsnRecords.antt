@@ -3,13 +3,12 @@
 -- 34 attributes, 38 bytes of the name, 3A offset of the name, 3C name, and zeros up to a multiple of 8.
 use Rattle.std.specs.Prelude.{◌≡◌, ◌≢◌, ℕ, ◌+◌, ◌-◌, ◌*◌, ◌/◌, ◌%◌, ◌^◌, ◌<◌, ◌≤◌, ◌==◌, ◌&&◌, nat_le, if◌then◌else◌, Bool, List, ◌++◌, length, take, drop, is_ok, Option, Some, None, Result, Ok, FitsSigned}
 use Rattle.std.specs.Int.{w64, cast_signed, cast_unsigned}
-use Rattle.std.specs.List.{list_all}
 use Rattle.host_base.specs.Answers.{Cause, refused, no_memory, ◌>>=◌, needs}
 use Rattle.host_base.specs.FileRefs.{packed, unpacked}
 use Rattle.utf16_name.specs.Lawful.{IsName}
 use Rattle.utf16_name.specs.Names.{name_of}
 use Rattle.disk_model.specs.Numbers.{field, spell}
-use Rattle.disk_model.specs.Bytes.{zeros, up8}
+use Rattle.disk_model.specs.Bytes.{zeros, all_zeros, up8}
 use Rattle.record_model.specs.Attributes.{units_at, unit_bytes, filled}
 use Rattle.file_tree.specs.declared.journal.Usn.{Usn}
 use Rattle.journal_model.specs.declared.fault.UsnFault.{UsnFault}
@@ -42,9 +41,6 @@ is_length n = nat_le 8 n && n % 8 == 0
 -- as many bytes as the length says
 abbrev pub own_bytes : List ℕ → List ℕ
 own_bytes bytes = take (field 0x00 4 bytes) bytes
-
-unfoldable pub all_zeros : List ℕ → Bool
-all_zeros bytes = list_all (λ b. b == 0) bytes
 
 -- the name's units, and what stands behind them
 unfoldable pub name_units : List ℕ → List ℕ

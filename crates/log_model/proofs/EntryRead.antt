@@ -6,13 +6,13 @@ use Rattle.std.proofs.lemmas.Bool.{and_parts, and_from, eqb-true, eq-eqb, le-leb
 use Rattle.std.proofs.lemmas.List.{length-take-le, length-drop, drop-take}
 use Rattle.host_base.specs.Answers.{◌>>=◌, needs}
 use Rattle.disk_model.specs.Numbers.{field}
-use Rattle.disk_model.specs.Bytes.{part, zeros, up8}
+use Rattle.disk_model.specs.Bytes.{part, zeros, up8, all_zeros}
 use Rattle.log_model.specs.declared.entry.Entry.{Entry}
 use Rattle.log_model.specs.declared.entry.Act.{Act}
 use Rattle.log_model.specs.declared.entry.Act.TheVariants.{Commit}
 use Rattle.log_model.specs.declared.fault.EntryFault.{EntryFault}
 use Rattle.log_model.specs.declared.fault.EntryFault.TheVariants.{Shape}
-use Rattle.log_model.specs.Entries.{update_operation, most_bytes, head_size, update_size, said_size, is_sized, front_fits, transaction_fits, lengths_fit, is_placed, target_fits, cluster_fits, all_zeros, is_filled, bytes_fit, update_fits, no_lengths, no_place, commit_fits, act_at, entry_at, IsPlaced}
+use Rattle.log_model.specs.Entries.{update_operation, most_bytes, head_size, update_size, said_size, is_sized, front_fits, transaction_fits, lengths_fit, is_placed, target_fits, cluster_fits, is_filled, bytes_fit, update_fits, no_lengths, no_place, commit_fits, act_at, entry_at, IsPlaced}
 use Rattle.log_model.proofs.Passing.{first_passed, step_passed, two_passed, three_passed, four_passed, five_passed, two_pass, three_pass, four_pass, five_pass, two_steps, four_steps}
 
 -- ---- zeros, and parts of a front

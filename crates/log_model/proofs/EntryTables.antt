@@ -4,12 +4,12 @@ use Rattle.std.specs.Prelude.{◌==◌}
 use Rattle.std.proofs.lemmas.Bool.{eqb-true, eq-eqb}
 use Rattle.std.proofs.lemmas.List.{length-take-le}
 use Rattle.disk_model.specs.Numbers.{field}
-use Rattle.disk_model.specs.Bytes.{AreBytes, part, zeros, up8}
+use Rattle.disk_model.specs.Bytes.{AreBytes, part, zeros, up8, all_zeros}
 use Rattle.disk_model.proofs.Fields.{field-take, field-lt}
 use Rattle.log_model.specs.declared.entry.Entry.{Entry}
 use Rattle.log_model.specs.declared.entry.Act.{Act}
 use Rattle.log_model.specs.declared.entry.Act.TheVariants.{Update, Commit}
-use Rattle.log_model.specs.Entries.{update_operation, commit_operation, head_size, update_size, said_size, is_placed, all_zeros, is_filled, update_fits, commit_fits, update_of, act_at, entry_at, IsPlaced, IsUpdate, IsCommit, IsAct, IsEntry, act_size, entry_size, FitsAct, FitsEntry}
+use Rattle.log_model.specs.Entries.{update_operation, commit_operation, head_size, update_size, said_size, is_placed, is_filled, update_fits, commit_fits, update_of, act_at, entry_at, IsPlaced, IsUpdate, IsCommit, IsAct, IsEntry, act_size, entry_size, FitsAct, FitsEntry}
 use Rattle.log_model.specs.EntryLaws.{BeginsEntry}
 use Rattle.log_model.proofs.EntryRead.{zeros_from_test, zeros_pass, part-take, length-part, FrontParts, UpdateParts, CommitParts, placed_from_test, test_from_placed, small_kind, update_parts, update_from, commit_parts, commit_from, good, Chose, chose, chosen_update, chosen_commit, said_update, said_other, made, entry_parts, entry_from}
 

@@ -5,10 +5,9 @@
 -- 40 first byte in the body, 42 kind of block, 44 sector in the cluster, 46 zero, 48 VCN, 50 LCN, 58 redo bytes and then undo bytes, each with
 -- zeros up to a multiple of 8. The offsets at 34 and 38 count from 30. Bytes that no field names aren't looked at.
 use Rattle.std.specs.Prelude.{◌≡◌, ◌⊎◌, ℕ, ◌+◌, ◌-◌, ◌*◌, ◌/◌, ◌%◌, ◌^◌, ◌<◌, ◌≤◌, ◌==◌, ◌&&◌, nat_le, nat_lt, if◌then◌else◌, Bool, true, List, ◌++◌, length, Result, Ok, Err}
-use Rattle.std.specs.List.{list_all}
 use Rattle.host_base.specs.Answers.{Cause, refused, no_memory, ◌>>=◌, needs}
 use Rattle.disk_model.specs.Numbers.{field, spell}
-use Rattle.disk_model.specs.Bytes.{part, zeros, up8}
+use Rattle.disk_model.specs.Bytes.{part, zeros, all_zeros, up8}
 use Rattle.log_model.specs.declared.entry.Entry.{Entry}
 use Rattle.log_model.specs.declared.entry.Act.{Act}
 use Rattle.log_model.specs.declared.entry.Act.TheVariants.{Update, Commit}
@@ -92,9 +91,6 @@ cluster_fits s =
     keeps (field 0x46 2 s == 0) 0x46
     >>= λ _. keeps (field 0x48 8 s == 0) 0x48
     >>= λ _. keeps (nat_lt (field 0x50 8 s) (2 ^ 61)) 0x50
-
-unfoldable pub all_zeros : List ℕ → Bool
-all_zeros bytes = list_all (λ b. b == 0) bytes
 
 -- zeros stand between n bytes and the next multiple of 8
 abbrev pub is_filled : ℕ → ℕ → List ℕ → Bool

@@ -1,9 +1,9 @@
 ghost use Rattle.std.specs.Prelude.{◌≡◌, ◌+◌, ◌-◌, ◌*◌, ◌<◌, ◌≤◌, ◌^◌, length, OnOk};
 ghost use Rattle.disk_model.specs.Numbers.{field};
-ghost use Rattle.disk_model.specs.Bytes.{part, up8};
-ghost use Rattle.log_model.specs.Entries.{keeps, update_size, said_size, is_sized, front_fits, transaction_fits, lengths_fit, is_placed, target_fits, cluster_fits, all_zeros, is_filled, bytes_fit, update_fits, no_lengths, no_place, commit_fits};
+ghost use Rattle.disk_model.specs.Bytes.{part, up8, all_zeros};
+ghost use Rattle.log_model.specs.Entries.{keeps, update_size, said_size, is_sized, front_fits, transaction_fits, lengths_fit, is_placed, target_fits, cluster_fits, is_filled, bytes_fit, update_fits, no_lengths, no_place, commit_fits};
 
-use disk_model::{u16_at, u32_at, u64_at};
+use disk_model::{all_zeros, u16_at, u32_at, u64_at};
 use log_model::EntryFault;
 
 /// The redo operation of an update, and its undo operation.
@@ -184,13 +184,6 @@ fn check_cluster(entry: &[u8]) -> Result<(), EntryFault>
     keep(zero == 0, 0x46)?;
     keep(vcn == 0, 0x48)?;
     keep(lcn < LCN_END, 0x50)
-}
-
-#[tactic(auto, unfolding(log_model::specs::Entries::all_zeros))]
-fn all_zeros(bytes: &[u8]) -> bool
-    ensures { result ≡ all_zeros bytes.now }
-{
-    bytes.iter().all(|byte| *byte == 0)
 }
 
 // Whether zeros stand between `n` bytes and the next multiple of 8.

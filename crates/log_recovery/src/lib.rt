@@ -30,5 +30,5 @@ pub use log_reading::{LogRefusal, RecoveryFault};
 pub use places::{Places, places_of};
 pub use recovering::recover_entries;
 pub use view::RecoveredView;
-pub use whole::{Recovered, recover, recover_view};
+pub use whole::{Recovered, is_lap, recover, recover_view};
 pub use writing::{ToWrite, recover_to_write};

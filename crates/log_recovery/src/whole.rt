@@ -130,8 +130,9 @@ fn live_entries_in<V: View>(
     }
 }
 
-// Whether a number is below the limit of laps in a log of so many pages.
-fn is_lap(pages: u64, lap: u64) -> bool
+/// Whether a number is below the limit of laps in a log of so many pages: whether a page of that
+/// lap can be written.
+pub fn is_lap(pages: u64, lap: u64) -> bool
     requires pages { pages < 2 ^ 52 }
     requires wide { lap < 2 ^ 64 }
     ensures value { result ≡ nat_lt lap (2 ^ sequence_bits pages) }

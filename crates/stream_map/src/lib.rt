@@ -27,4 +27,4 @@ pub use list_step::Step;
 pub use places::{block_at, has_cut_block, is_hole};
 pub use record_model::ListEntry;
 pub use state_model::{Extents, Stream};
-pub use stream::{no_extents, real_size, stream_of};
+pub use stream::{no_extents, push_runs, real_size, runs_or, stream_of};

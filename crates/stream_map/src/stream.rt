@@ -11,8 +11,9 @@ use record_model::{Attr, OwnForm, PairsFault, Runs};
 use state_model::{Extents, Stream};
 use std::alloc::Global;
 
-/// The runs of mapping pairs, or none where these are at fault.
-fn runs_or(alloc: Global, first: u64, pairs: &[u8]) -> Result<Runs, Memory>
+/// The runs that mapping pairs spell from this first VCN on (Linux-NTFS documentation, "Data
+/// runs"), or none where the pairs are at fault. The error is want of memory; linear in the pairs.
+pub fn runs_or(alloc: Global, first: u64, pairs: &[u8]) -> Result<Runs, Memory>
     ensures { IfOk result (λ runs. runs ≡ runs_or (runs_of first pairs.now)) }
 {
     match mapping_pairs::read(alloc, pairs, first) {
@@ -24,7 +25,9 @@ fn runs_or(alloc: Global, first: u64, pairs: &[u8]) -> Result<Runs, Memory>
     }
 }
 
-fn push_runs(alloc: Global, out: &mut Runs, form: &OwnForm) -> Result<(), Memory>
+/// Puts an attribute's runs behind others: those of its mapping pairs, none where these are at
+/// fault or the attribute is resident. The error is want of memory; linear in the pairs.
+pub fn push_runs(alloc: Global, out: &mut Runs, form: &OwnForm) -> Result<(), Memory>
     ensures { OnOk result (out.new ≡ out.old ++ form_runs form.now) }
 {
     match form {

@@ -1,46 +1,20 @@
 //! The runs of a volume's files.
 ghost use Rattle.std.specs.Prelude.{◌≡◌, ◌++◌, IfOk, OnOk};
-ghost use Rattle.record_model.specs.Pairs.{runs_of};
 ghost use Rattle.std.specs.List.{flat_map};
-ghost use Rattle.state_model.specs.Streams.{runs_or, form_runs, attribute_runs};
+ghost use Rattle.state_model.specs.Streams.{attribute_runs};
 ghost use Rattle.volume_model.specs.Owners.{file_runs, volume_runs};
 
 use file_record::FileRec;
 use host_base::Memory;
-use record_model::{Attr, OwnForm, PairsFault, Runs};
+use record_model::{Attr, Runs};
 use std::alloc::Global;
-
-/// The runs of mapping pairs, or none where these are at fault.
-fn runs_or(alloc: Global, first: u64, pairs: &[u8]) -> Result<Runs, Memory>
-    ensures { IfOk result (λ runs. runs ≡ runs_or (runs_of first pairs.now)) }
-{
-    match mapping_pairs::read(alloc, pairs, first) {
-        Ok(runs) => Ok(runs),
-        Err(PairsFault::Memory) => Err(Memory),
-        Err(PairsFault::Header { .. }) => Ok(Runs::new(alloc)),
-        Err(PairsFault::Cut { .. }) => Ok(Runs::new(alloc)),
-        Err(PairsFault::Range { .. }) => Ok(Runs::new(alloc)),
-    }
-}
-
-fn push_form(alloc: Global, out: &mut Runs, form: &OwnForm) -> Result<(), Memory>
-    ensures { OnOk result (out.new ≡ out.old ++ form_runs form.now) }
-{
-    match form {
-        OwnForm::Resident { .. } => Ok(()),
-        OwnForm::Mapped { sizes, pairs } => {
-            let runs = runs_or(alloc, sizes.first, pairs.as_slice())?;
-            out.extend(&runs)?;
-            Ok(())
-        }
-    }
-}
+use stream_map::push_runs;
 
 fn push_attrs(alloc: Global, out: &mut Runs, attrs: &[Attr]) -> Result<(), Memory>
     ensures { OnOk result (out.new ≡ out.old ++ flat_map attribute_runs attrs.now) }
 {
     for attr in attrs {
-        push_form(alloc, out, &attr.form)?;
+        push_runs(alloc, out, &attr.form)?;
     }
     Ok(())
 }

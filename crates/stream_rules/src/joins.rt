@@ -1,15 +1,14 @@
 //! Attributes that leave no VCN out.
 ghost use Rattle.std.specs.Prelude.{◌≡◌, ◌+◌, ◌^◌, ◌≤◌, IfOk};
-ghost use Rattle.record_model.specs.Pairs.{runs_of};
-ghost use Rattle.state_model.specs.Streams.{runs_or, form_runs, attributes_of};
+ghost use Rattle.state_model.specs.Streams.{form_runs, attributes_of};
 ghost use Rattle.state_model.specs.Loads.{total_clusters};
 ghost use Rattle.stream_map.specs.Attributes.{behind};
 ghost use Rattle.volume_model.specs.Sizes.{follow, are_joined};
 
 use host_base::Memory;
-use record_model::{Attr, OwnForm, PairsFault, Run, Runs};
+use record_model::{Attr, OwnForm, Run};
 use std::alloc::Global;
-use stream_map::{attributes_of, first_vcn};
+use stream_map::{attributes_of, first_vcn, runs_or};
 
 /// How many clusters runs have, those of sparse ones among them; linear in the runs.
 pub fn total_clusters(runs: &[Run]) -> u128
@@ -21,19 +20,6 @@ pub fn total_clusters(runs: &[Run]) -> u128
         total += u128::from(run.len);
     }
     total
-}
-
-// The runs of mapping pairs, or none where these are at fault.
-fn runs_or(alloc: Global, first: u64, pairs: &[u8]) -> Result<Runs, Memory>
-    ensures { IfOk result (λ runs. runs ≡ runs_or (runs_of first pairs.now)) }
-{
-    match mapping_pairs::read(alloc, pairs, first) {
-        Ok(runs) => Ok(runs),
-        Err(PairsFault::Memory) => Err(Memory),
-        Err(PairsFault::Header { .. }) => Ok(Runs::new(alloc)),
-        Err(PairsFault::Cut { .. }) => Ok(Runs::new(alloc)),
-        Err(PairsFault::Range { .. }) => Ok(Runs::new(alloc)),
-    }
 }
 
 // How many clusters an attribute has.

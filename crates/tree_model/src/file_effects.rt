@@ -1,12 +1,11 @@
 //! What an operation on a file leaves of a tree.
-ghost use Rattle.std.specs.Prelude.{◌≡◌, ◌<◌, ◌≤◌, ◌+◌, ◌-◌, ◌^◌, [], ◌∷◌, ◌++◌, None, List, ℕ, not, ◌==◌, filter, length, take, drop, replicate, IfOk};
+ghost use Rattle.std.specs.Prelude.{◌≡◌, ◌<◌, ◌-◌, None, ℕ, not, ◌==◌, filter, IfOk};
 ghost use Rattle.file_tree.specs.declared.node.Node.{Node as the_node};
 ghost use Rattle.file_tree.specs.Trees.{node_at};
-ghost use Rattle.tree_model.specs.Effects.{with_node, changed_node, renewed, new_file, put_at, zeros_up_to, bytes_after, valid_after, lesser_ref, least_ref, new_link};
-ghost use Rattle.tree_model.specs.Steps.{IsWithinBounds};
+ghost use Rattle.tree_model.specs.Effects.{with_node, changed_node, renewed, new_file, lesser_ref, least_ref};
 
 use crate::script::Op;
-use file_tree::{Bytes, FileRef, Kind, Link, Node, NodeList};
+use file_tree::{Bytes, FileRef, Kind, Node, NodeList};
 use std::alloc::{AllocError, Global};
 
 /// A node with these bytes and sizes, changed at this time.

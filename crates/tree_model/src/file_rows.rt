@@ -1,10 +1,10 @@
 //! What refuses an operation on a file.
-ghost use Rattle.std.specs.Prelude.{◌≡◌, ◌<◌, ◌≤◌, ◌^◌, ◌+◌, [], true, false, None, length, IfOk, IfSome, IfNone};
+ghost use Rattle.std.specs.Prelude.{◌≡◌, ◌<◌, ◌≤◌, ◌+◌, [], true, false, None, length, IfOk, IfSome, IfNone};
 ghost use Rattle.utf16_name.specs.Names.{name_fault};
 ghost use Rattle.tree_model.specs.Needs.{changes_file, needed};
 ghost use Rattle.file_tree.specs.Trees.{is_directory_kind};
 ghost use Rattle.file_tree.specs.declared.node.Node.{Node as the_node};
-ghost use Rattle.tree_model.specs.Refusals.{is_dots, new_name, parent_path, is_bad_new_path, parent_of, is_in_system, is_system_kind, is_system_node, fixed_names, fixed_bytes, has_same_name, written_from, written_to, too_long, table_full, most_records, more_records, no_space, first_of, change_rows, create_rows};
+ghost use Rattle.tree_model.specs.Refusals.{is_dots, new_name, parent_path, is_bad_new_path, parent_of, is_in_system, is_system_kind, is_system_node, fixed_names, has_same_name, written_from, written_to, too_long, table_full, most_records, more_records, no_space, first_of, change_rows, create_rows};
 ghost use Rattle.tree_model.specs.Steps.{IsWithinBounds, is_given_up};
 ghost use Rattle.tree_model.specs.declared.script.Op.TheVariants.{Create};
 

@@ -1,5 +1,5 @@
 //! Steps of operations on files, on plain lists.
-ghost use Rattle.std.specs.Prelude.{◌≡◌, ◌≢◌, ◌<◌, ◌≤◌, ◌^◌, ◌∷◌, [], true, false, None, IfOk, List, ℕ};
+ghost use Rattle.std.specs.Prelude.{◌≡◌, ◌<◌, ◌≤◌, ◌∷◌, [], true, false, None, IfOk};
 ghost use Rattle.tree_model.specs.Needs.{changes_file, needed, clusters_for};
 ghost use Rattle.tree_model.specs.Refusals.{first_of, from_there, change_rows};
 ghost use Rattle.tree_model.specs.Effects.{HasChanged, clusters_after};

@@ -1,5 +1,5 @@
 //! Steps that make a file, on plain lists.
-ghost use Rattle.std.specs.Prelude.{◌≡◌, ◌+◌, ◌<◌, ◌≤◌, ◌^◌, ◌∷◌, [], ◌==◌, true, false, not, None, Some, IfOk, IsSomeAnd, List, ℕ, length, filter, if◌then◌else◌};
+ghost use Rattle.std.specs.Prelude.{◌≡◌, ◌+◌, ◌<◌, ◌≤◌, ◌^◌, ◌∷◌, [], ◌==◌, false, not, None, Some, IfOk, IsSomeAnd, List, ℕ, length, filter, if◌then◌else◌};
 ghost use Rattle.std.specs.List.Sorted.{IsPermutation};
 ghost use Rattle.host_base.specs.declared.file_ref.FileRef.{FileRef as the_ref};
 ghost use Rattle.utf16_name.specs.Names.{name_fault};

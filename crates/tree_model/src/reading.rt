@@ -1,5 +1,5 @@
 //! What a read of a node's bytes is answered.
-ghost use Rattle.std.specs.Prelude.{◌≡◌, ◌≤◌, false, length, List, IfOk, IfSome};
+ghost use Rattle.std.specs.Prelude.{◌≡◌, false, length, List, IfOk, IfSome};
 ghost use Rattle.file_tree.specs.declared.node.Node.{Node as the_node};
 ghost use Rattle.file_tree.specs.declared.link.Link.{Link as the_link};
 ghost use Rattle.tree_model.specs.Fronts.{front_of, count_read, bytes_read};

@@ -1,5 +1,4 @@
 ghost use Rattle.std.specs.Prelude.{◌≡◌, true, ◌≢◌, ◌<◌, ◌^◌, ◌+◌, List, IfOk, length};
-ghost use Rattle.std.specs.List.{list_any};
 ghost use Rattle.host_base.specs.Answers.{Gives};
 ghost use Rattle.file_tree.specs.Trees.{is_directory, is_directory_kind};
 ghost use Rattle.file_tree.specs.declared.node.Node.{Node as the_node};
@@ -7,7 +6,7 @@ ghost use Rattle.file_tree.specs.declared.link.Link.{Link as the_link};
 ghost use Rattle.tree_model.specs.Fronts.{bytes_read};
 ghost use Rattle.tree_model.specs.Refusals.{first_of, read_rows};
 ghost use Rattle.tree_model.specs.Walks.{entered, reached, reached_directory};
-ghost use Rattle.file_tree.specs.Walks.{is_bad_part, has_bad_part};
+ghost use Rattle.file_tree.specs.Walks.{has_bad_part};
 ghost use Rattle.tree_model.specs.Steps.{is_look, stat_of, reply_cause, Lists, Replies, RepliesBy, IsWithinBounds, HasStep, IsStep};
 
 use crate::filing::change;

@@ -7,9 +7,10 @@ use Rattle.std.proofs.lemmas.List.FromFn.{length-map-range_with_len}
 use Rattle.host_base.specs.Answers.{◌>>=◌, needs}
 use Rattle.disk_model.specs.Numbers.{field}
 use Rattle.file_tree.specs.declared.journal.Usn.{Usn}
+use Rattle.disk_model.specs.Bytes.{all_zeros}
 use Rattle.journal_model.specs.declared.fault.UsnFault.{UsnFault}
 use Rattle.journal_model.specs.declared.fault.UsnFault.TheVariants.{Cut, Shape}
-use Rattle.journal_model.specs.UsnRecords.{is_whole, is_length, own_bytes, all_zeros, is_usn, usn_of, entry_in, usn_in, known_version, page_rest}
+use Rattle.journal_model.specs.UsnRecords.{is_whole, is_length, own_bytes, is_usn, usn_of, entry_in, usn_in, known_version, page_rest}
 use Rattle.journal_model.specs.Pages.{with_entry, records_in, records_of, page_records}
 use Rattle.journal_model.specs.Journals.{bytes_between, placed, page_entries}
 use Rattle.journal_model.proofs.UsnRead.{sound_parts, length-name_units, found_length}

@@ -4,7 +4,8 @@ use Rattle.std.specs.Prelude.{◌==◌, ◌&&◌, ◌||◌, nat_le}
 use Rattle.std.proofs.lemmas.Bool.{and_parts, eq-eqb, ne_eqb}
 use Rattle.std.proofs.lemmas.Bool.Decides.{nat_tests}
 use Rattle.disk_model.specs.Numbers.{field}
-use Rattle.journal_model.specs.UsnRecords.{is_whole, all_zeros}
+use Rattle.disk_model.specs.Bytes.{all_zeros}
+use Rattle.journal_model.specs.UsnRecords.{is_whole}
 use Rattle.journal_model.specs.Pages.{ends_in_record}
 
 is_below : (a b : ℕ) → nat_le a b ≡ true → a ≤ b

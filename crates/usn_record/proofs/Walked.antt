@@ -3,9 +3,10 @@ use Rattle.std.proofs.Common.{◌≡◌, ℕ, ◌+◌, true, false, List, [], �
 use Rattle.std.proofs.lemmas.List.{append-nil}
 use Rattle.host_base.specs.Answers.{◌>>=◌, Explains}
 use Rattle.file_tree.specs.declared.journal.Usn.{Usn}
+use Rattle.disk_model.specs.Bytes.{all_zeros}
 use Rattle.journal_model.specs.declared.fault.UsnFault.{UsnFault}
 use Rattle.journal_model.specs.declared.fault.UsnFault.TheVariants.{Cut, Shape, Memory}
-use Rattle.journal_model.specs.UsnRecords.{usn_cause, page_rest, all_zeros, usn_in}
+use Rattle.journal_model.specs.UsnRecords.{usn_cause, page_rest, usn_in}
 use Rattle.journal_model.specs.Pages.{with_entry, records_of, page_records}
 use Rattle.journal_model.proofs.PageRead.{records_end, records_next, records_fault}
 use Rattle.usn_record.specs.Checking.{length_in, page_check, listed}

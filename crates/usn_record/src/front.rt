@@ -1,7 +1,7 @@
 ghost use Rattle.std.specs.Prelude.{◌≡◌, ◌<◌, ◌≤◌, ◌^◌, true, length, take};
 ghost use Rattle.disk_model.specs.Numbers.{field};
-ghost use Rattle.disk_model.specs.Bytes.{up8};
-ghost use Rattle.journal_model.specs.UsnRecords.{page_size, page_rest, is_whole, is_length, all_zeros};
+ghost use Rattle.disk_model.specs.Bytes.{up8, all_zeros};
+ghost use Rattle.journal_model.specs.UsnRecords.{page_size, page_rest, is_whole, is_length};
 
 use disk_model::u32_at;
 
@@ -57,14 +57,6 @@ pub fn is_length(length: u32) -> bool
     ensures { result ≡ is_length length }
 {
     length >= 8 && length % 8 == 0
-}
-
-/// Whether the bytes are zeros.
-#[tactic(auto, unfolding(journal_model::specs::UsnRecords::all_zeros))]
-pub fn all_zeros(bytes: &[u8]) -> bool
-    ensures { result ≡ all_zeros bytes.now }
-{
-    bytes.iter().all(|byte| *byte == 0)
 }
 
 /// The least multiple of 8 that isn't below n.

@@ -2,11 +2,12 @@ ghost use Rattle.std.specs.Prelude.{◌≡◌, ◌≢◌, ◌==◌, ◌&&◌, no
 ghost use Rattle.host_base.specs.Answers.{Gives};
 ghost use Rattle.utf16_name.specs.Names.{is_bad_unit, name_of};
 ghost use Rattle.disk_model.specs.Numbers.{field};
-ghost use Rattle.journal_model.specs.UsnRecords.{usn_cause, known_version, all_zeros, name_units, padding, has_layout, is_usn};
+ghost use Rattle.disk_model.specs.Bytes.{all_zeros};
+ghost use Rattle.journal_model.specs.UsnRecords.{usn_cause, known_version, name_units, padding, has_layout, is_usn};
 ghost use Rattle.usn_record.specs.Checking.{length_in};
 
-use crate::front::{HEAD, KNOWN_VERSION, all_zeros, is_length, is_whole, up8};
-use disk_model::{u16_at, u32_at, u64_at};
+use crate::front::{HEAD, KNOWN_VERSION, is_length, is_whole, up8};
+use disk_model::{all_zeros, u16_at, u32_at, u64_at};
 use journal_model::UsnFault;
 
 // The most units of a name.

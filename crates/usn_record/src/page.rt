@@ -5,8 +5,9 @@ ghost use Rattle.journal_model.specs.Pages.{page_records, ends_in_record};
 ghost use Rattle.usn_record.specs.Checking.{page_check, listed};
 
 use crate::entry::first_record;
-use crate::front::{all_zeros, from_offset, is_whole, own_length};
+use crate::front::{from_offset, is_whole, own_length};
 use crate::judging::checked_length;
+use disk_model::all_zeros;
 use file_tree::{Usn, UsnList};
 use journal_model::UsnFault;
 use std::alloc::{AllocError, Global};

@@ -3,7 +3,7 @@ use Rattle.file_tree.specs.Names.{upper_units, name_order, same_name}
 use Rattle.file_tree.specs.Trees.{node_at, is_directory, same_links, look_up}
 use Rattle.file_tree.specs.Walks.{child_in, has_bad_part, passes_system}
 use Rattle.tree_model.specs.Walks.{entered, walk, reached, reached_directory}
-use Rattle.tree_model.specs.Refusals.{is_bad_new_path, parent_of, is_in_system, is_system_node, has_same_name}
+use Rattle.tree_model.specs.Refusals.{is_bad_new_path, parent_of, is_system_node, has_same_name}
 use Rattle.tree_model.proofs.laws.worked_names.Goals as goal
 
 pub returns : goal.returns
