@@ -32,6 +32,7 @@ impl<D: Device> Store<D> {
         requires closed { self.old.state.is_open ≡ false }
         requires none { self.old.state.noted ≡ None }
         ensures facts { facts_of self.new.state ≡ noted_facts (facts_of self.old.state) }
+        ensures unsent { self.new.state.log.sent ≡ None }
         ensures device { self.new.device ≡ self.old.device }
         ensures words { self.new.words ≡ self.old.words }
         ensures step { TakesStep D.sector_count D.moment_of D.changes_of AfterWrite self.old self.new }
