@@ -1,6 +1,6 @@
 -- What a crash leaves after a last checkpoint is a clean log.
-use Rattle.std.proofs.Common.{◌≡◌, subst, ℕ, zero, suc, ◌+◌, ◌-◌, ◌^◌, ◌<◌, ◌≤◌, Bool, true, false, cond, List, [], ◌∷◌, length, take, drop, Option, Some, None, Result, Ok, refl, sym, ap, ◌∙◌, inl, inr, arith}
-use Rattle.std.specs.Prelude.{IfSome, unwrap_or, nat_lt, nat_le}
+use Rattle.std.proofs.Common.{◌≡◌, subst, ℕ, zero, suc, ◌+◌, ◌-◌, ◌^◌, ◌<◌, ◌≤◌, Bool, true, false, cond, List, [], ◌∷◌, length, take, drop, Option, Some, None, Result, Ok, Err, refl, sym, ap, ◌∙◌, inl, inr, arith}
+use Rattle.std.specs.Prelude.{IfSome, OnOk, unwrap_or, nat_lt, nat_le}
 use Rattle.std.specs.Option.{option_map}
 use Rattle.std.proofs.lemmas.Bool.Decides.{nat_tests}
 use Rattle.host_base.specs.declared.outside.Failed.{Failed}
@@ -31,16 +31,18 @@ use Rattle.area_laws.proofs.Joined.{syncs_all}
 use Rattle.area_laws.proofs.Naming.{restart_names}
 use Rattle.area_laws.proofs.Reading.{is_first, number_is, is_read}
 use Rattle.txn_model.specs.Values.{StoreFacts}
-use Rattle.txn_model.specs.Calls.{front_lsn, MayNameNoted}
+use Rattle.txn_model.specs.Calls.{front_lsn, MayNameNoted, named_facts, synced_facts}
+use Rattle.txn_state.specs.States.{facts_of}
 use Rattle.txn_laws.specs.Standing.{StandsBehind, session_of}
 use Rattle.txn_laws.specs.Windows.{HasWindow}
 use Rattle.txn_laws.specs.Laws.{SendsNaming, SyncsNow}
 use Rattle.txn_laws.proofs.Naming.{front_is_oldest}
 use Rattle.txn_core.specs.Turns.{HasNext}
 use Rattle.txn_core.specs.Seen.{Seen}
+use Rattle.txn_close.specs.declared.fault.CloseFault.{CloseFault}
 use Rattle.txn_close.specs.Rests.{IsDrained}
 use Rattle.txn_close.specs.Passing.{Goes}
-use Rattle.txn_close.specs.Ends.{written_ok, EndsBy, IsLeftClean, LeavesClean}
+use Rattle.txn_close.specs.Ends.{written_ok, EndsBy, EndsClean, IsLeftClean, LeavesClean}
 
 -- ---- lists
 
@@ -171,3 +173,31 @@ pub leaves_behind : {D : Type 0} (count moment : D → ℕ) (changes : D → Cha
 leaves_behind count moment changes base old mid device goes leaves w has image left =
     let x = goes.passes.steps w has in
     subst (λ (p : LogPlace). IsLeftClean p (sector_of image)) goes.passes.place (leaves x.0 x.1 image left)
+
+-- ---- by what the calls answer
+
+module _ {D : Type 0} (gives : D → Option (List (List ℕ))) (count moment : D → ℕ) (changes : D → Changes) (old mid new : Seen D) (d : IsDrained (facts_of mid.state)) (noted : (facts_of mid.state).noted ≡ Some (facts_of mid.state).log.sealed)
+    (unsent : mid.state.log.sent ≡ None) where
+  pub then_ends_clean : (result : Result (Unit {0}) CloseFault) → OnOk result (EndsBy gives changes moment true (facts_of mid.state) mid.device new.device)
+      → OnOk result (facts_of new.state ≡ synced_facts (named_facts (unwrap_or mid.state.noted 0) (facts_of mid.state))) → OnOk result (EndsClean gives changes moment new)
+  then_ends_clean (Ok tt) ends is = record {
+    log = mid.state.log;
+    before = mid.device;
+    mid = ends.mid;
+    word = ends.word;
+    sends = sends_clean gives changes moment (facts_of mid.state) mid.device new.device noted unsent ends;
+    syncs = ends.syncs;
+    after = ap (λ (f : StoreFacts). f.log) is ∙ ap (λ (n : ℕ). synced_area (named_area (front_lsn mid.state.log n) mid.state.log)) (named_page (facts_of mid.state) noted);
+  }
+  then_ends_clean (Err e) ends is = tt
+
+  pub then_leaves_clean : (base : StoreFacts) (result : Result (Unit {0}) CloseFault) → SeesDisk (gives mid.device) (changes mid.device).disk → Goes count moment changes base old mid → OnOk result (EndsBy gives changes moment true (facts_of mid.state) mid.device new.device)
+      → OnOk result (HasNext mid.state.log) → OnOk result (LeavesClean count changes old new.device)
+  then_leaves_clean base (Ok tt) sees goes ends next =
+      leaves_behind count moment changes base old mid new.device goes (λ w has image left. clean_leaves gives changes moment (facts_of mid.state) mid.device new.device noted unsent ends d next sees w has (count new.device) image left)
+  then_leaves_clean base (Err e) sees goes ends next = tt
+
+pub leaves_then : {D : Type 0} (count moment : D → ℕ) (changes : D → Changes) (base : StoreFacts) (old mid : Seen D) (device : D) (result : Result (Unit {0}) CloseFault) → Goes count moment changes base old mid → OnOk result (LeavesClean count changes mid device)
+    → OnOk result (LeavesClean count changes old device)
+leaves_then count moment changes base old mid device (Ok tt) goes leaves = leaves_behind count moment changes base old mid device goes leaves
+leaves_then count moment changes base old mid device (Err e) goes leaves = tt

@@ -1,5 +1,5 @@
 pub mod Passing
 pub mod Turning
-pub mod Draining
-pub mod Ending
+pub mod Drained
+pub mod Ended
 pub mod Clean

@@ -25,8 +25,13 @@ use Rattle.device_blocks.specs.Calls.{PutOrAsked, IsPutOrNot, IsPutAgainOrNot}
 use Rattle.txn_core.specs.Calls.{out_facts, is_spelled, AfterSync, sync_facts, WritesOut, IsOut}
 use Rattle.txn_core.specs.Steps.{MayTurn, HasTurned, TurnsDevice, AfterTurn}
 use Rattle.txn_core.proofs.Outs.{ready_dirty}
-use Rattle.txn_close.specs.Passing.{IsSpared, Spares, Fewer}
-use Rattle.txn_close.proofs.Passing.{fewer_same}
+use Rattle.txn_model.specs.Calls.{given_up_facts}
+use Rattle.txn_state.specs.States.{facts_of}
+use Rattle.txn_laws.specs.Windows.{AfterGiveUp}
+use Rattle.txn_core.specs.Seen.{Seen, TakesStep}
+use Rattle.txn_core.specs.Turns.{restart_facts, SendsRestartPage}
+use Rattle.txn_close.specs.Passing.{IsSpared, Spares, Fewer, Goes}
+use Rattle.txn_close.proofs.Passing.{fewer_same, goes_step}
 
 -- ---- marks
 
@@ -182,3 +187,36 @@ module _ {D : Type 0} (gives : D → Option (List (List ℕ))) (changes : D → 
   later_turned (WriteOut b) result f g words left kept may out = let x = has_body f b kept may in later_out _ _ _ b _ result (out.sent x.0 x.1)
   later_turned BeginCheckpoint result f g words left kept may same = let e = ap moment same in omega (arith, e)
   later_turned WriteRestart result f g words left kept may sent = later_sent _ _ _ _ result sent
+
+-- ---- calls of a store
+
+pub fewer_at : (f g h : StoreFacts) → g ≡ h → Fewer f h → Fewer f g
+fewer_at f g h is fewer = at_facts f g h is fewer
+
+pub spares_given_up : (base : StoreFacts) (w v : ContentWindow) → AfterGiveUp w v → Spares base w v
+spares_given_up base w v after = record { waiting = (let e = after.waiting in omega (arith, e)); others = λ k le b spared. after.others k b }
+
+module _ {D : Type 0} (gives : D → Option (List (List ℕ))) (count moment : D → ℕ) (changes : D → Changes) (old new : Seen D) where
+  abbrev f : StoreFacts
+  f = facts_of old.state
+
+  abbrev g : StoreFacts
+  g = facts_of new.state
+
+  pub goes_in_memory : (base : StoreFacts) (After : ContentWindow → ContentWindow → Type 0) → new.device ≡ old.device → Fewer base g → ((w v : ContentWindow) → After w v → Spares base w v) → TakesStep count moment changes After old new → Goes count moment changes base old new
+  goes_in_memory base After same fewer spares step = goes_step count moment changes base After old new (let e = ap moment same in omega (arith, e)) (ap count same) fewer spares step
+
+  pub goes_turned : (step : StoreStep) (result : Result (Unit {0}) Failed) → ((c : Block) → (f.mark c).dirty ≡ true → is_some (f.body c) ≡ true) → MayTurn f step → HasTurned step result f g
+      → TurnsDevice gives changes moment step result f g old.words new.words old.device new.device → count new.device ≡ count old.device → TakesStep count moment changes (AfterTurn step result f) old new → Goes count moment changes f old new
+  goes_turned step result kept may turned sent sectors takes =
+      goes_step count moment changes f (AfterTurn step result f) old new (later_turned gives changes moment old.device new.device step result f g old.words new.words kept may sent) sectors (fewer_turned step result f g turned)
+      (spares_turned f f step result (fewer_same f) may) takes
+
+  pub goes_restarted : (clean : Bool) (result : Result (Unit {0}) Failed) → g ≡ restart_facts result new.state.log.sent f → SendsRestartPage gives changes moment clean f g result old.device new.device → count new.device ≡ count old.device
+      → TakesStep count moment changes AfterWrite old new → Goes count moment changes f old new
+  goes_restarted clean result facts sent sectors takes =
+      goes_step count moment changes f AfterWrite old new (later_sent gives changes moment old.device new.device _ _ _ _ result sent) sectors (fewer_turned WriteRestart result f g facts) (spares_written f) takes
+
+  pub goes_synced : (result : Result (Unit {0}) Failed) → g ≡ sync_facts result f → moment new.device ≡ moment_after (moment old.device) → count new.device ≡ count old.device → TakesStep count moment changes (AfterSync result f) old new → Goes count moment changes f old new
+  goes_synced result facts later sectors takes =
+      goes_step count moment changes f (AfterSync result f) old new (begun_later (moment old.device) (moment old.device) (moment new.device) (omega arith) later) sectors (fewer_turned SyncDevice result f g facts) (spares_synced f f result (fewer_same f)) takes

@@ -3,6 +3,7 @@ ghost use Rattle.std.specs.Prelude.{◌≡◌, OnOk, IfErr};
 ghost use Rattle.device_view.specs.Devices.{CountsOnDevice};
 ghost use Rattle.txn_model.specs.Calls.{sealed_facts};
 ghost use Rattle.txn_state.specs.States.{facts_of};
+ghost use Rattle.txn_close.specs.declared.fault.CloseFault.TheVariants.{Unmarked};
 ghost use Rattle.txn_close.specs.Rests.{stopped_facts, IsAtRest, IsUnmarked};
 ghost use Rattle.txn_close.specs.Passing.{Goes};
 ghost use Rattle.txn_close.specs.Ends.{close_cause, EndsClean, LeavesClean, Closes};
@@ -13,15 +14,25 @@ use crate::fault::CloseFault;
 use sector_device::Device;
 use txn_core::Store;
 
+// Gives up the transaction that is open, if any.
+fn give_up_open<D: Device>(store: &mut Store<D>)
+    ensures facts { facts_of store.new.state ≡ stopped_facts (facts_of store.old.state) }
+    ensures goes { Goes D.sector_count D.moment_of D.changes_of (stopped_facts (facts_of store.old.state)) store.old store.new }
+    ensures device { store.new.device ≡ store.old.device }
+{
+    if !store.state().is_open() {
+        return;
+    }
+    store.give_up();
+}
+
 // Gives up the transaction that is open, if any, and seals the page of the log that is filled.
 fn stop<D: Device>(store: &mut Store<D>)
     ensures facts { facts_of store.new.state ≡ sealed_facts (stopped_facts (facts_of store.old.state)) }
-    ensures device { store.new.device ≡ store.old.device }
     ensures goes { Goes D.sector_count D.moment_of D.changes_of (stopped_facts (facts_of store.old.state)) store.old store.new }
+    ensures device { store.new.device ≡ store.old.device }
 {
-    if store.state().is_open() {
-        store.give_up();
-    }
+    give_up_open(store);
     store.seal();
 }
 

@@ -4,6 +4,7 @@ ghost use Rattle.device_view.specs.Devices.{CountsOnDevice};
 ghost use Rattle.txn_model.specs.Calls.{named_facts, synced_facts};
 ghost use Rattle.txn_state.specs.States.{facts_of};
 ghost use Rattle.txn_core.specs.Turns.{HasNext};
+ghost use Rattle.txn_close.specs.declared.fault.CloseFault.TheVariants.{Unmarked};
 ghost use Rattle.txn_close.specs.Rests.{IsDrained, IsAtRest, IsUnmarked};
 ghost use Rattle.txn_close.specs.Passing.{Goes};
 ghost use Rattle.txn_close.specs.Ends.{close_cause, EndsBy, EndsClean, LeavesClean};

@@ -6,7 +6,7 @@ use Rattle.txn_state.specs.States.{facts_of}
 use Rattle.txn_core.specs.Kept.{IsKept}
 use Rattle.txn_core.specs.Leading.{dirty_blocks}
 use Rattle.txn_close.specs.Passing.{Goes}
-use Rattle.txn_close.proofs.Draining.{with_next, IsShut}
+use Rattle.txn_close.proofs.Drained.{with_next, IsShut}
 use Rattle.txn_close.proofs.draining.drain.Given as goal
 
 abbrev pub invariant-loop-step : goal.invariant-loop-step
