@@ -3,3 +3,4 @@ pub mod Turning
 pub mod Drained
 pub mod Ended
 pub mod Clean
+pub mod Whole

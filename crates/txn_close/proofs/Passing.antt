@@ -48,7 +48,7 @@ spared_on f g fewer b spared = record {
 
 -- ---- passes
 
-here : (f g : StoreFacts) (w : ContentWindow) (image : SectorBytes) → g.place ≡ f.place → g.found ≡ f.found → RecoversWithin g.place (own_of g) w image → RecoversWithin f.place (own_of f) w image
+pub here : (f g : StoreFacts) (w : ContentWindow) (image : SectorBytes) → g.place ≡ f.place → g.found ≡ f.found → RecoversWithin g.place (own_of g) w image → RecoversWithin f.place (own_of f) w image
 here f g w image place found x =
     subst (λ (bs : List Block). RecoversWithin f.place (is_own f.place bs) w image) found (subst (λ (p : LogPlace). RecoversWithin p (is_own p g.found) w image) place x)
 

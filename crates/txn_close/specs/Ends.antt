@@ -2,6 +2,7 @@
 use Rattle.std.specs.Prelude.{◌≡◌, ℕ, Bool, true, List, [], Option, Some, None, Result, Ok, Err, unwrap_or, IfErr, OnOk}
 use Rattle.host_base.specs.declared.outside.Failed.{Failed}
 use Rattle.host_base.specs.Answers.{Cause, refused, failed}
+use Rattle.disk_model.specs.declared.block.Block.{Block}
 use Rattle.disk_model.specs.Sectors.{sector_of}
 use Rattle.fixup_record.specs.Protecting.{protected_bytes}
 use Rattle.sector_device.specs.Moments.{Changes, MayLeaveNow}
@@ -13,9 +14,9 @@ use Rattle.log_reading.specs.Fronts.{chosen_in}
 use Rattle.log_area.specs.Areas.{LogAreaOf, restart_sector, naming_page, named_area, synced_area}
 use Rattle.log_area.specs.Calls.{IsSent}
 use Rattle.store_model.specs.Geometry.{SectorBytes}
-use Rattle.store_model.specs.Volumes.{ContentWindow}
+use Rattle.store_model.specs.Volumes.{is_known, ContentWindow, IsRecovered}
 use Rattle.ring_laws.specs.PageBytes.{raw_page}
-use Rattle.txn_model.specs.Values.{StoreFacts}
+use Rattle.txn_model.specs.Values.{StoreFacts, own_of}
 use Rattle.txn_model.specs.Calls.{front_lsn}
 use Rattle.txn_state.specs.States.{facts_of}
 use Rattle.txn_laws.specs.Windows.{HasWindow}
@@ -24,7 +25,7 @@ use Rattle.txn_core.specs.Seen.{Seen}
 use Rattle.txn_close.specs.declared.fault.CloseFault.{CloseFault}
 use Rattle.txn_close.specs.declared.fault.CloseFault.TheVariants.{Fault, Unmarked}
 use Rattle.txn_close.specs.Rests.{IsAtRest, IsUnmarked, stopped_facts}
-use Rattle.txn_close.specs.Passing.{Goes}
+use Rattle.txn_close.specs.Passing.{IsSpared, Goes}
 
 -- why a store isn't closed: a failure of the device, or a refusal where no restart page can be made
 abbrev pub close_cause : CloseFault → Cause (Unit {0})
@@ -65,12 +66,21 @@ abbrev pub LeavesClean : {D : Type 0} → (D → ℕ) → (D → Changes) → Se
 LeavesClean count changes old device =
     (w : ContentWindow) → HasWindow (changes old.device) (facts_of old.state) w → (image : List (List ℕ)) → MayLeaveNow (count device) (changes device) image → IsLeftClean (facts_of old.state).place (sector_of image)
 
+-- The image is of a clean log, and recovery of it, by no entries, leaves each known block that was spared as it is after all commits of this window.
+pub record IsLeftWhole (base f : StoreFacts) (w : ContentWindow) (image : SectorBytes) : Type 0 where
+  pub clean : IsLeftClean f.place image
+  pub newest : (b : Block) → IsSpared base b → is_known (own_of f) b ≡ true → IsRecovered [] image (w.before 0) b
+
+abbrev pub LeavesWhole : {D : Type 0} → (D → ℕ) → (D → Changes) → StoreFacts → Seen D → D → Type 0
+LeavesWhole count changes base old device =
+    (w : ContentWindow) → HasWindow (changes old.device) (facts_of old.state) w → (image : List (List ℕ)) → MayLeaveNow (count device) (changes device) image → IsLeftWhole base (facts_of old.state) w (sector_of image)
+
 -- A store was closed, which gave the device back: this was the store just before.
 pub record Closes {D : Type 0} (gives : D → Option (List (List ℕ))) (count moment : D → ℕ) (changes : D → Changes) (store : Seen D) (result : Result (Unit {0}) CloseFault) (device : D) : Type 0 where
   pub last : Seen D
   pub gave : last.device ≡ device
   pub rests : OnOk result (IsAtRest (facts_of last.state))
   pub clean : OnOk result (EndsClean gives changes moment last)
-  pub leaves : OnOk result (LeavesClean count changes store last.device)
+  pub leaves : OnOk result (LeavesWhole count changes (stopped_facts (facts_of store.state)) store last.device)
   pub unmarked : IfErr result (λ fault. fault ≡ Unmarked → IsUnmarked (facts_of last.state))
   pub goes : Goes count moment changes (stopped_facts (facts_of store.state)) store last

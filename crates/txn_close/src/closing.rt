@@ -6,7 +6,7 @@ ghost use Rattle.txn_state.specs.States.{facts_of};
 ghost use Rattle.txn_close.specs.declared.fault.CloseFault.TheVariants.{Unmarked};
 ghost use Rattle.txn_close.specs.Rests.{stopped_facts, IsAtRest, IsUnmarked};
 ghost use Rattle.txn_close.specs.Passing.{Goes};
-ghost use Rattle.txn_close.specs.Ends.{close_cause, EndsClean, LeavesClean, Closes};
+ghost use Rattle.txn_close.specs.Ends.{close_cause, EndsClean, LeavesWhole, Closes};
 
 use crate::draining::drain;
 use crate::ending::end_clean;
@@ -49,7 +49,7 @@ fn stop<D: Device>(store: &mut Store<D>)
 pub fn end_session<D: Device>(store: &mut Store<D>) -> Result<(), CloseFault>
     ensures rests { OnOk result (IsAtRest (facts_of store.new.state)) }
     ensures clean { OnOk result (EndsClean D.gives D.changes_of D.moment_of store.new) }
-    ensures leaves { OnOk result (LeavesClean D.sector_count D.changes_of store.old store.new.device) }
+    ensures leaves { OnOk result (LeavesWhole D.sector_count D.changes_of (stopped_facts (facts_of store.old.state)) store.old store.new.device) }
     ensures unmarked { IfErr result (λ fault. fault ≡ Unmarked → IsUnmarked (facts_of store.new.state)) }
     ensures cause { CountsOnDevice close_cause (D.fault_count store.old.device) (D.fault_count store.new.device) (D.moment_of store.new.device) result }
     ensures goes { Goes D.sector_count D.moment_of D.changes_of (stopped_facts (facts_of store.old.state)) store.old store.new }

@@ -13,20 +13,13 @@ use crate::fault::CloseFault;
 use sector_device::Device;
 use txn_core::Store;
 
-// DEV ONLY
-fn opens(_log: &log_area::LogArea) -> u32
-    ensures { result ≡ _log.now.opens }
-{
-    0
-}
-
 /// Whether a restart page can be made: the log has a lap for a further entry, and its count of opens
 /// isn't at its end. In constant time.
 pub fn has_next<D: Device>(store: &Store<D>) -> bool
     ensures { (result ≡ true) ↔ HasNext store.now.state.log }
 {
     let log = store.state().log();
-    log.has_lap(0x58) && opens(log) < u32::MAX
+    log.has_lap(0x58) && log.opens() < u32::MAX
 }
 
 // Ends the checkpoint that has begun: its restart page, with the flag that the log is closed or
