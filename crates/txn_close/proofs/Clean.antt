@@ -137,11 +137,11 @@ module _ {D : Type 0} (gives : D → Option (List (List ℕ))) (changes : D → 
       record {
         restart = naming_page f.log oldest true;
         chosen = (
-          elim read.1.is [
-            | inl sure ↦ sure.1 ∙ named.said
-            | inr begun ↦ absurd (let e = begun.0 in cc)
-          ]
-        ) ∙ ap (λ (r : Restart). Some r) (made_page f.log oldest true unsent);
+            elim read.1.is [
+              | inl sure ↦ sure.1 ∙ named.said
+              | inr begun ↦ absurd (let e = begun.0 in cc)
+            ]
+            ) ∙ ap (λ (r : Restart). Some r) (made_page f.log oldest true unsent);
         clean = refl;
         empty =
             ap (live_log f.place.pages (raw_page f.place (sector_of image))) first

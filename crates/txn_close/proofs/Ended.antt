@@ -39,8 +39,7 @@ page_there None is = absurd cc
 
 pub may_restart : (f : StoreFacts) → IsDrained f → IsSome f.noted → HasNext f.log → MayRestart f
 may_restart f d begun next =
-    let page = page_there f.noted begun in
-    (
+    let page = page_there f.noted begun in (
       (
         page.0,
         record {

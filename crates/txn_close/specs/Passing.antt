@@ -10,7 +10,7 @@ use Rattle.txn_state.specs.States.{facts_of}
 use Rattle.txn_laws.specs.Windows.{HasWindow, RecoversWithin}
 use Rattle.txn_core.specs.Seen.{Seen}
 
--- No rival of the block was changed behind the block's own last change: it isn't dead, and none of them is dirty.
+-- The block isn't dead, and no rival of it is dirty: so neither a sync nor the write-out of a rival drops its body.
 pub record IsSpared (f : StoreFacts) (b : Block) : Type 0 where
   pub alive : (f.mark b).dead ≡ false
   pub alone : (c : Block) → are_rivals c b ≡ true → (f.mark c).dirty ≡ false

@@ -36,17 +36,9 @@ fn stop<D: Device>(store: &mut Store<D>)
     store.seal();
 }
 
-/// Ends what a store does: gives up the transaction that is open, writes out all that it holds, and
-/// marks its log clean by a last checkpoint; one that has begun ends first. A store may begin
-/// transactions again behind it.
-///
-/// - [`CloseFault::Fault`]: the device failed, and the store did nothing more.
-/// - [`CloseFault::Unmarked`]: no restart page can be made; all that the store held is written out
-///   and durable.
-///
-/// It takes no memory. At most two calls of the device for each page of the log that wasn't written
-/// and each dirty block, and eight more.
-pub fn end_session<D: Device>(store: &mut Store<D>) -> Result<(), CloseFault>
+// Ends what a store does: gives up the transaction that is open, writes out all that it holds, and
+// marks its log clean by a last checkpoint; one that has begun ends first.
+fn end_session<D: Device>(store: &mut Store<D>) -> Result<(), CloseFault>
     ensures rests { OnOk result (IsAtRest (facts_of store.new.state)) }
     ensures clean { OnOk result (EndsClean D.gives D.changes_of D.moment_of store.new) }
     ensures leaves { OnOk result (LeavesWhole D.sector_count D.changes_of (stopped_facts (facts_of store.old.state)) store.old store.new.device) }
@@ -59,7 +51,17 @@ pub fn end_session<D: Device>(store: &mut Store<D>) -> Result<(), CloseFault>
     end_clean(store)
 }
 
-/// Closes a store, as [`end_session`] does, and gives its device back.
+/// Closes a store, and gives its device back: the transaction that is open is given up, all that the
+/// store holds is written out, and its log is marked clean by a last checkpoint, as [`drain`] and
+/// the calls of a checkpoint do it; a checkpoint that has begun ends first. No store may go on behind
+/// a log that is marked clean.
+///
+/// - [`CloseFault::Fault`]: the device failed, and nothing more was done.
+/// - [`CloseFault::Unmarked`]: no restart page can be made; all that the store held is written out
+///   and durable.
+///
+/// It takes no memory. At most two calls of the device for each page of the log that wasn't written
+/// and for each block that is dirty once nothing is open, and eight more.
 pub fn close<D: Device>(store: Store<D>) -> (Result<(), CloseFault>, D)
     ensures closes { Closes D.gives D.sector_count D.moment_of D.changes_of store result.0 result.1 }
     ensures cause { CountsOnDevice close_cause (D.fault_count store.device) (D.fault_count result.1) (D.moment_of result.1) result.0 }

@@ -12,7 +12,7 @@ mod draining;
 mod ending;
 mod fault;
 
-pub use closing::{close, end_session};
+pub use closing::close;
 pub use draining::drain;
 pub use ending::has_next;
 pub use fault::CloseFault;
