@@ -63,6 +63,13 @@ impl LogArea {
         self.named.is_some()
     }
 
+    /// The open count that the next restart page has; it stays at its type's end.
+    pub fn opens(&self) -> u32
+        ensures { result ≡ self.now.opens }
+    {
+        self.opens
+    }
+
     // The check word of the restart page that was sent already.
     fn sent_word(&self) -> Option<u16>
         ensures value { result ≡ sent_word self.now.sent }

@@ -11,7 +11,7 @@ use Rattle.log_page.specs.declared.restart.Restart.{Restart}
 use Rattle.log_page.specs.Places.{sequence_bits, lsn_at, lap_of, page_of, is_in_ring}
 use Rattle.log_page.specs.Restarts.{restart_spelling}
 use Rattle.log_area.specs.declared.restart.SentRestart.{SentRestart}
-use Rattle.log_area.specs.Areas.{LogAreaOf, ring_size, lap_at, fits, next_number, number_of, IsOldest, restart_sector, sent_word, page_to_send, named_area}
+use Rattle.log_area.specs.Areas.{LogAreaOf, is_filling, ring_size, lap_at, fits, next_number, number_of, IsOldest, restart_sector, sent_word, page_to_send, named_area}
 use Rattle.log_area.specs.Calls.{SentOrAsked, IsSentOrNot}
 use Rattle.ring_laws.specs.Numbers.{LogSession, lsn_of_page}
 use Rattle.ring_laws.proofs.Numbering.{says_lap, says_page, says_ring}
@@ -32,6 +32,18 @@ use Rattle.txn_core.proofs.Tellings.{named_told, sent_told}
 
 pub note_step : (count moment : ℕ) (changes : Changes) (f : StoreFacts) → f.is_open ≡ false → f.noted ≡ None → Simulates count moment changes changes f (noted_facts f) AfterWrite
 note_step count moment changes f closed none = in_memory count moment changes f _ _ refl refl (λ disk m is h. notes f disk m closed none h)
+
+-- no restart page was sent where no checkpoint has begun
+pub none_sent : (f : StoreFacts) (t : Telling) → f.noted ≡ None → IsTold f t → (noted_facts f).log.sent ≡ None
+none_sent f t none told = same_sent (is_filling f.log) ∙ by f.log.sent told.front.sent
+  where
+    same_sent : (v : Bool) → (cond v (record f.log { free = 0x40; sealed = f.log.sealed + 1 }) f.log).sent ≡ f.log.sent
+    same_sent true = refl
+    same_sent false = refl
+
+    by : (o : Option SentRestart) → IfSome o (λ x. (is_some f.noted ≡ true) × (x.page.oldest ≡ t.front)) → o ≡ None
+    by (Some x) is = absurd (let e = ap (λ (n : Option ℕ). is_some n) none in let h = is.0 in cc)
+    by None is = refl
 
 -- ---- the place that is noted
 

@@ -32,6 +32,7 @@ impl<D: Device> Store<D> {
         requires closed { self.old.state.is_open ≡ false }
         requires none { self.old.state.noted ≡ None }
         ensures facts { facts_of self.new.state ≡ noted_facts (facts_of self.old.state) }
+        ensures unsent { self.new.state.log.sent ≡ None }
         ensures device { self.new.device ≡ self.old.device }
         ensures words { self.new.words ≡ self.old.words }
         ensures step { TakesStep D.sector_count D.moment_of D.changes_of AfterWrite self.old self.new }
@@ -44,8 +45,9 @@ impl<D: Device> Store<D> {
     /// Writes the restart page that names the place which a checkpoint noted: nothing that it noted
     /// is still to be written out or synced, the pages sealed before it are durable, and no restart
     /// page was written since the last sync. The next sync that succeeds frees the ring up to there.
-    /// The page's flag says whether the log is closed. A call after one that failed behind its read
-    /// writes the same bytes, with the flag that they had.
+    /// The page's flag says whether the log is closed: recovery reads no entry behind a page that has
+    /// it, so it is for the last page of a store that ends. A call after one that failed behind its
+    /// read writes the same bytes, with the flag that they had.
     ///
     /// The error is a failure of the device: then any sectors of the page may stand, and the
     /// checkpoint hasn't ended. At most two calls of the device.

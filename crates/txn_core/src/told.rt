@@ -1,6 +1,6 @@
 //! What a store tells of itself.
 ghost use Rattle.std.specs.Prelude.{◌≡◌, ◌+◌, ◌<◌, ◌≤◌, ◌&&◌, Bool, not, nat_lt, is_some, unwrap_or, false};
-ghost use Rattle.log_area.specs.Areas.{used_pages, ring_size};
+ghost use Rattle.log_area.specs.Areas.{used_pages, ring_size, next_lsn};
 ghost use Rattle.txn_model.specs.Told.{FactsTold, KeepsMarked, KeepsSteps, is_fresh};
 ghost use Rattle.txn_state.specs.States.{facts_of};
 ghost use Rattle.txn_core.specs.Kept.{IsKept};
@@ -51,6 +51,7 @@ impl<D: Device> Store<D> {
     /// ([`flush_policy::next_step`]). It takes no memory, in constant time.
     pub fn facts(&self) -> Facts
         ensures told { HasLap self.now.state.log → FactsTold (facts_of self.now.state) result }
+        ensures but_next { FactsTold (facts_of self.now.state) (record result { next = next_lsn self.now.state.log 0x58 }) }
         ensures kept { IsKept (facts_of self.now.state) }
         ensures marked { KeepsMarked (facts_of self.now.state) }
         ensures steps { KeepsSteps (facts_of self.now.state) }

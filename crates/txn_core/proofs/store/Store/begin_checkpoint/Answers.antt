@@ -11,7 +11,7 @@ use Rattle.txn_core.proofs.Keeping.{step_of, stands_after}
 use Rattle.txn_core.proofs.Kepts.{noted_kept}
 use Rattle.txn_core.proofs.Tellings.{noted_told}
 use Rattle.txn_core.proofs.AfterCalls.{told_at}
-use Rattle.txn_core.proofs.Restarting.{note_step}
+use Rattle.txn_core.proofs.Restarting.{note_step, none_sent}
 use Rattle.txn_core.proofs.store.Store.begin_checkpoint.Goals as goal
 
 pub returns-clause-step : goal.returns-clause-step
@@ -19,6 +19,11 @@ returns-clause-step g c =
     step_of g.D.Device.sector_count g.D.Device.moment_of g.D.Device.changes_of (λ s. AfterWrite) (record { device = c.self.inside.device; state = c.self.inside.state; words = c.self.inside.words }) c.args.self.now
     (record { device = c.self.inside.device; state = c.begin_checkpoint.new.self; words = c.self.inside.words }) (noted_facts (facts_of c.self.inside.state)) c.self.view_is c.begin_checkpoint.ensures
     (note_step (g.D.Device.sector_count c.self.inside.device) (g.D.Device.moment_of c.self.inside.device) (g.D.Device.changes_of c.self.inside.device) (facts_of c.self.inside.state) (ap (λ (s : Seen _). s.state.is_open) c.self.view_is ∙ c.requires.closed) (ap (λ (s : Seen _). s.state.noted) c.self.view_is ∙ c.requires.none))
+
+pub returns-clause-unsent : goal.returns-clause-unsent
+returns-clause-unsent g c =
+    let none = ap (λ (s : Seen _). s.state.noted) c.self.view_is ∙ c.requires.none in
+    ap (λ (f : StoreFacts). f.log.sent) c.begin_checkpoint.ensures ∙ none_sent (facts_of c.self.inside.state) c.self.inside.told none c.self.invariant.1
 
 pub invariant_of-self : goal.invariant_of-self
 invariant_of-self g c =

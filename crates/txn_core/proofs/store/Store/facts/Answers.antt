@@ -46,3 +46,17 @@ returns-clause-told g c =
     (c.is_fresh.ensures ∙ ap₂ (λ (o : Option ℕ) (a : LogAreaOf). nat_lt (unwrap_or o a.oldest) (a.oldest + used_pages a)) c.noted-noted.ensures area)
     refl (c.used_pages.ensures ∙ ap used_pages area) (c.size.ensures.value ∙ ap ring_size area)
     (subst (λ (a : LogAreaOf). HasLap a → c.next.result ≡ next_lsn a 0x58) area c.next.ensures.exact lap))
+
+pub returns-clause-but_next : goal.returns-clause-but_next
+returns-clause-but_next g c =
+    let s = c.self.inside.state in
+    let f = facts_of s in
+    let area = c.log-log.ensures in
+    let told : Facts = record { filling = c.filling.result; sealed = c.sealed.result; unsynced = c.is_unsynced.result; ready = c.self.inside.told.ready; begun = c.has_begun.result; fresh = c.is_fresh.result; noted_left = c.self.inside.told.left; pages_used = c.used_pages.result; pages = c.size.result; next = c.next.result } in
+    subst (λ (x : Seen _). FactsTold (facts_of x.state) (record told { next = next_lsn x.state.log 0x58 })) c.self.view_is
+    (facts_told f c.self.inside.told (record told { next = next_lsn s.log 0x58 }) c.self.invariant.1 (c.filling.ensures.value ∙ ap is_filling area) (c.sealed.ensures.value ∙ ap (λ (a : LogAreaOf). a.sealed - a.done) area)
+    (subst (λ (a : LogAreaOf). c.is_unsynced.result ≡ false → IsAllDone a × (c.self.inside.told.wrote ≡ false)) area c.is_unsynced.ensures.done)
+    (subst (λ (a : LogAreaOf). IsAllDone a → c.self.inside.told.wrote ≡ false → c.is_unsynced.result ≡ false) area c.is_unsynced.ensures.synced)
+    refl (c.has_begun.ensures ∙ ap₂ (λ (o : Option ℕ) (a : LogAreaOf). is_some o && not (is_some a.named)) c.noted-noted.ensures area)
+    (c.is_fresh.ensures ∙ ap₂ (λ (o : Option ℕ) (a : LogAreaOf). nat_lt (unwrap_or o a.oldest) (a.oldest + used_pages a)) c.noted-noted.ensures area)
+    refl (c.used_pages.ensures ∙ ap used_pages area) (c.size.ensures.value ∙ ap ring_size area) refl)
