@@ -1,6 +1,6 @@
 -- What stands behind a mount.
 use Rattle.std.proofs.Common.{◌≡◌, ◌⊎◌, subst, ℕ, ◌+◌, ◌-◌, ◌*◌, ◌^◌, ◌<◌, ◌≤◌, min, Bool, true, false, List, [], ◌∷◌, Option, Some, None, Result, Ok, Err, refl, sym, ap, ap₂, ◌∙◌, inl, inr, arith}
-use Rattle.std.specs.Prelude.{IfOk, IfErr, IfSome, nat_le, replicate}
+use Rattle.std.specs.Prelude.{All, IfOk, IfErr, IfSome, nat_le, replicate}
 use Rattle.std.proofs.lemmas.Bool.{cases_Bool, leb-true}
 use Rattle.host_base.specs.declared.outside.Failed.{Failed}
 use Rattle.host_base.specs.Answers.{ExplainsOrFails}
@@ -40,7 +40,8 @@ use Rattle.txn_mount.specs.Images.{LeavesAlike, RecoversAlike}
 use Rattle.txn_mount.specs.Laws.{MayMount, MountsAs}
 use Rattle.txn_mount.specs.Mounts.{ReadsAndWrites, IsMounted, StopsMount, ReadsOn, AreShadows, ShadowsFound, ShowsDisk, ShowsRecovered, StaysRecovered}
 use Rattle.txn_mount.specs.Plans.{IsPlan, IsPlanOn, PlansOn, WritesPlan, StopsWriting, area_behind, lsn_behind, bodies_in, items_by}
-use Rattle.txn_mount.specs.Puts.{items_of}
+use Rattle.txn_mount.specs.Puts.{items_of, MayPutAt}
+use Rattle.txn_mount.proofs.Choosing.{may_put_all}
 use Rattle.txn_mount.proofs.Ending.{mounts_recover_law}
 use Rattle.txn_mount.proofs.Knowing.{starts_behind_law}
 use Rattle.txn_mount.proofs.Planned.{level_parts}
@@ -70,13 +71,22 @@ module _ (place : LogPlace) (ring : IsRingPlace place) (count : ℕ) (plan : Mou
   pub opened_ends : (log : LogAreaOf) → log ≡ synced_area (named_area plan.oldest plan.log) → plan.ends.items ≡ replicate (ring_size log) 0
   opened_ends log opened = is.counted ∙ ap (λ (n : ℕ). replicate (n - 4) 0) (sym (ap (λ (a : LogAreaOf). a.pages) opened))
 
+  pub puts_fit : (bodies : List RecoveredBlock) (keys : List PutOut) → bodies ≡ bodies_in plan.found → keys ≡ plan.keys.items → All (MayPutAt count bodies) keys
+  puts_fit bodies keys made chosen =
+      subst (λ (xs : List RecoveredBlock). All (MayPutAt count xs) keys) (sym made) (subst (λ (ks : List PutOut). All (MayPutAt count (bodies_in plan.found)) ks) (sym chosen) (may_put_all count (bodies_in plan.found) plan.keys.items is.sized is.chosen))
+
   -- ---- the calls, in the words of the laws
 
   module _ {D : Type 0} (gives : D → Option (List (List ℕ))) (changes : D → Changes) (moment : D → ℕ) where
-    pub written_as : (result : Result (Unit {0}) Failed) (old new : D) → MountsBy gives changes moment (items_by plan.found plan.keys.items) plan.log plan.oldest result old new → WritesPlan gives changes moment place plan result old new
+    written_as : (result : Result (Unit {0}) Failed) (old new : D) → MountsBy gives changes moment (items_by plan.found plan.keys.items) plan.log plan.oldest result old new → WritesPlan gives changes moment place plan result old new
     written_as result old new calls =
         subst (λ (n : ℕ). MountsBy gives changes moment (items_by plan.found plan.keys.items) (new_area place plan.found.recovered.next_lap plan.found.recovered.restart plan.found.recovered.opens) n result old new) is.first
         (subst (λ (a : LogAreaOf). MountsBy gives changes moment (items_by plan.found plan.keys.items) a plan.oldest result old new) is.ring calls)
+
+    pub written_at : (bodies : List RecoveredBlock) (keys : List PutOut) → bodies ≡ bodies_in plan.found → keys ≡ plan.keys.items → (result : Result (Unit {0}) Failed) (old new : D)
+        → MountsBy gives changes moment (items_of bodies keys) plan.log plan.oldest result old new → WritesPlan gives changes moment place plan result old new
+    written_at bodies keys made chosen result old new calls =
+        written_as result old new (subst (λ (xs : List RecoveredBlock). MountsBy gives changes moment (items_of xs plan.keys.items) plan.log plan.oldest result old new) made (subst (λ (ks : List PutOut). MountsBy gives changes moment (items_of bodies ks) plan.log plan.oldest result old new) chosen calls))
 
     pub starts_then : (kept : List Block) → ((d : D) → SeesDisk (gives d) (changes d).disk) → ((d : D) → IfSome (changes d).disk IsSized) → (old new : D) → IsPlanOn (changes old).disk place kept plan
         → WritesPlan gives changes moment place plan (Ok tt) old new → (log : LogAreaOf) → log ≡ synced_area (named_area plan.oldest plan.log) → StartsThen changes place log new

@@ -32,7 +32,7 @@ use Rattle.txn_mount.specs.Faults.{store_fault, store_cause}
 use Rattle.txn_mount.specs.Laws.{FindsOn, MayMount}
 use Rattle.txn_mount.specs.Plans.{is_level, IsUnlevel, IsPlan, IsPlanOn, PlansOn, bodies_in, items_by}
 use Rattle.txn_mount.proofs.Choosing.{may_mount_law}
-use Rattle.txn_mount.proofs.Finding.{found, lap_some, lap_small, opens_small}
+use Rattle.txn_mount.proofs.Finding.{found as finds, lap_some, lap_small, opens_small}
 use Rattle.txn_mount.proofs.Reading.{read_log}
 
 -- ---- what is level
@@ -68,12 +68,12 @@ level_made pages found some small two few =
     and_made (a && b && c) (nat_le found.opens (2 ^ 31)) (and_made (a && b) c (and_made a b (le-leb 1 found.next_lap some) (lt-ltb found.next_lap (2 ^ sequence_bits pages) small)) (le-leb found.restart 1 two)) (le-leb found.opens (2 ^ 31) few)
 
 -- what is found by the log of a known disk is
-pub known_level : (place : LogPlace) (kept : List Block) (found' : ToWrite) → IsRingPlace place → (disk : Disk) → FindsOn place kept found' disk → is_level place.pages found'.recovered ≡ true
-known_level place kept found' ring disk on =
+pub known_level : (place : LogPlace) (kept : List Block) (found : ToWrite) → IsRingPlace place → (disk : Disk) → FindsOn place kept found disk → is_level place.pages found.recovered ≡ true
+known_level place kept found ring disk on =
     let r : ReadsLog (content_of (seen disk)) place kept on.state = read_log (content_of (seen disk)) place kept on.state on.read in
-    let small = (found place ring kept disk on.state r).small in
+    let small = (finds place ring kept disk on.state r).small in
     let restart = on.is.recovered.restart in
-    level_made place.pages found'.recovered
+    level_made place.pages found.recovered
     (subst (λ (n : ℕ). 1 ≤ n) (sym on.is.recovered.next_lap) (lap_some place ring kept disk on.state r))
     (subst (λ (n : ℕ). n < 2 ^ sequence_bits place.pages) (sym on.is.recovered.next_lap) (lap_small place ring kept disk on.state r))
     (omega (arith, small, restart))
@@ -129,7 +129,7 @@ own_unfailed pages found e (inl is) fault = memory_apart (sym is ∙ fault)
   where
     memory_apart : ◌≡◌ {A = StoreFault} Memory Fault → ⊥
     memory_apart h = cc
-own_unfailed pages found e (inr un) fault = refused_apart (sym un.answer ∙ fault)
+own_unfailed pages found e (inr un) fault = refused_apart _ (sym un.answer ∙ fault)
   where
     refused_apart : (r : LogRefusal) → ◌≡◌ {A = StoreFault} (Refused r) Fault → ⊥
     refused_apart r h = cc

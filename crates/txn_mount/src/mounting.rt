@@ -93,14 +93,13 @@ fn carry_out<D: Device>(
     } = plan;
     let blocks = found.recovered.blocks;
     match write_down(&mut device, &mut log, oldest, &blocks.bodies, &keys) {
-        Ok(()) => {}
-        Err(Failed) => return Err((StoreFault::Fault, device)),
+        Ok(()) => {
+            let store = start_store(alloc, device, place, log, kept, ends);
+            let shadows = blocks.shadows;
+            Ok(Mounted { store, shadows })
+        }
+        Err(Failed) => Err((StoreFault::Fault, device)),
     }
-    let store = start_store(alloc, device, place, log, kept, ends);
-    Ok(Mounted {
-        store,
-        shadows: blocks.shadows,
-    })
 }
 
 /// Mounts a store on a device: recovers it by its log, and opens a session there. The log lies at
