@@ -31,6 +31,8 @@ use Rattle.txn_model.specs.Values.{StoreFacts}
 use Rattle.txn_model.specs.Calls.{first_facts}
 use Rattle.txn_mount.specs.declared.fault.StoreFault.{StoreFault}
 use Rattle.txn_mount.specs.declared.fault.StoreFault.TheVariants.{Refused, Fault, Memory}
+use Rattle.txn_state.specs.States.{facts_of}
+use Rattle.txn_mount.specs.declared.mounting.Mounted.{Mounted}
 use Rattle.txn_mount.specs.declared.puts.PutOut.{PutOut}
 use Rattle.txn_mount.specs.declared.room.MountPlan.{MountPlan}
 use Rattle.txn_mount.specs.Calls.{MountsBy}
@@ -106,40 +108,6 @@ first_as s place log kept is = subst (λ (f : StoreFacts). f ≡ first_facts f.p
 
 pub starts_as : {D : Type 0} (changes : D → Changes) (s : StoreFacts) (place : LogPlace) (log : LogAreaOf) (kept : List Block) (device : D) → s ≡ first_facts place log kept → StartsThen changes place log device → StartsThen changes s.place s.log device
 starts_as changes s place log kept device is starts = subst (λ (f : StoreFacts). StartsThen changes f.place f.log device) (sym is) starts
-
--- ---- answers
-
-pub if_both : {M E : Type 0} (P Q R : M → Type 0) (result : Result M E) → ((m : M) → P m → Q m → R m) → IfOk result P → IfOk result Q → IfOk result R
-if_both P Q R (Ok m) follows p q = follows m p q
-if_both P Q R (Err e) follows p q = tt
-
-pub if_follows : {M E : Type 0} (P R : M → Type 0) (result : Result M E) → ((m : M) → P m → R m) → IfOk result P → IfOk result R
-if_follows P R (Ok m) follows p = follows m p
-if_follows P R (Err e) follows p = tt
-
-pub err_follows : {M E : Type 0} (P R : E → Type 0) (result : Result M E) → ((e : E) → P e → R e) → IfErr result P → IfErr result R
-err_follows P R (Ok m) follows p = tt
-err_follows P R (Err e) follows p = follows e p
-
--- of the device behind it
-pub behind_both : {M D : Type 0} (result : Result M (StoreFault × D)) (of : M → D) (P : M → Type 0) (Q : StoreFault × D → Type 0) (R : D → Type 0) → ((m : M) → P m → R (of m)) → ((e : StoreFault × D) → Q e → R e.1) → IfOk result P → IfErr result Q → R (device_behind result of)
-behind_both (Ok m) of P Q R first second p q = first m p
-behind_both (Err e) of P Q R first second p q = second e q
-
--- ---- faults
-
-pub failed_since : (first before now moment : ℕ) → first ≤ before → HasFailed before now moment → HasFailed first now moment
-failed_since first before now moment more (inl rose) = inl (rose_since first before now more rose)
-  where
-    rose_since : (first before now : ℕ) → first ≤ before → Rose before now → Rose first now
-    rose_since first before now more rose = grind (arith, more, rose)
-failed_since first before now moment more (inr ended) = inr ended
-
-pub counts_behind : {M D : Type 0} (result : Result M (StoreFault × D)) (of : M → D) (faults moment : D → ℕ) (first before : ℕ) → before ≡ first → IfOk result (λ m. faults (of m) ≡ before) → IfErr result (λ e. HasFailed before (faults e.1) (moment e.1)) → IfErr result (λ e. e.0 ≡ Fault)
-    → CountsOnDevice cause_of first (faults (device_behind result of)) (moment (device_behind result of)) result
-counts_behind (Ok m) of faults moment first before same ok failed fault = ok ∙ same
-counts_behind (Err e) of faults moment first before same ok failed fault =
-    subst (λ (f : StoreFault). CountsCauseOnDevice first (faults e.1) (moment e.1) (store_cause f)) (sym fault) (subst (λ (n : ℕ). HasFailed n (faults e.1) (moment e.1)) same failed)
 
 -- ---- images
 
@@ -255,3 +223,31 @@ module _ {D : Type 0} (gives : D → Option (List (List ℕ))) (count : D → �
 
     pub stays_same : (new : D) → KeepsDevice gives count changes faults old new → StaysRecovered (moment old) place kept (changes old) (changes new)
     stays_same new reads number first state on still alone = leaves_same number (moment old) place kept state.log (mounted_content (content_of (seen first)) state.log) state.next_lap (changes old) (changes new) reads.unchanged
+
+  -- ---- and its clauses
+
+  module _ (plan : MountPlan) (mid : D) (is : IsPlan place (count old) plan) (on : IsPlanOn (changes old).disk place kept plan) (reads : KeepsDevice gives count changes faults old mid) where
+    pub all_mounted : (result : Result (Mounted D) (StoreFault × D)) → IfOk result (λ m. WritesPlan gives changes moment place plan (Ok tt) mid m.store.device)
+        → IfOk result (λ m. facts_of m.store.state ≡ first_facts place (area_behind place plan.found.recovered) kept) → IfOk result (λ m. IsMounted gives count changes faults moment place kept old m.store.device (facts_of m.store.state))
+    all_mounted (Ok m) done facts = record { found = plan.found; calls = calls_behind plan mid m.store.device (Ok tt) is on reads done; start = facts }
+    all_mounted (Err e) done facts = tt
+
+    pub all_stop : (result : Result (Mounted D) (StoreFault × D)) → IfErr result (λ e. (e.0 ≡ Fault) × StopsWriting gives changes moment place plan mid e.1) → IfErr result (λ e. StopsMount gives count changes faults moment place kept e.0 old e.1)
+    all_stop (Ok m) stops = tt
+    all_stop (Err e) stops = inr (stops.0, stops.1.0, plan.found, calls_behind plan mid e.1 (Err stops.1.0) is on reads stops.1.1)
+
+    pub all_shadowed : (result : Result (Mounted D) (StoreFault × D)) → IfOk result (λ m. m.shadows ≡ plan.found.recovered.blocks.shadows) → IfOk result (λ m. ShadowsFound place kept (changes old) m.shadows.items)
+    all_shadowed (Ok m) same = shadows_found plan m.shadows.items on (let e : m.shadows.items ≡ plan.found.recovered.blocks.shadows.items = cc in e)
+    all_shadowed (Err e) same = tt
+
+  module _ (sees : (d : D) → SeesDisk (gives d) (changes d).disk) (values : (d : D) → IfSome (changes d).disk IsSized) where
+    pub all_shown : (result : Result (Mounted D) (StoreFault × D)) → IfOk result (λ m. IsMounted gives count changes faults moment place kept old m.store.device (facts_of m.store.state))
+        → IfOk result (λ m. ShowsRecovered place kept (changes old) (changes m.store.device) (facts_of m.store.state))
+    all_shown (Ok m) is = shows_recovered sees values is.found m.store.device (facts_of m.store.state) is.calls is.start
+    all_shown (Err e) is = tt
+
+    pub all_stay : ((d : D) → AreOver (moment d) (changes d).past) → (result : Result (Mounted D) (StoreFault × D)) → IfOk result (λ m. IsMounted gives count changes faults moment place kept old m.store.device (facts_of m.store.state))
+        → IfErr result (λ e. StopsMount gives count changes faults moment place kept e.0 old e.1) → StaysRecovered (moment old) place kept (changes old) (changes (device_behind result (λ m. m.store.device)))
+    all_stay over (Ok m) is stops = stays_recovered sees values over is.found m.store.device (Ok tt) is.calls
+    all_stay over (Err e) is (inl reads) = stays_same sees values e.1 reads
+    all_stay over (Err e) is (inr (fault, failed, found, calls)) = stays_recovered sees values over found e.1 (Err failed) calls

@@ -1,38 +1,28 @@
-use Rattle.std.proofs.Common.{rules, ◌≡◌, ◌*◌, ◌<◌, ◌≤◌, Ok, IfOk, IfErr, IfSome, replicate, ℕ, ◌+◌, ◌-◌, length, ◌/◌, ◌%◌, Bool, true, false, nat_eq, nat_lt, List, [], ◌∷◌, ◌++◌, slice_index_or, slice_set, bit_and, bit_or, Fits, w8, w32, w64, Bor, MutBor}
-use Rattle.disk_model.specs.Content.{content_of}
-use Rattle.disk_model.specs.Sectors.{sector_of}
-use Rattle.host_base.specs.Answers.{ExplainsOrFails}
-use Rattle.host_base.specs.Causes.{HasFailed, last_moment}
-use Rattle.device_view.specs.Devices.{CountsOnDevice}
-use Rattle.log_reading.specs.LogPages.{IsLogPlace}
-use Rattle.log_reading.specs.Rings.{IsRingPlace}
-use Rattle.log_recovery.specs.Writing.{to_write_in}
-use Rattle.log_area.specs.Areas.{ring_size}
-use Rattle.txn_state.specs.States.{facts_of}
-use Rattle.txn_model.specs.Calls.{first_facts}
-use Rattle.txn_core.specs.Kept.{IsBegun}
-use Rattle.txn_core.specs.Openings.{StartsThen}
-use Rattle.txn_mount.specs.Faults.{store_cause, cause_of, device_behind}
-use Rattle.txn_mount.specs.Mounts.{IsMounted, StopsMount, ShadowsFound, ShowsDisk, ShowsRecovered, StaysRecovered}
-use Rattle.txn_mount.specs.Plans.{IsPlan, IsPlanOn, area_behind, WritesPlan, StopsWriting}
+use Rattle.std.proofs.Common.{List, subst}
+use Rattle.disk_model.specs.declared.block.Block.{Block}
+use Rattle.txn_mount.specs.Plans.{IsPlanOn}
+use Rattle.txn_mount.proofs.Behind.{all_mounted, all_stop, all_shadowed, all_shown, all_stay}
 use Rattle.txn_mount.proofs.mounting.mount.Goals as goal
 
--- src/mounting.rt:125:1
 pub returns-in-Ok-clause-mounted : goal.returns-in-Ok-clause-mounted
-returns-in-Ok-clause-mounted g c = ?
+returns-in-Ok-clause-mounted g c =
+    all_mounted g.D.Device.gives g.D.Device.sector_count g.D.Device.changes_of g.D.Device.fault_count g.D.Device.moment_of c.args.place c.args.kept.items c.args.device c.in-Ok.plan c.plan.new.device c.in-Ok.ensures.plan (subst (λ (ks : List Block). IsPlanOn (g.D.Device.changes_of c.args.device).disk c.args.place ks c.in-Ok.plan) c.deref.ensures.value c.in-Ok.ensures.on) c.in-Ok.ensures.kept c.carry_out.result c.carry_out.ensures.done c.carry_out.ensures.facts
 
--- src/mounting.rt:125:1
 pub returns-in-Ok-clause-stops : goal.returns-in-Ok-clause-stops
-returns-in-Ok-clause-stops g c = ?
+returns-in-Ok-clause-stops g c =
+    all_stop g.D.Device.gives g.D.Device.sector_count g.D.Device.changes_of g.D.Device.fault_count g.D.Device.moment_of c.args.place c.args.kept.items c.args.device c.in-Ok.plan c.plan.new.device c.in-Ok.ensures.plan (subst (λ (ks : List Block). IsPlanOn (g.D.Device.changes_of c.args.device).disk c.args.place ks c.in-Ok.plan) c.deref.ensures.value c.in-Ok.ensures.on) c.in-Ok.ensures.kept c.carry_out.result c.carry_out.ensures.stops
 
--- src/mounting.rt:125:1
 pub returns-in-Ok-clause-shadows : goal.returns-in-Ok-clause-shadows
-returns-in-Ok-clause-shadows g c = ?
+returns-in-Ok-clause-shadows g c =
+    all_shadowed g.D.Device.gives g.D.Device.sector_count g.D.Device.changes_of g.D.Device.fault_count g.D.Device.moment_of c.args.place c.args.kept.items c.args.device c.in-Ok.plan c.plan.new.device c.in-Ok.ensures.plan (subst (λ (ks : List Block). IsPlanOn (g.D.Device.changes_of c.args.device).disk c.args.place ks c.in-Ok.plan) c.deref.ensures.value c.in-Ok.ensures.on) c.in-Ok.ensures.kept c.carry_out.result c.carry_out.ensures.shadows
 
--- src/mounting.rt:125:1
 pub returns-in-Ok-clause-shows : goal.returns-in-Ok-clause-shows
-returns-in-Ok-clause-shows g c = ?
+returns-in-Ok-clause-shows g c =
+    all_shown g.D.Device.gives g.D.Device.sector_count g.D.Device.changes_of g.D.Device.fault_count g.D.Device.moment_of c.args.place c.args.kept.items c.args.device g.met.D.Device.seen g.met.D.Device.values c.carry_out.result
+    (all_mounted g.D.Device.gives g.D.Device.sector_count g.D.Device.changes_of g.D.Device.fault_count g.D.Device.moment_of c.args.place c.args.kept.items c.args.device c.in-Ok.plan c.plan.new.device c.in-Ok.ensures.plan (subst (λ (ks : List Block). IsPlanOn (g.D.Device.changes_of c.args.device).disk c.args.place ks c.in-Ok.plan) c.deref.ensures.value c.in-Ok.ensures.on) c.in-Ok.ensures.kept c.carry_out.result c.carry_out.ensures.done c.carry_out.ensures.facts)
 
--- src/mounting.rt:125:1
 pub returns-in-Ok-clause-images : goal.returns-in-Ok-clause-images
-returns-in-Ok-clause-images g c = ?
+returns-in-Ok-clause-images g c =
+    all_stay g.D.Device.gives g.D.Device.sector_count g.D.Device.changes_of g.D.Device.fault_count g.D.Device.moment_of c.args.place c.args.kept.items c.args.device g.met.D.Device.seen g.met.D.Device.values g.met.D.Device.over c.carry_out.result
+    (all_mounted g.D.Device.gives g.D.Device.sector_count g.D.Device.changes_of g.D.Device.fault_count g.D.Device.moment_of c.args.place c.args.kept.items c.args.device c.in-Ok.plan c.plan.new.device c.in-Ok.ensures.plan (subst (λ (ks : List Block). IsPlanOn (g.D.Device.changes_of c.args.device).disk c.args.place ks c.in-Ok.plan) c.deref.ensures.value c.in-Ok.ensures.on) c.in-Ok.ensures.kept c.carry_out.result c.carry_out.ensures.done c.carry_out.ensures.facts)
+    (all_stop g.D.Device.gives g.D.Device.sector_count g.D.Device.changes_of g.D.Device.fault_count g.D.Device.moment_of c.args.place c.args.kept.items c.args.device c.in-Ok.plan c.plan.new.device c.in-Ok.ensures.plan (subst (λ (ks : List Block). IsPlanOn (g.D.Device.changes_of c.args.device).disk c.args.place ks c.in-Ok.plan) c.deref.ensures.value c.in-Ok.ensures.on) c.in-Ok.ensures.kept c.carry_out.result c.carry_out.ensures.stops)
