@@ -37,11 +37,7 @@ fn is_level(place: &LogPlace, found: &Recovered) -> bool
 }
 
 // The ring of the new session.
-fn start_area(
-    alloc: Global,
-    place: &LogPlace,
-    found: &Recovered,
-) -> Result<LogArea, AllocError>
+fn start_area(alloc: Global, place: &LogPlace, found: &Recovered) -> Result<LogArea, AllocError>
     requires ring { IsRingPlace place.now }
     requires level { is_level place.now.pages found.now ≡ true }
     ensures area { IfOk result (λ log. log ≡ new_area place.now found.now.next_lap found.now.restart found.now.opens) }
