@@ -12,3 +12,5 @@ pub mod Items
 pub mod Choosing
 pub mod Stopping
 pub mod Knowing
+pub mod Planned
+pub mod Behind

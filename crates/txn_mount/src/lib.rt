@@ -6,16 +6,22 @@
 //! on known blocks that the log doesn't shadow; and a store begins behind them that shows it.
 #![tactic(auto)]
 
+mod fault;
 mod keys;
 mod laws;
+mod mounting;
+mod planning;
 mod puts;
 mod read;
+mod room;
 mod session;
 
+pub use fault::StoreFault;
 pub use keys::keys_of;
 pub use laws::{
     chosen_may_mount, mounts_recover, reads_disk, reads_level, starts_behind, stopped_mounts,
 };
+pub use mounting::{Mounted, mount};
 pub use puts::{PutOut, write_outs};
 pub use read::read_log;
 pub use session::write_down;
