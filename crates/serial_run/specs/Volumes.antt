@@ -13,8 +13,9 @@ pub record TellsFaults (known : Option Tree) (before now moment_before moment_no
   pub failed : IfSome known (λ t. reply ≡ Fault → HasFailed before now moment_now)
   pub counted : moment_before < last_moment → reply ≢ Fault → now ≡ before
 
--- An answer leaves the tree and its table as they are, and its reply tells where the device failed.
-pub record LeavesVolume {S : Type 0} (tree : S → Option Tree) (upper : S → List ℕ) (faults moment : S → ℕ) (old new : S) (reply : Reply) : Type 0 where
+-- An answer leaves the tree, its table and what each answer keeps as they are, and its reply tells where the device failed.
+pub record LeavesVolume {S Kept : Type 0} (tree : S → Option Tree) (upper : S → List ℕ) (kept : S → Kept) (faults moment : S → ℕ) (old new : S) (reply : Reply) : Type 0 where
   pub same : tree new ≡ tree old
   pub table : upper new ≡ upper old
+  pub stays : kept new ≡ kept old
   pub told : TellsFaults (tree old) (faults old) (faults new) (moment old) (moment new) reply

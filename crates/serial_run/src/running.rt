@@ -1,4 +1,4 @@
-ghost use Rattle.std.specs.Prelude.{◌≡◌, true, IfOk, OnOk, IfSome};
+ghost use Rattle.std.specs.Prelude.{◌≡◌, ◌≤◌, true, IfOk, OnOk, IfSome};
 ghost use Rattle.tree_model.specs.Steps.{is_look, OnlyLooks, AllLook};
 ghost use Rattle.run_model.specs.Runs.{next_of};
 ghost use Rattle.serial_run.specs.Runs.{IsRunOf, TakesTurns, IsTurnOf, Follows};
@@ -22,7 +22,8 @@ fn turn_of<V: AskedVolume>(
 ) -> Result<Turn, Memory>
     requires looks { is_look op.now ≡ true }
     ensures turn { IfOk result (λ turn. IsTurnOf (V.upper volume.old) (V.tree volume.old) next (V.fault_count volume.old) (V.fault_count volume.new) (V.moment_of volume.old) (V.moment_of volume.new) serial command.now op.now turn) }
-    ensures same { OnOk result ((V.tree volume.new ≡ V.tree volume.old) × (V.upper volume.new ≡ V.upper volume.old)) }
+    ensures same { (V.tree volume.new ≡ V.tree volume.old) × (V.upper volume.new ≡ V.upper volume.old) × (V.kept volume.new ≡ V.kept volume.old) }
+    ensures later { V.fault_count volume.old ≤ V.fault_count volume.new }
 {
     let op = op.clone()?;
     let faults_before = volume.faults();
@@ -50,7 +51,8 @@ fn take_turn<V: AskedVolume>(
 ) -> Result<(), Memory>
     requires { OnlyLooks command.now.what }
     ensures turn { OnOk result (Follows (V.upper volume.old) (V.tree volume.old) next (V.fault_count volume.old) (V.fault_count volume.new) (V.moment_of volume.old) (V.moment_of volume.new) command.now command.now.what turns.old.items turns.new.items) }
-    ensures same { OnOk result ((V.tree volume.new ≡ V.tree volume.old) × (V.upper volume.new ≡ V.upper volume.old)) }
+    ensures same { (V.tree volume.new ≡ V.tree volume.old) × (V.upper volume.new ≡ V.upper volume.old) × (V.kept volume.new ≡ V.kept volume.old) }
+    ensures later { V.fault_count volume.old ≤ V.fault_count volume.new }
 {
     let What::Op(op) = &command.what else {
         return Ok(());
@@ -78,6 +80,8 @@ pub fn serial_run<R: Threads + Wait, V: AskedVolume, G: Gate>(
     requires looks { AllLook script.now }
     requires next { IfSome (V.tree volume.old) (λ t. next_of t.journal ≡ next) }
     ensures run { IfOk result (λ turns. IfSome (V.tree volume.old) (λ t. IsRunOf (V.upper volume.old) t script.now time (V.fault_count volume.old) turns.items)) }
+    ensures kept { V.kept volume.new ≡ V.kept volume.old }
+    ensures later { V.fault_count volume.old ≤ V.fault_count volume.new }
     ensures turns { IfOk result (λ turns. TakesTurns script.now (V.fault_count volume.old) (V.fault_count volume.new) (V.moment_of volume.new) turns.items) }
 {
     let mut turns: Vec<Turn> = Vec::new(alloc);

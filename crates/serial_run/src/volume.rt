@@ -14,6 +14,11 @@ pub trait AskedVolume {
     /// The table of upper-case units by which its names are in order.
     ghost upper: { Self → List ℕ };
 
+    /// What each answer leaves as it is, beside these.
+    ghost Kept: { Type 0 };
+
+    ghost kept: { Self → Self.Kept };
+
     /// How often the device has failed, and its moment.
     ghost fault_count: { Self → ℕ };
 
@@ -24,7 +29,7 @@ pub trait AskedVolume {
     fn answer(&mut self, alloc: Global, op: &Op) -> Reply
         requires looks { is_look op.now ≡ true }
         ensures step { IfSome (tree self.old) (λ t. (stamp : ℕ) → IsStep (upper self.old) op.now stamp result t t) }
-        ensures leaves { LeavesVolume tree upper fault_count moment_of self.old self.new result };
+        ensures leaves { LeavesVolume tree upper Self.kept fault_count moment_of self.old self.new result };
 
     /// How often the device has failed; in constant time.
     fn faults(&self) -> u64
