@@ -28,8 +28,12 @@ pub record IsPrintedRun (known : Option MountedVolume) (script : List Command) (
   pub taken : TakesTurns script start now.faults now.moment turns
   pub printed : IsRunText turns [] text
 
--- what a run answers, of the mounted volume or what refuses it
-abbrev pub AnswersRun : Result MountedVolume Refusal → List Command → ℕ → Counted → Counted → Result (String Global) MountFault → Type 0
-AnswersRun (Ok m) script time before now (Ok text) = IsPrintedRun (Some m) script time before now (string_bytes text)
-AnswersRun (Err refusal) script time before now (Ok text) = ⊥
-AnswersRun meant script time before now (Err e) = ExplainsOrFails (scan_cause e) meant
+-- what a device has counted by now
+abbrev pub counted_by : {D : Type 0} → (D → ℕ) → (D → ℕ) → D → Counted
+counted_by fault_count moment_of device = record { faults = fault_count device; moment = moment_of device }
+
+-- what a run comes to, of the mounted volume or what refuses it
+abbrev pub RunsAs : Result MountedVolume Refusal → List Command → ℕ → Counted → Counted → Result (String Global) MountFault → Type 0
+RunsAs (Ok m) script time before now (Ok text) = IsPrintedRun (Some m) script time before now (string_bytes text)
+RunsAs (Err refusal) script time before now (Ok text) = ⊥
+RunsAs meant script time before now (Err e) = ExplainsOrFails (scan_cause e) meant
