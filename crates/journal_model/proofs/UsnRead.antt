@@ -12,7 +12,7 @@ use Rattle.host_base.specs.FileRefs.{unpacked}
 use Rattle.utf16_name.specs.Names.{name_of}
 use Rattle.utf16_name.proofs.Naming.{name_of-of_name}
 use Rattle.disk_model.specs.Numbers.{field}
-use Rattle.disk_model.specs.Bytes.{AreBytes, zeros, all_zeros, up8}
+use Rattle.disk_model.specs.Bytes.{AreBytes, zeros, up8, all_zeros}
 use Rattle.disk_model.proofs.Fields.{field-lt, field-take, AreBytes-drop}
 use Rattle.record_model.specs.Attributes.{units_at}
 use Rattle.record_model.proofs.Attributes.{length-units_at}
