@@ -1,0 +1,5 @@
+pub mod Leading
+pub mod Tabling
+pub mod Opened
+pub mod Sectors
+pub mod Replying
