@@ -189,5 +189,10 @@ WHOLE = whole_volume()
 # Of the wide volume the clusters 0 to 10, 12 and 13 are in use; the other one has the bit of cluster 12 clear.
 WIDE = wide_volume(bytes([0xFF, 0x37]))
 MISOWNED = wide_volume(bytes([0xFF, 0x27]))
-# Of the volume that scripts ask the clusters 0 to 10, 12 and those of the log are in use.
-ASKED = asked_volume(bits(544, *range(11), 12, *range(16, 529)))
+# Of the volume that scripts ask the clusters 0 to 10, 12 and those of the log are in use; of the other one cluster 12 isn't.
+ASKED_CLUSTERS = [*range(11), 12, *range(16, 529)]
+ASKED = asked_volume(bits(544, *ASKED_CLUSTERS))
+MISASKED = asked_volume(bits(544, *range(11), *range(16, 529)))
+# The same with fewer pages of the log, and with one that isn't initialised to its end.
+ASKED_LOG = {pages: asked_volume(bits(544, *range(11), 12, *range(16, 16 + pages)), pages) for pages in [256, 512]}
+UNREADY = asked_volume(bits(544, *ASKED_CLUSTERS), initialised=512)

@@ -95,7 +95,7 @@ unfolding known_answer
 format_is seed time sectors gives r is = is
 
 -- the same of a run
-pub run_is : (sectors : ℕ) (gives : Option (List (List ℕ))) (script : List Command) (time : ℕ) (before now : Counted) (r : Result (String Global) MountFault) → (sectors ≡ 0 → r ≡ Err (errors.Refused (Short 1 0)))
+pub run_is : (sectors : ℕ) (gives : Option (List (List ℕ))) (script : List Command) (time : ℕ) (before : Counted) (now : ℕ) (r : Result (String Global) MountFault) → (sectors ≡ 0 → r ≡ Err (errors.Refused (Short 1 0)))
     → IfSome gives (λ disk. RunsAs (mounted_of disk) script time before now r) → IfSome (known_mount sectors gives) (λ m. RunsAs m script time before now r)
 unfolding known_mount mounted_of
 run_is zero gives script time before now r none known = rw (none refl) refl

@@ -42,7 +42,7 @@ pub record AnswersQuiet (status : ℕ) (answer : Option (Result (List ℕ) Refus
 
 -- What a script that is accepted is answered, on a volume that may be mounted or refused, where this is known: the text is that of a serial run
 -- of the script from this time on.
-pub record AnswersScript (script : List Command) (time status : ℕ) (mounted : Option (Result MountedVolume Refusal)) (before now : Counted) (old new : Option (List ℕ)) : Type 0 where
+pub record AnswersScript (script : List Command) (time status : ℕ) (mounted : Option (Result MountedVolume Refusal)) (before : Counted) (now : ℕ) (old new : Option (List ℕ)) : Type 0 where
   -- it is done, or the volume is refused, or memory is wanting, or the sink or the device failed
   pub ends : IsQuietStatus status
   -- done, the volume is mounted
@@ -60,7 +60,7 @@ pub record AnswersScript (script : List Command) (time status : ℕ) (mounted : 
   pub silent : status ≡ 8 → new ≡ old
 
 -- What a run answers, of a source that had this left, on a volume that may be mounted or refused, where these are known.
-pub record AnswersRun (time status : ℕ) (left : Option (List ℕ)) (mounted : Option (Result MountedVolume Refusal)) (before now : Counted) (old new : Option (List ℕ)) : Type 0 where
+pub record AnswersRun (time status : ℕ) (left : Option (List ℕ)) (mounted : Option (Result MountedVolume Refusal)) (before : Counted) (now : ℕ) (old new : Option (List ℕ)) : Type 0 where
   -- it is done, or the volume or the script is refused, or the source failed, or memory is wanting, or the sink or the device failed
   pub ends : IsRunStatus status
   -- done, or with a volume that is refused, the source had a script
@@ -96,7 +96,7 @@ pub record AnswersNoLine (status : ℕ) (old new : Option (List ℕ)) : Type 0 w
 abbrev pub Answers : {D K : Type 0} → Asked → ℕ → Option (List ℕ) → (D → ℕ) → (D → Option (List (List ℕ))) → (D → ℕ) → (D → ℕ) → D → D → (K → Option (List ℕ)) → K → K → Type 0
 Answers (Quietly command) status left sector_count gives fault_count moment_of device device_now taken sink sink_now = AnswersQuiet status (known_answer command (sector_count device) (gives device)) (taken sink) (taken sink_now)
 Answers (Run time) status left sector_count gives fault_count moment_of device device_now taken sink sink_now =
-    AnswersRun time status left (known_mount (sector_count device) (gives device)) (counted_by fault_count moment_of device) (counted_by fault_count moment_of device_now) (taken sink) (taken sink_now)
+    AnswersRun time status left (known_mount (sector_count device) (gives device)) (counted_by fault_count moment_of device) (fault_count device_now) (taken sink) (taken sink_now)
 Answers NoLine status left sector_count gives fault_count moment_of device device_now taken sink sink_now = AnswersNoLine status (taken sink) (taken sink_now)
 
 -- ---- the causes of faults

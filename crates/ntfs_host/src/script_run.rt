@@ -32,8 +32,8 @@ fn text_of_run<R: Threads + Wait, D: Device, G: Gate>(
     gate: &G,
 ) -> Result<String, MountFault>
     requires looks { AllLook script.now }
-    ensures answer { IfSome (known_mount (D.sector_count device.old) (D.gives device.old)) (λ m. RunsAs m script.now time (counted_by D.fault_count D.moment_of device.old) (counted_by D.fault_count D.moment_of device.new) result) }
-    ensures told { IfOk result (λ text. IsPrintedRun None script.now time (counted_by D.fault_count D.moment_of device.old) (counted_by D.fault_count D.moment_of device.new) (string_bytes text)) }
+    ensures answer { IfSome (known_mount (D.sector_count device.old) (D.gives device.old)) (λ m. RunsAs m script.now time (counted_by D.fault_count D.moment_of device.old) (D.fault_count device.new) result) }
+    ensures told { IfOk result (λ text. IsPrintedRun None script.now time (counted_by D.fault_count D.moment_of device.old) (D.fault_count device.new) (string_bytes text)) }
     ensures leaves { IsOnlyRead D.gives D.changes_of device.old device.new }
     ensures sectors { D.sector_count device.new ≡ D.sector_count device.old }
     ensures causes { HasRunCauses (answer_status result) D.fault_count D.moment_of device.old device.new }
@@ -65,7 +65,7 @@ fn run_mounted<R: Threads + Wait, K: Sink, D: Device, G: Gate>(
     gate: &G,
 ) -> u8
     requires looks { AllLook script.now }
-    ensures answers { AnswersScript script.now time result (known_mount (D.sector_count device.old) (D.gives device.old)) (counted_by D.fault_count D.moment_of device.old) (counted_by D.fault_count D.moment_of device.new) (K.taken sink.old) (K.taken sink.new) }
+    ensures answers { AnswersScript script.now time result (known_mount (D.sector_count device.old) (D.gives device.old)) (counted_by D.fault_count D.moment_of device.old) (D.fault_count device.new) (K.taken sink.old) (K.taken sink.new) }
     ensures sink_causes { HasCauses 7 result (K.faults sink.old) (K.faults sink.new) }
     ensures device_causes { HasRunCauses result D.fault_count D.moment_of device.old device.new }
     ensures leaves { IsOnlyRead D.gives D.changes_of device.old device.new }

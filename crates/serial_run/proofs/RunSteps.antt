@@ -1,5 +1,5 @@
 -- One command more of a run.
-use Rattle.std.proofs.Common.{◌≡◌, ℕ, zero, suc, ◌+◌, ◌<◌, ◌≤◌, Bool, true, false, cond, List, [], ◌∷◌, ◌++◌, length, take, get_or, Option, Some, None, All, refl, sym, trans, ◌∙◌, ap, subst, arith}
+use Rattle.std.proofs.Common.{◌≡◌, ℕ, zero, suc, ◌+◌, ◌<◌, ◌≤◌, Bool, true, false, cond, List, [], ◌∷◌, ◌++◌, length, take, get_or, Option, Some, None, All, refl, sym, ◌∙◌, ap, subst, arith}
 use Rattle.std.specs.Prelude.{◌≢◌, filter, slice_get, ◌==◌, ◌&&◌, IfSome}
 use Rattle.std.proofs.lemmas.Bool.Decides.{nat_tests}
 use Rattle.std.proofs.lemmas.List.{append-nil, length-append, get_or_append_left}
@@ -18,7 +18,7 @@ use Rattle.run_model.specs.declared.turn.Turn.{Turn}
 use Rattle.run_model.specs.Runs.{IsTreeTurn, IsCounted, SerialRun, own, turn_commands, is_turn_command, takes_turn, moment_of_last, last_faults, next_of}
 use Rattle.run_model.proofs.Segments.{segment_push}
 use Rattle.run_model.proofs.Looked.{takes}
-use Rattle.serial_run.specs.Runs.{run_start, IsTurnOf, Follows, IsRunSoFar}
+use Rattle.serial_run.specs.Runs.{run_start, IsSound, IsTurnOf, Follows, IsRunSoFar}
 
 -- ---- places in a script
 
@@ -134,10 +134,10 @@ run_by upper (Some x) next script time before i now moment later onwards d turns
     segment_push (IsTreeTurn (run_start upper script time before next)) [] turns t x x x so_far.run (next_turn upper x next script time before i now moment later onwards d turns t o is lt what so_far it)
 
 -- all but the last, and the last
-front_all : (turns : List Turn) (t : Turn) → All (λ (u : Turn). u.reply ≢ Fault) (turns ++ t ∷ []) → All (λ (u : Turn). u.reply ≢ Fault) turns × (t.reply ≢ Fault)
+front_all : (turns : List Turn) (t : Turn) → All IsSound (turns ++ t ∷ []) → All IsSound turns × IsSound t
 front_all turns t all =
-    (λ i d lt. subst (λ (u : Turn). u.reply ≢ Fault) (get_or_append_left turns (t ∷ []) d i lt) (all i d (rw (length-append turns (t ∷ [])) (omega (arith, lt)))),
-     subst (λ (u : Turn). u.reply ≢ Fault) (get_or-append_seam turns t [] t) (all (length turns) t (rw (length-append turns (t ∷ [])) (omega arith))))
+    (λ i d lt. subst IsSound (get_or_append_left turns (t ∷ []) d i lt) (all i d (rw (length-append turns (t ∷ [])) (omega (arith, lt)))),
+     subst IsSound (get_or-append_seam turns t [] t) (all (length turns) t (rw (length-append turns (t ∷ [])) (omega arith))))
 
 counted_on : (now later : ℕ) (turns : List Turn) → now ≤ later → IsCounted now turns → IsCounted later turns
 counted_on now later turns le counted = λ i d lt. omega (arith, le, counted i d lt)
@@ -156,10 +156,11 @@ follows_by upper known next script time before i now moment later onwards d turn
       faults = λ client. fault_push before now later client turns t (so_far.faults client) le it.last;
       later = omega (arith, so_far.later, le);
       counted = All-push (λ (u : Turn). u.faults_after ≤ later) turns t (counted_on now later turns le so_far.counted) (omega (arith, it.last));
-      told = λ early all.
+      told = λ all.
         let parts = front_all turns t all in
-        let first : moment < last_moment = omega (arith, it.told.onwards, early) in
-        it.told.counted first parts.1 ∙ so_far.told first parts.0;
+        let sound = parts.1 in
+        let early : moment < last_moment = omega (arith, it.told.onwards, it.time, sound.0) in
+        it.told.counted early sound.1 ∙ so_far.told parts.0;
     })
 follows_by upper known next script time before i now moment later onwards d turns new (Find name) is lt what so_far follows =
     rw (follows.0, follows.1, follows.2) (record {
@@ -193,5 +194,11 @@ none_yet upper known next script time before moment = record {
   faults = λ client. omega arith;
   later = omega arith;
   counted = All-nil (λ (u : Turn). u.faults_after ≤ before);
-  told = λ early all. refl;
+  told = λ all. refl;
 }
+
+-- the same table and tree
+pub same_follows : (upper upper' : List ℕ) (known known' : Option Tree) (next before now moment_before moment_now : ℕ) (c : Command) (w : What) (turns new : List Turn) → known ≡ known' → upper ≡ upper'
+    → Follows upper known next before now moment_before moment_now c w turns new → Follows upper' known' next before now moment_before moment_now c w turns new
+same_follows upper upper' known known' next before now moment_before moment_now c w turns new tree table follows =
+    subst (λ (u : List ℕ). Follows u known' next before now moment_before moment_now c w turns new) table (subst (λ (k : Option Tree). Follows upper k next before now moment_before moment_now c w turns new) tree follows)

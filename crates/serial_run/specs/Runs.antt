@@ -20,13 +20,17 @@ run_start upper script time faults next = record { upper = upper; script = scrip
 abbrev pub IsRunOf : List ℕ → Tree → List Command → ℕ → ℕ → List Turn → Type 0
 IsRunOf upper tree script time faults turns = SerialRun (run_start upper script time faults (next_of tree.journal)) turns tree tree
 
--- Each command has its turn, in a run in which the device's count of faults went from the one to the other, up to this moment; no turn has counted more, and where
--- none is answered by `fault` before the device's last moment, the device didn't fail.
-pub record TakesTurns (script : List Command) (before now moment : ℕ) (turns : List Turn) : Type 0 where
+-- the turn ended before the device's last moment, and isn't answered by `fault`
+abbrev pub IsSound : Turn → Type 0
+IsSound t = (t.moment < last_moment) × (t.reply ≢ Fault)
+
+-- Each command has its turn, in a run in which the device's count of faults went from the one to the other; no turn has counted more, and where all are sound,
+-- the device didn't fail.
+pub record TakesTurns (script : List Command) (before now : ℕ) (turns : List Turn) : Type 0 where
   pub all : IsWhole script turns
   pub later : before ≤ now
   pub counted : IsCounted now turns
-  pub told : moment < last_moment → All (λ (t : Turn). t.reply ≢ Fault) turns → now ≡ before
+  pub told : All IsSound turns → now ≡ before
 
 -- ---- so far
 
@@ -57,4 +61,4 @@ pub record IsRunSoFar (upper : List ℕ) (known : Option Tree) (next : ℕ) (scr
   pub faults : (client : ℕ) → last_faults before (own turns client) ≤ now
   pub later : before ≤ now
   pub counted : IsCounted now turns
-  pub told : moment < last_moment → All (λ (t : Turn). t.reply ≢ Fault) turns → now ≡ before
+  pub told : All IsSound turns → now ≡ before

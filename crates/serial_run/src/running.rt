@@ -82,7 +82,7 @@ pub fn serial_run<R: Threads + Wait, V: AskedVolume, G: Gate>(
     ensures run { IfOk result (λ turns. IfSome (V.tree volume.old) (λ t. IsRunOf (V.upper volume.old) t script.now time (V.fault_count volume.old) turns.items)) }
     ensures kept { V.kept volume.new ≡ V.kept volume.old }
     ensures later { V.fault_count volume.old ≤ V.fault_count volume.new }
-    ensures turns { IfOk result (λ turns. TakesTurns script.now (V.fault_count volume.old) (V.fault_count volume.new) (V.moment_of volume.new) turns.items) }
+    ensures turns { IfOk result (λ turns. TakesTurns script.now (V.fault_count volume.old) (V.fault_count volume.new) turns.items) }
 {
     let mut turns: Vec<Turn> = Vec::new(alloc);
     for command in script.as_slice() {

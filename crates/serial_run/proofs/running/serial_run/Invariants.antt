@@ -1,3 +1,4 @@
+use Rattle.std.specs.Prelude.{◌≡◌, ◌≤◌}
 use Rattle.serial_run.specs.Runs.{IsRunSoFar}
 use Rattle.serial_run.proofs.running.serial_run.Given as goal
 
