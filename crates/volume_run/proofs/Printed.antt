@@ -39,10 +39,10 @@ unjournaled None m as = tt
 unjournaled (Some disk) m as = unjournaled_as disk (mounted_of disk) m refl as
 
 printed_as : (disk : List (List ℕ)) (meant : Result MountedVolume Refusal) (m : Mounted) (script : List Command) (time : ℕ) (before : Counted) (start now : ℕ) (turns : List Turn) (text : String Global) → IsMountedAs (content_of (sector_of disk)) meant m
-    → IfSome (tree_over m (Some (content_of (sector_of disk)))) (λ t. IsRunOf m.upper t script time start turns) → IsPrintedRun None script time before now (string_bytes text)
+    → IfSome (tree_over m (Some (content_of (sector_of disk)))) (λ t. IsRunOf m.upper t script time start turns)
     → TakesTurns script start now turns → IsRunText turns [] (string_bytes text) → before.faults ≤ start → (before.moment < last_moment → start ≡ before.faults)
     → RunsAs meant script time before now (Ok text)
-printed_as disk (Ok meant) m script time before start now turns text as run some taken printed later mounted = record {
+printed_as disk (Ok meant) m script time before start now turns text as run taken printed later mounted = record {
   turns = turns;
   start = start;
   later = later;
@@ -51,7 +51,7 @@ printed_as disk (Ok meant) m script time before start now turns text as run some
   taken = taken;
   printed = printed;
 }
-printed_as disk (Err refusal) m script time before start now turns text as run some taken printed later mounted = absurd as
+printed_as disk (Err refusal) m script time before start now turns text as run taken printed later mounted = absurd as
 
 -- the text of the turns on a mounted volume is that of a run
 pub any_run : (script : List Command) (time : ℕ) (before : Counted) (start now : ℕ) (turns : List Turn) (text : List ℕ)
@@ -64,7 +64,7 @@ pub run_is : (gives : Option (List (List ℕ))) (m : Mounted) (script : List Com
     → IfSome gives (λ disk. RunsAs (mounted_of disk) script time before now (Ok text))
 run_is None m script time before start now turns text as run taken printed later mounted = tt
 run_is (Some disk) m script time before start now turns text as run taken printed later mounted =
-    printed_as disk (mounted_of disk) m script time before start now turns text as run (any_run script time before start now turns (string_bytes text) taken printed later mounted) taken printed later mounted
+    printed_as disk (mounted_of disk) m script time before start now turns text as run taken printed later mounted
 
 runs_err : (meant : Result MountedVolume Refusal) (script : List Command) (time : ℕ) (before : Counted) (now : ℕ) (e : MountFault) → ExplainsOrFails (scan_cause e) meant → RunsAs meant script time before now (Err e)
 runs_err (Ok m) script time before now e why = why
