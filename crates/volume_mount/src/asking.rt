@@ -1,9 +1,11 @@
 ghost use Rattle.std.specs.Prelude.{◌≡◌, ℕ, ◌<◌, true, false, IfOk, IfSome};
 ghost use Rattle.host_base.specs.Causes.{last_moment};
+ghost use Rattle.block_view.specs.Views.{KeepsView};
 ghost use Rattle.device_view.specs.Devices.{KeepsDevice};
 ghost use Rattle.tree_model.specs.Steps.{is_look, is_given_up, Replies, IsStep};
+ghost use Rattle.tree_lookup.specs.Answered.{CountsReply};
 ghost use Rattle.volume_mount.specs.Trees.{tree_over, tree_shown};
-ghost use Rattle.volume_mount.specs.Answers.{RepliesBy, CountsReplyOnDevice};
+ghost use Rattle.volume_mount.specs.Answers.{CountsReplyOnDevice};
 
 use crate::mounted::Mounted;
 use block_view::View;
@@ -38,7 +40,8 @@ impl<'a> MountedTree<'a> {
         requires looks { is_look op.now ≡ true }
         ensures value { IfSome (tree_over self.now.mounted.now (V.content view.old)) (λ t. is_given_up result ≡ false → Replies self.now.mounted.now.upper t.nodes t.links op.now result) }
         ensures step { IfSome (tree_over self.now.mounted.now (V.content view.old)) (λ t. (stamp : ℕ) → IsStep self.now.mounted.now.upper op.now stamp result t t) }
-        ensures kept { RepliesBy V.content V.kept V.faults (tree_over self.now.mounted.now (V.content view.old)) view.old view.new result }
+        ensures kept { KeepsView V.content V.kept V.faults view.old view.new }
+        ensures counted { CountsReply (tree_over self.now.mounted.now (V.content view.old)) (V.faults view.old) (V.faults view.new) result }
     {
         let mounted = self.mounted;
         let bodies = &mounted.opening.found.recovered.blocks.bodies;
