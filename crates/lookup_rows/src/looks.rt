@@ -93,7 +93,9 @@ fn is_replied(
     row: &Row,
 ) -> Result<bool, Fail> {
     let mut turns = Vec::new(alloc);
-    turns.push(turn(alloc, tree, device, row.0, row.1)?).map_err(AllocError::from)?;
+    turns
+        .push(turn(alloc, tree, device, row.0, row.1)?)
+        .map_err(AllocError::from)?;
     let mut printed = String::new(alloc);
     text(&turns, &[], &mut printed)?;
     let wanted = format!(in alloc; "1 1 1 0 {}\n", row.2)?;

@@ -44,11 +44,7 @@ static ROWS: [Row; 7] = [
         }),
     ),
     Row(true, &[], Some(Refusal::Unbuilt { rule: 6 })),
-    Row(
-        true,
-        &[(36, 0x141, 0)],
-        Some(Refusal::Unbuilt { rule: 6 }),
-    ),
+    Row(true, &[(36, 0x141, 0)], Some(Refusal::Unbuilt { rule: 6 })),
     Row(
         false,
         &[(40, 0xF4, b'B')],
