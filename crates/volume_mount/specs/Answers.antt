@@ -1,12 +1,11 @@
 -- What a mount answers, and what a command is replied.
-use Rattle.std.specs.Prelude.{◌≡◌, ℕ, ◌≤◌, List, Option, Some, IfSome, Result, Ok, Err}
+use Rattle.std.specs.Prelude.{◌≡◌, ℕ, Option, Some, IfSome, Result, Ok, Err}
 use Rattle.host_base.specs.Answers.{ExplainsOrFails}
 use Rattle.host_base.specs.Causes.{HasFailed}
 use Rattle.disk_model.specs.Content.{Content}
 use Rattle.file_tree.specs.declared.tree.Tree.{Tree}
 use Rattle.tree_model.specs.declared.reply.Reply.{Reply}
 use Rattle.tree_model.specs.declared.reply.Reply.TheVariants.{Fault}
-use Rattle.tree_lookup.specs.Answered.{CountsReply}
 use Rattle.volume_map.specs.Maps.{volume_in}
 use Rattle.image_open.specs.declared.refusal.Refusal.{Refusal}
 use Rattle.image_open.specs.declared.refusal.MountFault.{MountFault}
@@ -37,14 +36,6 @@ MountsAs c meant (Ok m) = IsMountedAs c meant m
 MountsAs c meant (Err e) = ExplainsOrFails (scan_cause e) meant
 
 -- ---- a command
-
--- A command that asks a view: what the view shows and keeps stays, its count of faults doesn't fall, and where the tree is known a reply
--- `fault` says that the view failed; no other reply passes over a failure.
-pub record RepliesBy {V Kept : Type 0} (content : V → Option Content) (kept : V → Kept) (faults : V → ℕ) (known : Option Tree) (old new : V) (reply : Reply) : Type 0 where
-  pub same : content new ≡ content old
-  pub stays : kept new ≡ kept old
-  pub later : faults old ≤ faults new
-  pub counted : CountsReply known (faults old) (faults new) reply
 
 -- Of a command on a device: where the tree is known a reply `fault` says that the device failed in it; with every other reply its count
 -- of faults is as it was before.

@@ -1,10 +1,15 @@
 ghost use Rattle.std.specs.Prelude.{◌≡◌, ℕ, ◌<◌, true, false, IfOk, IfSome};
 ghost use Rattle.host_base.specs.Causes.{last_moment};
+ghost use Rattle.block_view.specs.Views.{KeepsView};
 ghost use Rattle.device_view.specs.Devices.{KeepsDevice};
 ghost use Rattle.tree_model.specs.Steps.{is_look, is_given_up, Replies, IsStep};
+ghost use Rattle.tree_lookup.specs.Answered.{CountsReply};
+ghost use Rattle.volume_map.specs.Maps.{volume_in};
+ghost use Rattle.volume_lookup.specs.Known.{known_tree};
 ghost use Rattle.volume_mount.specs.Trees.{tree_over, tree_shown};
-ghost use Rattle.volume_mount.specs.Answers.{RepliesBy, CountsReplyOnDevice};
+ghost use Rattle.volume_mount.specs.Answers.{CountsReplyOnDevice};
 
+use crate::lent::LentView;
 use crate::mounted::Mounted;
 use block_view::View;
 use device_view::{DeviceView, piece_room};
@@ -13,7 +18,26 @@ use log_recovery::RecoveredView;
 use sector_device::Device;
 use std::alloc::Global;
 use tree_lookup::{Op, Reply, answer};
+use upcase_order::Upcase;
 use volume_lookup::{NamedVolume, VolumeTree};
+
+// The reply of a loaded volume, whose table of upper-case units this is, over a view of its content.
+fn reply_over<V: View>(
+    alloc: Global,
+    view: &mut V,
+    volume: &NamedVolume,
+    up: &Upcase,
+    op: &Op,
+) -> Reply
+    requires looks { is_look op.now ≡ true }
+    ensures value { IfSome (known_tree up.now (volume_in volume.now.map.now) (V.content view.old)) (λ t. is_given_up result ≡ false → Replies up.now t.nodes t.links op.now result) }
+    ensures step { IfSome (known_tree up.now (volume_in volume.now.map.now) (V.content view.old)) (λ t. (stamp : ℕ) → IsStep up.now op.now stamp result t t) }
+    ensures kept { KeepsView V.content V.kept V.faults view.old view.new }
+    ensures counted { CountsReply (known_tree up.now (volume_in volume.now.map.now) (V.content view.old)) (V.faults view.old) (V.faults view.new) result }
+{
+    let mut tree = VolumeTree::new(LentView { view }, volume, up);
+    answer(alloc, &mut tree, op)
+}
 
 /// A mounted volume that is asked, with the names of its files.
 #[derive(Drop)]
@@ -38,13 +62,13 @@ impl<'a> MountedTree<'a> {
         requires looks { is_look op.now ≡ true }
         ensures value { IfSome (tree_over self.now.mounted.now (V.content view.old)) (λ t. is_given_up result ≡ false → Replies self.now.mounted.now.upper t.nodes t.links op.now result) }
         ensures step { IfSome (tree_over self.now.mounted.now (V.content view.old)) (λ t. (stamp : ℕ) → IsStep self.now.mounted.now.upper op.now stamp result t t) }
-        ensures kept { RepliesBy V.content V.kept V.faults (tree_over self.now.mounted.now (V.content view.old)) view.old view.new result }
+        ensures kept { KeepsView V.content V.kept V.faults view.old view.new }
+        ensures counted { CountsReply (tree_over self.now.mounted.now (V.content view.old)) (V.faults view.old) (V.faults view.new) result }
     {
         let mounted = self.mounted;
         let bodies = &mounted.opening.found.recovered.blocks.bodies;
-        let recovered = RecoveredView::new(view, bodies, &mounted.places);
-        let mut tree = VolumeTree::new(recovered, &self.volume, &mounted.upper);
-        answer(alloc, &mut tree, op)
+        let mut recovered = RecoveredView::new(view, bodies, &mounted.places);
+        reply_over(alloc, &mut recovered, &self.volume, &mounted.upper, op)
     }
 
     /// What is answered to an operation that only looks, over the device on which the volume was

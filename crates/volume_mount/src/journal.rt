@@ -32,9 +32,7 @@ const JOURNAL_RULE: u32 = 6;
 fn has_same(up: &Upcase, links: &[Link], directory: u64, part: &[u16]) -> bool
     ensures { result ≡ list_any (λ (l : the_link). is_in directory l && same_name up.now l.name part.now) links.now }
 {
-    links
-        .iter()
-        .any(|link| link.parent.number == directory && up.same(link.name.units(), part))
+    links.iter().any(|link| link.parent.number == directory && up.same(link.name.units(), part))
 }
 
 // Whether a part leads to a file in the directory.

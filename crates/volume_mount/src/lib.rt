@@ -11,6 +11,7 @@
 
 mod asking;
 mod journal;
+mod lent;
 mod loading;
 mod mounted;
 mod mounting;
