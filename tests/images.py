@@ -161,7 +161,38 @@ def wide_volume(bitmap):
     return with_records(made, *records, journal_file(64, JOURNAL_LIMITS, cluster=13, sectors=8))
 
 
+def asked_volume(bitmap, log_pages=513, initialised=None):
+    """The same files without a change journal, in 544 clusters of eight sectors of which these bits are set: a log of so many pages, all FF, of which so
+    many are initialised, from cluster 16 on."""
+    made = TINY.ljust((544 * 8 + 1) * SECTOR, b"\0")
+    log_bytes = 4096 * (log_pages if initialised is None else initialised)
+    made = changed(made, (0x28, struct.pack("<Q", 544 * 8)), (0x0D, b"\x08"), (0x30, b"\x01"), (0x38, b"\x07"), (0x40, b"\xf6"), (0x44, b"\x01"))
+    made = changed(made, (TABLE, bytes(32 * RECORD)), (16 * 4096, b"\xff" * log_bytes))
+    table, log = mapped(0, 8, bytes([0x11, 8, 1, 0]), 8), in_clusters(0, 0x80, "", 0, log_pages, 4096 * log_pages, struct.pack("<BHBB", 0x12, log_pages, 16, 0), sectors=8)
+    if initialised is not None:
+        log = changed(log, (0x38, struct.pack("<Q", log_bytes)))
+    files = in_use(table, log, bitmap, mapped(2, 1, bytes([0x11, 1, 12, 0]), 8))
+    kept = [found for found in files if found[0] != 11]
+    empty = directory(11, (5, BOTH, "$Extend"))
+    return with_records(made, *kept, empty)
+
+
+def bits(count, *clusters):
+    """So many bits, of which these are set."""
+    made = bytearray((count + 63) // 64 * 8)
+    for cluster in clusters:
+        made[cluster // 8] |= 1 << cluster % 8
+    return bytes(made)
+
+
 WHOLE = whole_volume()
 # Of the wide volume the clusters 0 to 10, 12 and 13 are in use; the other one has the bit of cluster 12 clear.
 WIDE = wide_volume(bytes([0xFF, 0x37]))
 MISOWNED = wide_volume(bytes([0xFF, 0x27]))
+# Of the volume that scripts ask the clusters 0 to 10, 12 and those of the log are in use; of the other one cluster 12 isn't.
+ASKED_CLUSTERS = [*range(11), 12, *range(16, 529)]
+ASKED = asked_volume(bits(544, *ASKED_CLUSTERS))
+MISASKED = asked_volume(bits(544, *range(11), *range(16, 529)))
+# The same with fewer pages of the log, and with one that isn't initialised to its end.
+ASKED_LOG = {pages: asked_volume(bits(544, *range(11), 12, *range(16, 16 + pages)), pages) for pages in [256, 512]}
+UNREADY = asked_volume(bits(544, *ASKED_CLUSTERS), initialised=512)

@@ -55,11 +55,7 @@ VOLUME_RULES = {
 }
 
 UNBUILT_RULES = {
-    1: "the boot sector: clusters have to have one sector, and the volume has to lie whole on the image",
-    2: "the file table: it has to lie in one piece, from the cluster that the boot sector says",
-    3: "the log: it has to lie in one piece, and has to be emptied, as ntfs-3g leaves it",
-    4: "a record, other than those of the file table and the log, that has clusters or an attribute list",
-    5: "a directory whose index has blocks besides its root",
+    6: "a change journal: the name `$UsnJrnl` in `$Extend` leads to a file",
 }
 
 # What to look at where one file record is at fault.
@@ -140,8 +136,8 @@ REFUSALS = {
     13: Refusal(
         "LogSmall",
         "PAGES NEEDED",
-        "The log (`$LogFile`) has {PAGES} pages, and a command that writes needs {NEEDED}.",
-        "`istat IMAGE 2` shows its size. Commands that only read don't need a larger log.",
+        "The log (`$LogFile`) has {PAGES} pages that are initialised, and a volume that scripts run on needs {NEEDED}.",
+        "`istat IMAGE 2` shows its size. The other commands don't need a larger log.",
     ),
     14: Refusal(
         "NoJournal",
@@ -168,8 +164,8 @@ REFUSALS = {
     17: Refusal(
         "Unbuilt",
         "RULE",
-        "Scripts run on small images alone so far, and this one isn't of that kind.",
-        "What the rule names. The commands scan, check, dump and journal take other volumes too.",
+        "Scripts don't run on volumes of this kind yet.",
+        "What the rule names. The commands scan, check, dump and journal take such volumes too.",
         "RULE",
         UNBUILT_RULES,
     ),
@@ -183,6 +179,8 @@ SCRIPT_RULES = {
     5: "there is no such command, or none at all",
     6: "the command has more or fewer words than it takes",
     7: "the path doesn't begin with `/`, has an empty part, or a name that can't be",
+    8: "a number isn't `0` or digits without a zero before them, or is 2^62 or more",
+    9: "a read asks for more than 4,096 bytes",
 }
 
 # The line behind `script`, with the names of its values; what it means and what to look at.

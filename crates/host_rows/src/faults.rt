@@ -1,6 +1,8 @@
 //! Runs of which one call of the source, the device or the sink fails, and who passes the gate.
 use crate::images::Image;
-use crate::runs::{Call, DUMP_WORDS, Fault, NO_FAULT, Part, RUN_WORDS, SCAN_WORDS, run};
+use crate::runs::{
+    Call, DUMP_WORDS, Fault, NAMES_TEXT, NO_FAULT, Part, RUN_WORDS, SCAN_WORDS, run,
+};
 use std::process::Abort;
 use std::sync::Wait;
 use std::test::Fail;
@@ -47,18 +49,13 @@ static PRINTED: [Table; 3] = [
         )],
     ),
     Table(
-        Call(Image::Wide, RUN_WORDS, SCRIPT),
+        Call(Image::New, RUN_WORDS, SCRIPT),
         &[
             Row(Fault(Part::Source, 1), 5, b"", 0),
             Row(Fault(Part::Source, 2), 5, b"", 0),
             Row(Fault(Part::Device, 1), 8, b"", 0),
             Row(Fault(Part::Sink, 1), 7, b"", 11_121_314),
-            Row(
-                Fault(Part::Sink, 2),
-                7,
-                b"1 1 1 64 names 4 $Extend . d f\n",
-                11_121_314,
-            ),
+            Row(Fault(Part::Sink, 2), 7, NAMES_TEXT, 11_121_314),
         ],
     ),
 ];
@@ -79,7 +76,10 @@ static OTHER: [&[&str]; 7] = [
 const LOOKS: &[u8] = b"1 list /\n# nothing\n1 stat /q\n1 stat /\n";
 
 const LOOKS_TEXT: &[u8] =
-    b"1 1 1 64 names 4 $Extend . d f\n1 2 2 64 not-found 1\n1 3 3 64 stat 5 5 directory 1 0 0 0 0 0 0\n";
+    b"1 1 1 0 names 12 $AttrDef $BadClus $Bitmap $Boot $Extend $LogFile $MFT $MFTMirr $Secure $UpCase $Volume .
+1 2 2 0 not-found 1
+1 3 3 0 stat 5 5 directory 1 0 0 0 0 0 0
+";
 
 const BROKEN: &[u8] = b"1 stat /\n1 stat\n";
 
@@ -91,22 +91,22 @@ const AT_1000: &[&str] = &["ntfshost", "tiny.img", "run", "--time=1000"];
 // passes where the device, the script or the volume fails.
 static GATES: [Table; 5] = [
     Table(
-        Call(Image::Wide, AT_0, LOOKS),
+        Call(Image::New, AT_0, LOOKS),
         &[Row(NO_FAULT, 0, LOOKS_TEXT, 111_213)],
     ),
     Table(
-        Call(Image::Wide, AT_1000, LOOKS),
+        Call(Image::New, AT_1000, LOOKS),
         &[Row(NO_FAULT, 0, LOOKS_TEXT, 111_213)],
     ),
     Table(
-        Call(Image::Wide, RUN_WORDS, LOOKS),
+        Call(Image::New, RUN_WORDS, LOOKS),
         &[
             Row(Fault(Part::Sink, 1), 7, b"", 111_213),
             Row(Fault(Part::Device, 1), 8, b"", 0),
         ],
     ),
     Table(
-        Call(Image::Wide, RUN_WORDS, BROKEN),
+        Call(Image::New, RUN_WORDS, BROKEN),
         &[Row(NO_FAULT, 4, b"script line 2 rule 6\n", 0)],
     ),
     Table(
@@ -115,26 +115,12 @@ static GATES: [Table; 5] = [
     ),
 ];
 
-const PATHS: &[u8] = b"1 stat /d/Long\n1 stat /D/LONG\n1 stat /d/long~1\n1 list /d\n1 stat /f\n";
-
-const PATHS_TEXT: &[u8] = b"1 1 1 64 stat 26 1 file 1 5 0 1 2 3 4
-1 2 2 64 stat 26 1 file 1 5 0 1 2 3 4
-1 3 3 64 stat 26 1 file 1 5 0 1 2 3 4
-1 4 4 64 names 1 Long
-1 5 5 64 stat 25 1 file 1 4096 1 1 2 3 4
-";
-
-// A path of two parts, in another case, and by a short name, which no listing shows; a volume that
-// breaks a rule; and the sectors of a cluster, which a run refuses in their place, before the
-// volume's sectors.
-static TREES: [Table; 4] = [
+// A volume with a change journal; and the sectors of a cluster, which a run refuses in their place,
+// before the volume's sectors.
+static REFUSED: [Table; 3] = [
     Table(
-        Call(Image::Wide, RUN_WORDS, PATHS),
-        &[Row(NO_FAULT, 0, PATHS_TEXT, 1_112_131_415)],
-    ),
-    Table(
-        Call(Image::Misowned, RUN_WORDS, LOOKS),
-        &[Row(NO_FAULT, 3, b"refused 15 BadVolume 6 12\n", 0)],
+        Call(Image::Wide, RUN_WORDS, LOOKS),
+        &[Row(NO_FAULT, 3, b"refused 17 Unbuilt 6\n", 0)],
     ),
     Table(
         Call(Image::Unsized, RUN_WORDS, LOOKS),
@@ -189,8 +175,8 @@ fn the_gate_stands_before_the_text_and_after_the_volume(rt: HostRuntime) -> Resu
 }
 
 #[test]
-fn a_run_asks_the_checked_tree(rt: HostRuntime) -> Result<(), Fail> {
-    for (i, table) in TREES.iter().enumerate() {
+fn a_volume_that_is_not_mounted_has_no_run(rt: HostRuntime) -> Result<(), Fail> {
+    for (i, table) in REFUSED.iter().enumerate() {
         assert_eq!(rt; first_bad(&rt, table)?, None, "table {i}");
     }
     Ok(())

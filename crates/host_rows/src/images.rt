@@ -1,7 +1,9 @@
 //! The images of the rows: the tiny image, and a small volume that breaks no rule, in clusters of
 //! one sector and of eight (Linux-NTFS documentation, "FILE Record", "Attribute Header" and
 //! "$INDEX_ROOT").
+use sector_device::MemoryDevice;
 use std::alloc::{AllocError, Global};
+use volume_format::format;
 
 // Where the file table stands, and in the tiny image the copy of its first four records.
 const TABLE: usize = 4096;
@@ -33,15 +35,15 @@ struct Head(u8, u8, u8);
 struct File(Head, &'static [Part]);
 
 /// An image that rows run on: the tiny image, the same without sectors by its boot sector, a volume
-/// that breaks no rule, one with clusters of eight sectors, this one with cluster 12 owned and
-/// clear, or 4,537 sectors of zeros.
+/// that breaks no rule, one with clusters of eight sectors, a new volume in 4,537 sectors, or as many
+/// sectors of zeros.
 #[derive(Clone, Copy, Debug, PartialEq, Eq)]
 pub enum Image {
     Tiny,
     Unsized,
     Whole,
     Wide,
-    Misowned,
+    New,
     Blank,
 }
 
@@ -53,7 +55,7 @@ impl Image {
             Image::Unsized => unsized_tiny(alloc),
             Image::Whole => whole(alloc),
             Image::Wide => wide(alloc, &WIDE_BITMAP),
-            Image::Misowned => wide(alloc, &CLEAR_BITMAP),
+            Image::New => new_volume(alloc),
             Image::Blank => zeros(alloc, 4537),
         }
     }
@@ -246,8 +248,6 @@ static WIDE_FILES: [File; 4] = [
 
 // The bits of the 16 clusters in use, 0 to 10, 12 and 13; and without 12.
 static WIDE_BITMAP: File = File(Head(6, 6, 1), &[Part::Value(0x80, &[255, 0x37])]);
-
-static CLEAR_BITMAP: File = File(Head(6, 6, 1), &[Part::Value(0x80, &[255, 0x27])]);
 
 // `$J`, sparse, with 64 bytes in cluster 97; and `$Max` with 32 zeros.
 const RECORDS: &[Edit] = &[
@@ -459,6 +459,19 @@ fn volume(alloc: Global, sectors: u16, log: usize) -> Result<Vec<u8>, AllocError
     put(&mut image, 0x28, &clusters.to_le_bytes());
     put(&mut image, log, &[0xff; 8192]);
     Ok(image)
+}
+
+// A volume that was made at the time 0.
+fn new_volume(alloc: Global) -> Result<Vec<u8>, AllocError> {
+    let blank = zeros(alloc, 4537)?;
+    if blank.len() % 512 != 0 {
+        return Err(AllocError);
+    }
+    let mut device = MemoryDevice::new(alloc, blank, Vec::new(alloc));
+    match format(alloc, &mut device, 0, 0) {
+        Ok(_) => device.left_by(alloc, device.done.len(), &[]),
+        Err(_) => Err(AllocError),
+    }
 }
 
 // 65 sectors, of which 8 to 39 are 16 file records, 40 to 55 a log, and 56 to 63 copies of the

@@ -24,6 +24,10 @@ pub const RUN_WORDS: &[&str] = &["ntfshost", "tiny.img", "run"];
 /// The text of a scan of the tiny image, and of a check of the volume that breaks no rule.
 pub const TINY_TEXT: &[u8] = b"0 1 5 5 $MFT\n2 2 5 5 $LogFile\n5 5 5 5 .\nlinks 3\n";
 
+/// The line of the names of a new volume.
+pub const NAMES_TEXT: &[u8] =
+    b"1 1 1 0 names 12 $AttrDef $BadClus $Bitmap $Boot $Extend $LogFile $MFT $MFTMirr $Secure $UpCase $Volume .\n";
+
 pub const CHECK_TEXT: &[u8] = b"ok nodes 6 links 7 room 38 journal 0 64\n";
 
 /// What is run: a device of this image, these words, and what the source holds.

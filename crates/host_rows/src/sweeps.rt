@@ -1,7 +1,8 @@
 //! Commands of which each call of the device fails by its number, up to one that is never reached.
 use crate::images::Image;
 use crate::runs::{
-    CHECK_TEXT, CHECK_WORDS, Call, FORMAT_WORDS, Fault, Part, RUN_WORDS, SCAN_WORDS, TINY_TEXT, run,
+    CHECK_TEXT, CHECK_WORDS, Call, FORMAT_WORDS, Fault, NAMES_TEXT, Part, RUN_WORDS, SCAN_WORDS,
+    TINY_TEXT, run,
 };
 use std::process::Abort;
 use std::sync::Wait;
@@ -12,15 +13,9 @@ use std::thread::Threads;
 // and below the second.
 struct Sweep(Call, &'static [u8], u64, u64);
 
-static READ: [Sweep; 3] = [
+static READ: [Sweep; 2] = [
     Sweep(Call(Image::Tiny, SCAN_WORDS, b""), TINY_TEXT, 0, 100),
     Sweep(Call(Image::Whole, CHECK_WORDS, b""), CHECK_TEXT, 0, 100),
-    Sweep(
-        Call(Image::Wide, RUN_WORDS, b"1 list /\n"),
-        b"1 1 1 64 names 4 $Extend . d f\n",
-        0,
-        100,
-    ),
 ];
 
 static FORMATTED: Sweep = Sweep(
@@ -54,6 +49,36 @@ fn a_device_that_fails_has_nothing_written(rt: HostRuntime) -> Result<(), Fail> 
         let (call, is_whole) = first_whole(&rt, sweep)?;
         assert!(rt; is_whole, "row {i}, call {call}");
     }
+    Ok(())
+}
+
+const LISTS: Call = Call(Image::New, RUN_WORDS, b"1 list /\n");
+
+// How many calls end the run with the status 8 and no text, and how many behind them are told by
+// the line of the command; and whether the call behind these is never reached.
+fn told_faults<R: Threads + Wait + Sync + Abort + AllocGlobal>(
+    rt: &R,
+) -> Result<(u64, u64, bool), Fail> {
+    let (mut ended_by, mut told) = (0u64, 0u64);
+    for call in 1..=200 {
+        let ended = run(rt, &LISTS, Fault(Part::Device, call))?;
+        if told == 0 && ended.is(8, b"") {
+            ended_by = call;
+        } else if ended.is(0, b"1 1 1 0 fault\n") {
+            told = told.wrapping_add(1);
+        } else {
+            return Ok((ended_by, told, ended.is(0, NAMES_TEXT)));
+        }
+    }
+    Ok((ended_by, told, false))
+}
+
+#[test]
+fn a_device_that_fails_in_a_command_is_told_by_its_line(rt: HostRuntime) -> Result<(), Fail> {
+    let (ended_by, told, is_whole) = told_faults(&rt)?;
+    assert!(rt; ended_by > 0);
+    assert!(rt; told > 0);
+    assert!(rt; is_whole);
     Ok(())
 }
 

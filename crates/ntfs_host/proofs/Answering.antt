@@ -13,11 +13,12 @@ use Rattle.volume_format.specs.declared.fault.FormatRefusal.{FormatRefusal}
 use Rattle.volume_format.specs.declared.fault.Formatted.{Formatted}
 use Rattle.volume_format.specs.Answers.{format_answer}
 use Rattle.image_open.specs.declared.refusal.Refusal.TheVariants.{Short}
-use Rattle.image_read.specs.declared.mounting.Mounted.{Mounted}
+use Rattle.tree_model.specs.declared.script.Command.{Command}
 use Rattle.image_read.specs.Scans.{scan_of}
 use Rattle.image_read.specs.Checks.{check_of}
 use Rattle.image_read.specs.Records.{journal_of}
-use Rattle.image_read.specs.Mounts.{mounted_of}
+use Rattle.volume_mount.specs.Mounts.{mounted_of}
+use Rattle.volume_run.specs.Prints.{Counted, RunsAs}
 use Rattle.ntfs_host.specs.declared.command.Quiet.TheVariants.{Scan, Dump, Check, Journal, Format}
 use Rattle.ntfs_host.specs.Answers.{format_refusal, format_line, known_disk, known_answer, known_mount, scan_answer, dump_answer, check_answer, journal_answer}
 use Rattle.ntfs_host.specs.Text.{formatted_line}
@@ -93,13 +94,13 @@ pub format_is : (seed time sectors : ℕ) (gives : Option (List (List ℕ))) (r 
 unfolding known_answer
 format_is seed time sectors gives r is = is
 
--- the same of a volume that is mounted
-pub mount_is : (sectors : ℕ) (gives : Option (List (List ℕ))) (r : Result Mounted MountFault) → (sectors ≡ 0 → r ≡ Err (errors.Refused (Short 1 0)))
-    → IfSome gives (λ disk. GivesOrFails (λ m. m) scan_cause r (mounted_of disk)) → IfSome (known_mount sectors gives) (GivesOrFails (λ m. m) scan_cause r)
+-- the same of a run
+pub run_is : (sectors : ℕ) (gives : Option (List (List ℕ))) (script : List Command) (time : ℕ) (before : Counted) (now : ℕ) (r : Result (String Global) MountFault) → (sectors ≡ 0 → r ≡ Err (errors.Refused (Short 1 0)))
+    → IfSome gives (λ disk. RunsAs (mounted_of disk) script time before now r) → IfSome (known_mount sectors gives) (λ m. RunsAs m script time before now r)
 unfolding known_mount mounted_of
-mount_is zero gives r none known = rw (none refl) refl
-mount_is (suc n) None r none known = tt
-mount_is (suc n) (Some disk) r none known = known
+run_is zero gives script time before now r none known = rw (none refl) refl
+run_is (suc n) None script time before now r none known = tt
+run_is (suc n) (Some disk) script time before now r none known = known
 
 -- a first step that is refused so is both
 pub refused_first : {A B : Type 0} (sectors : ℕ) (e : MountFault) → (sectors ≡ 0 → fails {A = A} e ≡ fails {A = A} (errors.Refused (Short 1 0)))

@@ -1,5 +1,4 @@
 pub mod Answering
-pub mod RunSteps
 pub mod Losses
 pub mod Uncalled
 pub mod Telling

@@ -16,8 +16,7 @@ use Rattle.image_read.specs.Scans.{scan_of}
 use Rattle.image_dump.specs.Texts.{scan_text, dump_text, check_text, journal_text}
 use Rattle.image_read.specs.Checks.{check_of}
 use Rattle.image_read.specs.Records.{journal_of}
-use Rattle.image_read.specs.declared.mounting.Mounted.{Mounted}
-use Rattle.image_read.specs.Mounts.{mounted_of}
+use Rattle.volume_mount.specs.Mounts.{MountedVolume, mounted_of}
 use Rattle.ntfs_host.specs.declared.command.Quiet.{Quiet}
 use Rattle.ntfs_host.specs.declared.command.Quiet.TheVariants.{Scan, Dump, Check, Journal, Format}
 use Rattle.ntfs_host.specs.Text.{formatted_line}
@@ -67,7 +66,7 @@ known_answer Journal sectors gives = option_map journal_answer (known_disk secto
 known_answer (Format seed time) sectors gives = Some (format_line sectors)
 
 -- the volume of a device of so many sectors, mounted, or the first refusal that applies, where it is known
-unfoldable pub known_mount : ℕ → Option (List (List ℕ)) → Option (Result Mounted Refusal)
+unfoldable pub known_mount : ℕ → Option (List (List ℕ)) → Option (Result MountedVolume Refusal)
 known_mount sectors gives = option_map mounted_of (known_disk sectors gives)
 
 -- the status that the text of a command, or what keeps it from having one, has by itself

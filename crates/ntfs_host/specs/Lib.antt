@@ -2,7 +2,6 @@ pub mod Text
 pub mod Answers
 pub mod Words
 pub mod Statuses
-pub mod SerialRuns
 pub mod Scripts
 pub mod Runs
 pub mod Outcomes

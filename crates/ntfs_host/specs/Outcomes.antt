@@ -11,12 +11,13 @@ use Rattle.volume_format.specs.Crashing.{IsSettledNow, KeepsLeft}
 use Rattle.tree_model.specs.declared.script.Command.{Command}
 use Rattle.script_text.specs.Scripts.{script_of}
 use Rattle.image_open.specs.declared.refusal.Refusal.{Refusal}
-use Rattle.image_read.specs.declared.mounting.Mounted.{Mounted}
+use Rattle.volume_mount.specs.Mounts.{MountedVolume}
+use Rattle.volume_run.specs.Prints.{Counted, counted_by}
 use Rattle.ntfs_host.specs.declared.command.Quiet.TheVariants.{Scan, Dump, Check, Journal, Format}
 use Rattle.ntfs_host.specs.declared.command.Asked.{Asked}
 use Rattle.ntfs_host.specs.declared.command.Asked.TheVariants.{Quietly, Run, NoLine}
 use Rattle.ntfs_host.specs.Answers.{known_answer, known_mount, format_line}
-use Rattle.ntfs_host.specs.Runs.{PrintsVolume, PrintsVolumePart, PrintsScript, PrintsScriptPart, IsRunStatus}
+use Rattle.ntfs_host.specs.Runs.{PrintsRun, PrintsVolume, PrintsVolumePart, PrintsScript, PrintsScriptPart, IsRunStatus}
 use Rattle.ntfs_host.specs.Scripts.{script_line, IsAccepted, IsReadWhole, LosesAtMost}
 use Rattle.ntfs_host.specs.Statuses.{IsQuietStatus}
 use Rattle.ntfs_host.specs.Text.{printed, refusal_line}
@@ -41,24 +42,25 @@ pub record AnswersQuiet (status : ℕ) (answer : Option (Result (List ℕ) Refus
 
 -- What a script that is accepted is answered, on a volume that may be mounted or refused, where this is known: the text is that of a serial run
 -- of the script from this time on.
-pub record AnswersScript (script : List Command) (time status : ℕ) (mounted : Option (Result Mounted Refusal)) (faults : ℕ) (old new : Option (List ℕ)) : Type 0 where
+pub record AnswersScript (script : List Command) (time status : ℕ) (mounted : Option (Result MountedVolume Refusal)) (before : Counted) (now : ℕ) (old new : Option (List ℕ)) : Type 0 where
   -- it is done, or the volume is refused, or memory is wanting, or the sink or the device failed
   pub ends : IsQuietStatus status
   -- done, the volume is mounted
   pub mounts : status ≡ 0 → IfSome mounted IsOk
-  -- and the sink took the text
-  pub done : status ≡ 0 → IfSome mounted (λ m. PrintsVolume old new m script time faults)
+  -- and the sink took the text of a run, which is one of that volume
+  pub told : status ≡ 0 → PrintsRun old new script time before now
+  pub done : status ≡ 0 → IfSome mounted (λ m. PrintsVolume old new m script time before now)
   -- refused, the line of what refuses the volume
   pub refused : status ≡ 3 → IfSome mounted (λ m. IsErrAnd m (λ refusal. Appends old new (refusal_line refusal)))
   -- for want of memory nothing, or a front of the one or the other
-  pub memory : status ≡ 6 → (new ≡ old) ⊎ IfSome mounted (λ m. PrintsVolumePart old new m script time faults)
+  pub memory : status ≡ 6 → (new ≡ old) ⊎ IfSome mounted (λ m. PrintsVolumePart old new m script time before now)
   -- where it failed itself, a front
-  pub part : status ≡ 7 → IfSome mounted (λ m. PrintsVolumePart old new m script time faults)
+  pub part : status ≡ 7 → IfSome mounted (λ m. PrintsVolumePart old new m script time before now)
   -- where the device failed, nothing
   pub silent : status ≡ 8 → new ≡ old
 
 -- What a run answers, of a source that had this left, on a volume that may be mounted or refused, where these are known.
-pub record AnswersRun (time status : ℕ) (left : Option (List ℕ)) (mounted : Option (Result Mounted Refusal)) (faults : ℕ) (old new : Option (List ℕ)) : Type 0 where
+pub record AnswersRun (time status : ℕ) (left : Option (List ℕ)) (mounted : Option (Result MountedVolume Refusal)) (before : Counted) (now : ℕ) (old new : Option (List ℕ)) : Type 0 where
   -- it is done, or the volume or the script is refused, or the source failed, or memory is wanting, or the sink or the device failed
   pub ends : IsRunStatus status
   -- done, or with a volume that is refused, the source had a script
@@ -66,15 +68,15 @@ pub record AnswersRun (time status : ℕ) (left : Option (List ℕ)) (mounted : 
   -- done, the volume is mounted
   pub mounts : status ≡ 0 → IfSome mounted IsOk
   -- and the sink took the text of a serial run of the script from this time on
-  pub done : status ≡ 0 → IfSome left (λ bytes. PrintsScript old new mounted time faults (script_of bytes))
+  pub done : status ≡ 0 → IfSome left (λ bytes. PrintsScript old new mounted time before now (script_of bytes))
   -- with a volume that is refused, the line of what refuses it
   pub refused : status ≡ 3 → IfSome mounted (λ m. IsErrAnd m (λ refusal. Appends old new (refusal_line refusal)))
   -- without a script, the line of what refuses it
   pub no_script : status ≡ 4 → IfSome left (λ bytes. IsErrAnd (script_of bytes) (λ fault. Appends old new (script_line fault)))
   -- for want of memory nothing, or a front of one of these
-  pub memory : status ≡ 6 → (new ≡ old) ⊎ IfSome left (λ bytes. PrintsScriptPart old new mounted time faults (script_of bytes))
+  pub memory : status ≡ 6 → (new ≡ old) ⊎ IfSome left (λ bytes. PrintsScriptPart old new mounted time before now (script_of bytes))
   -- where it failed itself, a front
-  pub part : status ≡ 7 → IfSome left (λ bytes. PrintsScriptPart old new mounted time faults (script_of bytes))
+  pub part : status ≡ 7 → IfSome left (λ bytes. PrintsScriptPart old new mounted time before now (script_of bytes))
   -- where the source or the device failed, nothing
   pub silent : (status ≡ 5) ⊎ (status ≡ 8) → new ≡ old
 
@@ -90,11 +92,12 @@ pub record AnswersNoLine (status : ℕ) (old new : Option (List ℕ)) : Type 0 w
   pub part : status ≡ 7 → AppendsPart old new usage
 
 -- What the sink took, by what was asked, of a source that had this left. What is known of an answer is a function of what reads of the device gave
--- before; the faults that it has counted now bound those that the text of a run may tell.
-abbrev pub Answers : {D K : Type 0} → Asked → ℕ → Option (List ℕ) → (D → ℕ) → (D → Option (List (List ℕ))) → (D → ℕ) → D → D → (K → Option (List ℕ)) → K → K → Type 0
-Answers (Quietly command) status left sector_count gives fault_count device device_now taken sink sink_now = AnswersQuiet status (known_answer command (sector_count device) (gives device)) (taken sink) (taken sink_now)
-Answers (Run time) status left sector_count gives fault_count device device_now taken sink sink_now = AnswersRun time status left (known_mount (sector_count device) (gives device)) (fault_count device_now) (taken sink) (taken sink_now)
-Answers NoLine status left sector_count gives fault_count device device_now taken sink sink_now = AnswersNoLine status (taken sink) (taken sink_now)
+-- before; what it had counted then and has now bounds what the text of a run may tell.
+abbrev pub Answers : {D K : Type 0} → Asked → ℕ → Option (List ℕ) → (D → ℕ) → (D → Option (List (List ℕ))) → (D → ℕ) → (D → ℕ) → D → D → (K → Option (List ℕ)) → K → K → Type 0
+Answers (Quietly command) status left sector_count gives fault_count moment_of device device_now taken sink sink_now = AnswersQuiet status (known_answer command (sector_count device) (gives device)) (taken sink) (taken sink_now)
+Answers (Run time) status left sector_count gives fault_count moment_of device device_now taken sink sink_now =
+    AnswersRun time status left (known_mount (sector_count device) (gives device)) (counted_by fault_count moment_of device) (fault_count device_now) (taken sink) (taken sink_now)
+Answers NoLine status left sector_count gives fault_count moment_of device device_now taken sink sink_now = AnswersNoLine status (taken sink) (taken sink_now)
 
 -- ---- the causes of faults
 
@@ -113,6 +116,21 @@ pub record HasDeviceCauses {D : Type 0} (status : ℕ) (fault_count moment_of : 
   pub counted : moment_of old < last_moment → status ≢ 8 → fault_count new ≡ fault_count old
   -- they never fall
   pub later : fault_count old ≤ fault_count new
+
+-- The same of a run, whose commands may fail by the device and go on: where it is done, its text tells of them.
+pub record HasRunCauses {D : Type 0} (status : ℕ) (fault_count moment_of : D → ℕ) (old new : D) : Type 0 where
+  -- they rose in the mount where the status says that the device failed
+  pub failed : status ≡ 8 → HasFailed (fault_count old) (fault_count new) (moment_of new)
+  -- and not where the volume or the script is refused, or the source failed
+  pub counted : moment_of old < last_moment → (status ≡ 3) ⊎ (status ≡ 4) ⊎ (status ≡ 5) → fault_count new ≡ fault_count old
+  -- they never fall
+  pub later : fault_count old ≤ fault_count new
+
+-- by what was asked
+abbrev pub HasCausesBy : {D : Type 0} → Asked → ℕ → (D → ℕ) → (D → ℕ) → D → D → Type 0
+HasCausesBy (Quietly command) status fault_count moment_of old new = HasDeviceCauses status fault_count moment_of old new
+HasCausesBy (Run time) status fault_count moment_of old new = HasRunCauses status fault_count moment_of old new
+HasCausesBy NoLine status fault_count moment_of old new = HasDeviceCauses status fault_count moment_of old new
 
 -- ---- the order of calls
 

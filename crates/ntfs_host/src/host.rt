@@ -191,10 +191,10 @@ fn do_asked<R: Threads + Wait + Sync, S: Source, K: Sink, D: Device + Send, G: G
     device: D,
     gate: &G,
 ) -> Outcome<D>
-    ensures answers { Answers asked result.status (S.left source.old) D.sector_count D.gives D.fault_count device result.device K.taken sink.old sink.new }
+    ensures answers { Answers asked result.status (S.left source.old) D.sector_count D.gives D.fault_count D.moment_of device result.device K.taken sink.old sink.new }
     ensures source_causes { HasCauses 5 result.status (S.faults source.old) (S.faults source.new) }
     ensures sink_causes { HasCauses 7 result.status (K.faults sink.old) (K.faults sink.new) }
-    ensures device_causes { HasDeviceCauses result.status D.fault_count D.moment_of device result.device }
+    ensures device_causes { HasCausesBy asked result.status D.fault_count D.moment_of device result.device }
     ensures order { KeepsOrder asked result.status S.left source.old source.new sink.old sink.new device result.device }
     ensures leaves { LeavesDevice asked result.status D.sector_count D.gives D.moment_of D.changes_of device result.device }
     ensures whole { IsWhole asked result.status (S.left source.old) D.sector_count D.gives device }
@@ -217,12 +217,13 @@ fn do_asked<R: Threads + Wait + Sync, S: Source, K: Sink, D: Device + Send, G: G
 /// no commands yet. `gate.pass` is called before each command of a script. The status is that of
 /// `Outcome`.
 ///
-/// A run asks the tree that a check makes of the volume. It takes volumes with eight sectors a
-/// cluster: other sectors a cluster are refused by the boot sector's field at 13, in this field's
-/// place, and then it refuses what a check refuses. It reads what a check reads, once more the
-/// first sector, and the table of upper-case units, by which names are in order. Beside what a
-/// check takes it has the tree in memory, with maps of its nodes and names, in time near linear in
-/// these, and the text; a command asks these maps once or twice for each part of its path.
+/// A run mounts the volume and asks its own indexes. It takes volumes with eight sectors a cluster:
+/// other sectors a cluster are refused by the boot sector's field at 13, in this field's place. It
+/// refuses what a check refuses, and between the version and the rules a volume with a change
+/// journal, and one whose log is small; a log of another program that asks for what no mount may
+/// write is refused with the log. It reads what a check reads, once more the first sector, and the
+/// table of upper-case units, by which names are in order; a command reads the index blocks on its
+/// path, and the sectors of the bytes that it asks for.
 ///
 /// Its clauses, whose words stand in `specs/Outcomes.antt`, go by what the words ask for. They say
 /// what the sink took, that faults have their causes, that a run reads its whole script before it
@@ -237,10 +238,10 @@ pub fn ntfs_host<R: Threads + Wait + Sync, S: Source, K: Sink, D: Device + Send,
     device: D,
     gate: &G,
 ) -> Outcome<D>
-    ensures answers { Answers (asked_in words.now) result.status (S.left source.old) D.sector_count D.gives D.fault_count device result.device K.taken sink.old sink.new }
+    ensures answers { Answers (asked_in words.now) result.status (S.left source.old) D.sector_count D.gives D.fault_count D.moment_of device result.device K.taken sink.old sink.new }
     ensures source_causes { HasCauses 5 result.status (S.faults source.old) (S.faults source.new) }
     ensures sink_causes { HasCauses 7 result.status (K.faults sink.old) (K.faults sink.new) }
-    ensures device_causes { HasDeviceCauses result.status D.fault_count D.moment_of device result.device }
+    ensures device_causes { HasCausesBy (asked_in words.now) result.status D.fault_count D.moment_of device result.device }
     ensures order { KeepsOrder (asked_in words.now) result.status S.left source.old source.new sink.old sink.new device result.device }
     ensures leaves { LeavesDevice (asked_in words.now) result.status D.sector_count D.gives D.moment_of D.changes_of device result.device }
     ensures whole { IsWhole (asked_in words.now) result.status (S.left source.old) D.sector_count D.gives device }

@@ -8,9 +8,9 @@
 //! function of the long names of the volume, those of a dump and a check are functions of the tree
 //! that it stands for, and that of a journal is one of its records (`image_read`); they take each
 //! volume whose boot sector is in the profile, wherever its file table lies. A format writes the
-//! image that `volume_format` defines. A run asks the checked tree of a volume with eight sectors a
-//! cluster, held in memory. The layouts are those of the Linux-NTFS documentation, "$Boot", "$MFT"
-//! and "FILE Record".
+//! image that `volume_format` defines. A run asks the indexes of a mounted volume with eight sectors
+//! a cluster (`volume_mount`, `volume_run`); a command in which the device fails is replied `fault`.
+//! The layouts are those of the Linux-NTFS documentation, "$Boot", "$MFT" and "FILE Record".
 #![tactic(auto)]
 
 mod answers;
@@ -19,7 +19,6 @@ mod host;
 mod output;
 mod printing;
 mod reading;
-mod running;
 mod script_run;
 mod scripts;
 mod status;

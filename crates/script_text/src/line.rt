@@ -116,7 +116,7 @@ fn text(bytes: &[u8]) -> Option<&str>
 }
 
 /// What the line of this number, without its LF, asks for, or nothing where it is passed over. The
-/// errors are the first of the rules 2 to 7 that it breaks, `TooManyClients`, which comes between 4
+/// errors are the first of the rules 2 to 9 that it breaks, `TooManyClients`, which comes between 4
 /// and 5, and want of memory. It takes time and memory linear in the line.
 #[tactic(auto, unfolding(crate::specs::Lines::request_of))]
 pub fn read_line(alloc: Global, number: u64, line: &[u8]) -> Result<Option<Request>, ScriptFault>

@@ -1,0 +1,6 @@
+pub mod Leading
+pub mod Tabling
+pub mod Chained
+pub mod Opened
+pub mod Sectors
+pub mod Replying

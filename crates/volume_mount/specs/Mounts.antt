@@ -1,0 +1,105 @@
+-- A volume that is mounted: opened by its log, loaded, and refused by nothing; or the first refusal that applies.
+use Rattle.std.specs.Prelude.{ℕ, ◌+◌, ◌/◌, max, nat_le, not, List, is_some, Option, Result, Ok}
+use Rattle.std.specs.Int.{div_ceil}
+use Rattle.host_base.specs.Answers.{◌>>=◌, needs}
+use Rattle.disk_model.specs.Content.{Content}
+use Rattle.file_tree.specs.declared.tree.Tree.{Tree}
+use Rattle.file_tree.specs.Walks.{child_in}
+use Rattle.state_model.specs.declared.geometry.Geometry.{Geometry}
+use Rattle.state_model.specs.Trees.{all_links}
+use Rattle.volume_model.specs.Volumes.{Volume, files_by_number, count_of, upper_of}
+use Rattle.volume_state.specs.Journals.{extend_file, journal_name}
+use Rattle.volume_state.specs.Trees.{tree_of}
+use Rattle.log_model.specs.Logs.{recovered}
+use Rattle.log_page.specs.declared.places.LogPlace.{LogPlace}
+use Rattle.log_page.specs.Places.{page_bytes}
+use Rattle.image_open.specs.declared.refusal.Refusal.{Refusal}
+use Rattle.image_open.specs.declared.refusal.Refusal.TheVariants.{LogSmall, Unbuilt}
+use Rattle.image_open.specs.Volumes.{on_disk}
+use Rattle.image_open.specs.Writing.{OpenedToWrite, opened_to_write_in}
+use Rattle.image_read.specs.Checks.{volume_on, has_version, tree_on}
+
+-- ---- what a loaded volume is tried by
+
+-- the file that $UsnJrnl leads to in $Extend
+abbrev pub journal_number : List ℕ → Volume → Option ℕ
+journal_number upper v = child_in upper (all_links (files_by_number v) (count_of v)) extend_file journal_name
+
+-- a volume with a change journal isn't mounted yet
+unfoldable pub has_no_journal : List ℕ → Volume → Result (Unit {0}) Refusal
+has_no_journal upper v = needs (not (is_some (journal_number upper v))) (Unbuilt 6)
+
+-- the pages that a log needs for a session that writes a volume of so many clusters: 512, and one for each three sectors of its bitmap
+abbrev pub pages_for : ℕ → ℕ
+pages_for clusters = 512 + div_ceil (div_ceil clusters 4096) 3
+
+-- these, and all that the log has
+abbrev pub pages_needed : LogPlace → ℕ
+pages_needed place = max (pages_for place.clusters) place.pages
+
+-- the log's pages that are initialised as a whole
+abbrev pub whole_pages : LogPlace → ℕ
+whole_pages place = place.initialised / page_bytes
+
+-- a log has the pages that it needs
+unfoldable pub has_pages : LogPlace → Result (Unit {0}) Refusal
+has_pages place = needs (nat_le (pages_needed place) (whole_pages place)) (LogSmall (whole_pages place) (pages_needed place))
+
+-- ---- in their order
+
+-- the nine rules
+unfoldable pub ruled : Content → Volume → Result Volume Refusal
+ruled c v = tree_on c v >>= λ _. Ok v
+
+-- the pages of the log, at this place, come before them
+unfoldable pub paged : LogPlace → Content → Volume → Result Volume Refusal
+paged place c v = has_pages place >>= λ _. ruled c v
+
+-- a journal before these, by this table of upper-case units
+unfoldable pub unjournaled : List ℕ → LogPlace → Content → Volume → Result Volume Refusal
+unjournaled upper place c v = has_no_journal upper v >>= λ _. paged place c v
+
+-- and the version before all
+unfoldable pub tried : LogPlace → Content → Volume → Result Volume Refusal
+tried place c v = has_version v >>= λ _. unjournaled (upper_of c v) place c v
+
+-- the volume that is loaded from a recovered content, of this geometry and so many clusters, whose log lies at this place
+unfoldable pub loaded_on : LogPlace → Content → Geometry → ℕ → Result Volume Refusal
+loaded_on place c g total = volume_on c g total >>= tried place c
+
+-- ---- what is mounted
+
+-- how it was opened, its recovered content, and the volume that was loaded from this
+pub record MountedVolume : Type 0 where
+  pub opened : OpenedToWrite
+  pub content : Content
+  pub volume : Volume
+
+-- its table of upper-case units
+abbrev pub upper_in : MountedVolume → List ℕ
+upper_in m = upper_of m.content m.volume
+
+-- the tree that it stands for
+abbrev pub tree_in : MountedVolume → Tree
+tree_in m = tree_of m.content m.volume
+
+-- the content of a volume that was opened, as recovery by its log makes it
+abbrev pub content_behind : Content → OpenedToWrite → Content
+content_behind c o = recovered c o.state.log
+
+abbrev pub mounted_as : Content → OpenedToWrite → Volume → MountedVolume
+mounted_as c o v = record { opened = o; content = content_behind c o; volume = v }
+
+-- a volume that was opened
+unfoldable pub mounted_by : Content → OpenedToWrite → Result MountedVolume Refusal
+mounted_by c o = loaded_on o.place (content_behind c o) o.geometry o.total >>= λ v. Ok (mounted_as c o v)
+
+-- the mounted volume of a content on a device of so many sectors
+unfoldable pub mounted_in : Content → ℕ → Result MountedVolume Refusal
+mounted_in c sectors = opened_to_write_in c sectors >>= mounted_by c
+
+-- The mounted volume on these sectors; or the first refusal that applies: a device of no sectors; the sectors of a cluster, the boot sector,
+-- the device's length, record 2, and the log, as a mount that writes opens a volume; the records of the file table; the version; a change
+-- journal; the pages of the log; and the nine rules of a volume.
+unfoldable pub mounted_of : List (List ℕ) → Result MountedVolume Refusal
+mounted_of disk = on_disk mounted_in disk

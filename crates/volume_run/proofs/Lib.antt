@@ -1,0 +1,2 @@
+mod Unjournaled
+mod Printed
