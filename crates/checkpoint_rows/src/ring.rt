@@ -6,7 +6,7 @@ use log_page::lap_of;
 use log_recovery::RecoveryFault;
 use std::alloc::{AllocError, Global};
 use std::test::Fail;
-use store_images::{Run, S0, Watch, byte_behind, commit_byte, disk, go_on, is_sound};
+use store_images::{Answer, Run, S0, Watch, byte_behind, commit_byte, disk, go_on, is_sound};
 
 /// Commits a sector, up to so many times and while that may be done, and gives up what may not be
 /// committed; how many commits there were.
@@ -38,7 +38,7 @@ fn pages_more(alloc: Global, run: &Run) -> Result<Option<u64>, AllocError> {
 type Outcome = (u64, u64, Option<u64>, u64);
 
 /// By a log of so many pages; none where its store isn't opened, or a step fails.
-fn outcome(alloc: Global, pages: u32) -> Result<Option<Outcome>, ViewFault> {
+fn full_ring(alloc: Global, pages: u32) -> Result<Option<Outcome>, ViewFault> {
     let Some(mut run) = Run::open(alloc, pages, disk(alloc, &[], 0)?)? else {
         return Ok(None);
     };
@@ -59,7 +59,7 @@ static ROWS: [(u32, u64); 4] = [(5, 3), (6, 6), (20, 48), (40, 108)];
 fn a_ring_that_is_full_is_freed(rt: HostRuntime) -> Result<(), Fail> {
     for (pages, commits) in &ROWS {
         let wanted = (*commits, 0, Some(1), u64::from(pages.saturating_sub(4)));
-        assert_eq!(rt; outcome(rt.alloc(), *pages)?, Some(wanted), "{pages}");
+        assert_eq!(rt; full_ring(rt.alloc(), *pages)?, Some(wanted), "{pages}");
     }
     Ok(())
 }
@@ -81,16 +81,13 @@ fn go_round(alloc: Global, run: &mut Run) -> Result<(), AllocError> {
     Ok(())
 }
 
-/// Makes a transaction and then a step; whether images recover behind each.
+/// Makes a transaction and then a step; whether images recover behind it.
 fn goes_well(alloc: Global, run: &mut Run) -> Result<bool, RecoveryFault> {
     go_round(alloc, run)?;
-    if !is_sound(alloc, PAGES, run, IMAGES, &WATCHED)? {
-        return Ok(false);
+    match run.turn() {
+        Some((_, Answer::Done)) => is_sound(alloc, PAGES, run, IMAGES, &WATCHED),
+        _ => Ok(false),
     }
-    if run.turn().is_none() {
-        return Ok(false);
-    }
-    is_sound(alloc, PAGES, run, IMAGES, &WATCHED)
 }
 
 /// How many transactions are tried, with a step behind each, until the log is in this lap; none where

@@ -1,5 +1,5 @@
 //! What recovery makes of the images that a crash may leave.
-use crate::disk::place;
+use crate::devices::place;
 use block_view::{View, ViewFault};
 use device_view::{DeviceView, piece_room};
 use disk_model::{Block, Body};
@@ -39,6 +39,11 @@ fn unsynced(device: &MemoryDevice) -> usize {
         }
     }
     count
+}
+
+// So many images are tried, or one where there is no other.
+fn images_of(device: &MemoryDevice, count: u64) -> u64 {
+    if unsynced(device) == 0 { 1 } else { count }
 }
 
 // The next state of a generator.
@@ -154,7 +159,7 @@ pub fn left_by_seed(
     watched: &[Watch],
 ) -> Result<Vec<Vec<Sight>>, RecoveryFault> {
     let mut all = Vec::new(alloc);
-    for seed in 0..count {
+    for seed in 0..images_of(device, count) {
         let flags = flags_by(alloc, unsynced(device), seed)?;
         put(&mut all, left_by(alloc, pages, device, &flags, watched)?)?;
     }
@@ -202,27 +207,26 @@ fn restart_of(alloc: Global, pages: u32, image: Vec<u8>) -> Result<Option<u32>, 
     Ok(Some(recover(alloc, &mut device, &place)?.restart))
 }
 
-/// How many of some images by the seeds from 0 on name the first and the second of the two places as
-/// that of the next restart page: the other one holds the page by which such an image is recovered.
-/// The error is want of memory, or why recovery refuses an image.
+/// Whether some of so many images by the seeds from 0 on name the first, and some the second of the
+/// two places as that of the next restart page: the other one holds the page by which such an image
+/// is recovered. The error is want of memory, or why recovery refuses an image.
 pub fn restarts_left(
     alloc: Global,
     pages: u32,
     device: &MemoryDevice,
     count: u64,
-) -> Result<(u64, u64), RecoveryFault> {
-    let mut first = 0u64;
-    let mut second = 0u64;
-    for seed in 0..count {
+) -> Result<(bool, bool), RecoveryFault> {
+    let mut named = (false, false);
+    for seed in 0..images_of(device, count) {
         let flags = flags_by(alloc, unsynced(device), seed)?;
         let image = device.left_by(alloc, device.done.len(), &flags)?;
         match restart_of(alloc, pages, image)? {
-            Some(0) => first = first.saturating_add(1),
-            Some(_) => second = second.saturating_add(1),
+            Some(0) => named.0 = true,
+            Some(_) => named.1 = true,
             None => {}
         }
     }
-    Ok((first, second))
+    Ok(named)
 }
 
 /// How many of the device's writes began at this sector.

@@ -1,5 +1,5 @@
 //! Steps of a store, one behind the other.
-use crate::disk::disk;
+use crate::devices::disk;
 use crate::images::{Sight, Watch, left};
 use crate::running::{Answer, Run};
 use disk_model::Block;

@@ -12,7 +12,7 @@ ghost use Rattle.store_images.specs.Running.{IsRunning, MayBegin, MayMake, MayGo
 
 use crate::blind::BlindDevice;
 use crate::conditions::{is_alone, is_in_grid, is_inside, is_known};
-use crate::disk::place;
+use crate::devices::place;
 use block_view::ViewFault;
 use disk_model::{Block, Change};
 use flush_policy::{Facts, StoreStep, next_step};

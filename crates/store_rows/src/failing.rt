@@ -59,7 +59,7 @@ fn first_wrong(alloc: Global, run: &mut Run) -> Result<Option<u64>, RecoveryFaul
 type Outcome = (Option<u64>, u64, u64);
 
 /// A run in which these calls fail; none where its store isn't opened.
-fn outcome(
+fn run_with(
     alloc: Global,
     failing: &[u64],
     tearing: usize,
@@ -75,7 +75,7 @@ fn outcome(
 
 #[test]
 fn a_run_makes_so_many_calls(rt: HostRuntime) -> Result<(), Fail> {
-    let found = outcome(rt.alloc(), &[], 0)?;
+    let found = run_with(rt.alloc(), &[], 0)?;
     assert_eq!(rt; found, Some((None, 51, 6)));
     Ok(())
 }
@@ -89,7 +89,7 @@ fn first_lost(
     tearing: usize,
 ) -> Result<Option<u64>, RecoveryFault> {
     for call in from..upto {
-        match outcome(alloc, &[call], tearing)? {
+        match run_with(alloc, &[call], tearing)? {
             Some((None, _, _)) => {}
             _ => return Ok(Some(call)),
         }
