@@ -1,18 +1,18 @@
 -- Room for what is logged, and changes that may be made.
-use Rattle.std.proofs.Common.{◌≡◌, subst, ℕ, ◌+◌, ◌-◌, ◌*◌, ◌/◌, ◌^◌, ◌<◌, ◌≤◌, Bool, true, false, List, [], ◌∷◌, length, Option, Some, None, refl, sym, ap, ◌∙◌, arith}
-use Rattle.std.specs.Prelude.{IfSome, unwrap_or, min}
+use Rattle.std.proofs.Common.{◌≡◌, subst, ℕ, ◌-◌, ◌^◌, ◌<◌, ◌≤◌, List, [], ◌∷◌, Option, Some, None, arith}
+use Rattle.std.specs.Prelude.{IfSome, unwrap_or}
 use Rattle.disk_model.specs.declared.block.Block.{Block}
 use Rattle.disk_model.specs.declared.block.Body.{Body}
 use Rattle.log_model.specs.Logs.{is_in_grid}
-use Rattle.log_area.specs.Areas.{LogAreaOf, free_pages, used_pages}
+use Rattle.log_area.specs.Areas.{free_pages}
 use Rattle.store_model.specs.Volumes.{is_free}
 use Rattle.txn_model.specs.Values.{StoreFacts, own_of}
 use Rattle.txn_model.specs.Calls.{body_before}
 use Rattle.txn_state.specs.States.{HasSize, IsStore}
 use Rattle.txn_laws.proofs.Syncs.{and_left}
 use Rattle.txn_log.specs.Counts.{capped}
-use Rattle.txn_log.specs.Laws.{HasRoom, IsLogged, PagesAreEnough}
-use Rattle.store_images.specs.Running.{IsRunning, MayBegin, CanLie, MayMake, MayGoOn, change_of, pages_of_changes}
+use Rattle.txn_log.specs.Laws.{HasRoom, PagesAreEnough}
+use Rattle.store_images.specs.Running.{IsRunning, MayBegin, CanLie, MayMake, change_of, pages_of_changes}
 
 -- where no entry of the transaction is asked for, so many pages may be begun
 pub may_begin : (turns : ℕ) (f : StoreFacts) (pages : ℕ) → IsRunning turns f → HasRoom f.log f.tx 0 pages → MayBegin f pages

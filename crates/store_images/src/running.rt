@@ -216,7 +216,8 @@ impl Run {
     pub fn commit(&mut self, alloc: Global) -> Result<Answer, AllocError> {
         pages_are_enough();
         let pages = self.store.pages_for(alloc, &[])?;
-        if !self.has_room(pages) {
+        let state = self.store.state();
+        if !state.is_open() || !self.has_room(pages) {
             return Ok(Answer::Barred);
         }
         self.store.commit();

@@ -1,6 +1,5 @@
-use Rattle.std.proofs.Common.{◌≡◌, List, [], ◌∷◌, length, get_or, true, inl, inr, arith}
+use Rattle.std.proofs.Common.{get_or, inl, inr, arith}
 use Rattle.std.proofs.lemmas.Bool.{ltb-true}
-use Rattle.log_page.specs.declared.places.Extent.{Extent}
 use Rattle.store_images.proofs.Beside.{lone}
 use Rattle.store_images.proofs.conditions.is_beside.Goals as goal
 
