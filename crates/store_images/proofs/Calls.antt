@@ -1,6 +1,6 @@
 -- What each call leaves of a store that runs.
 use Rattle.std.proofs.Common.{◌≡◌, subst, ℕ, ◌+◌, ◌*◌, ◌^◌, ◌<◌, ◌≤◌, Bool, true, false, cond, List, [], ◌∷◌, length, Option, Some, None, Result, Ok, Err, refl, sym, ap, ◌∙◌, arith}
-use Rattle.std.specs.Prelude.{IfSome, unwrap_or, is_ok, min}
+use Rattle.std.specs.Prelude.{IfSome, is_ok}
 use Rattle.host_base.specs.declared.outside.Failed.{Failed}
 use Rattle.disk_model.specs.declared.block.Block.{Block}
 use Rattle.disk_model.specs.declared.block.Body.{Body}
@@ -13,23 +13,23 @@ use Rattle.log_model.specs.declared.entry.Act.{Act}
 use Rattle.log_model.specs.declared.entry.Act.TheVariants.{Commit}
 use Rattle.log_model.specs.Logs.{is_in_grid}
 use Rattle.log_area.specs.declared.restart.SentRestart.{SentRestart}
-use Rattle.log_area.specs.Areas.{LogAreaOf, is_filling, appended, sealed_area}
+use Rattle.log_area.specs.Areas.{LogAreaOf, is_filling, appended}
 use Rattle.store_model.specs.Volumes.{is_free}
 use Rattle.device_blocks.specs.declared.word.CheckWord.{CheckWord}
 use Rattle.device_blocks.specs.declared.word.CheckWord.TheVariants.{Unread, Missing, Stands, Sent}
 use Rattle.txn_model.specs.Values.{StoreFacts, own_of}
-use Rattle.txn_model.specs.Pieces.{next_entry, log_with, last_of}
+use Rattle.txn_model.specs.Pieces.{next_entry, log_with}
 use Rattle.txn_model.specs.Calls.{begun_facts, committed_facts, given_up_facts, sealed_facts, noted_facts, body_before, changed_facts, change_acts}
 use Rattle.txn_state.specs.States.{HasSize, IsStore}
 use Rattle.txn_laws.proofs.Syncs.{and_left}
-use Rattle.txn_log.specs.Laws.{IsLogged, acts_of, PagesAreEnough}
+use Rattle.txn_log.specs.Laws.{IsLogged, PagesAreEnough}
 use Rattle.txn_log.proofs.Sharing.{same_self}
 use Rattle.txn_core.specs.declared.fault.ChangeFault.{ChangeFault}
 use Rattle.txn_core.specs.Calls.{page_facts, sync_facts, out_facts, is_spelled}
-use Rattle.txn_core.specs.Changes.{MayChangeNow, HasChanged}
+use Rattle.txn_core.specs.Changes.{HasChanged}
 use Rattle.txn_core.specs.Steps.{HasTurned}
 use Rattle.txn_core.specs.Turns.{restart_facts}
-use Rattle.store_images.specs.Running.{IsRunning, MayBegin, MayMake, change_of, pages_of_changes}
+use Rattle.store_images.specs.Running.{IsRunning, MayMake, change_of}
 
 -- where the last entry and the open count stay
 pub running_same : (turns : ℕ) (f g : StoreFacts) → g.log.opens ≡ f.log.opens → g.last ≡ f.last → IsRunning turns f → IsRunning turns g
