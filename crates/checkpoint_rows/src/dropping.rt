@@ -17,8 +17,8 @@ const STALE: Step = Change(IN_X, 0, 512, 0x33);
 
 const OVER: Step = Change(X, 0x40, 4032, 0x44);
 
-/// A step, and how many noted blocks are left behind it. The block's entries go into three pages; the
-/// last one is durable with the second sync behind them, and the sector's body leaves then.
+/// A step, and how many noted blocks are left behind it. The block's entries go into three pages,
+/// the last of which is durable with the second sync behind them: the sector's body leaves then.
 static STEPS: [(Step, u64); 24] = [
     (Begin, 0),
     (STALE, 0),
@@ -46,7 +46,8 @@ static STEPS: [(Step, u64); 24] = [
     (Rest, 0),
 ];
 
-/// Makes the steps, and tells the first one that isn't made, or behind which another number is left.
+/// Makes the steps, and tells the first one that isn't made, or behind which another number is
+/// left.
 fn first_other(alloc: Global, run: &mut Run) -> Result<Option<usize>, ViewFault> {
     for (number, (step, noted)) in STEPS.iter().enumerate() {
         let answer = make(alloc, run, *step)?;

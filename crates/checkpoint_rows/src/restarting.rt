@@ -31,8 +31,8 @@ static STEPS: [(Step, Answer); 9] = [
 ];
 
 /// The number of the call that writes it: the opening makes three, the change reads its sector, a
-/// page takes a read and a write, a sector a write, a restart page a read before its write, and there
-/// are two syncs.
+/// page takes a read and a write, a sector a write, a restart page a read before its write, and
+/// there are two syncs.
 const FAILING: u64 = 11;
 
 /// Makes the steps; whether each is answered so.
@@ -63,8 +63,8 @@ fn same_sectors(one: &[u8], other: &[u8]) -> usize {
 }
 
 /// What is seen of a restart page that is sent twice: of how many sectors what stands behind the
-/// failure is what stands at last; and whether some images name the first, and some the second place
-/// as the next one's behind the failure, behind the second write, and behind the sync.
+/// failure is what stands at last; and whether some images name the first, and some the second
+/// place as the next one's behind the failure, behind the second write, and behind the sync.
 #[derive(Clone, Copy, Debug, PartialEq, Eq)]
 struct Outcome {
     same: usize,

@@ -90,8 +90,8 @@ fn goes_well(alloc: Global, run: &mut Run) -> Result<bool, RecoveryFault> {
     }
 }
 
-/// How many transactions are tried, with a step behind each, until the log is in this lap; none where
-/// an image doesn't recover.
+/// How many transactions are tried, with a step behind each, until the log is in this lap; none
+/// where an image doesn't recover.
 fn rounds_to(alloc: Global, run: &mut Run, lap: u64) -> Result<Option<u64>, RecoveryFault> {
     for round in 0..1000 {
         if lap_of(u64::from(PAGES), run.facts().next) == lap {

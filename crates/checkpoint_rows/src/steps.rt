@@ -25,8 +25,8 @@ const HIGH: Block = Block {
     kind: BlockKind::Plain,
 };
 
-/// The LSNs of the next commit: in the page with one, 1,264 bytes from its begin, and at the front of
-/// the page behind it. An LSN of the first lap is 2^15 and an eighth of the offset in the log.
+/// The LSNs of the next commit: in the page with one, 1,264 bytes from its begin, and at the front
+/// of the page behind it. An LSN of the first lap is 2^15 and an eighth of the offset in the log.
 const BEHIND: u64 = 32_768 + (4096 * 37 + 1264) / 8;
 
 const FRONT: u64 = 32_768 + (4096 * 38 + 64) / 8;
@@ -226,8 +226,9 @@ fn a_store_tells_of_itself_behind_each_kind_of_step(rt: HostRuntime) -> Result<(
     Ok(())
 }
 
-/// What is written: from a sector on, one write of so many sectors, so many times. The first restart
-/// page is that of the store's opening; then each page, each block and the second restart page.
+/// What is written: from a sector on, so many writes, each of so many sectors. They are the restart
+/// page of the store's opening, the one that ends the checkpoint, each page of the log, and each
+/// sector that was committed.
 static WRITTEN: [(u64, u64, u64); 4] = [
     (LOG, 8, 1),
     (LOG + 8, 8, 1),

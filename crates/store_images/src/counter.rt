@@ -49,8 +49,8 @@ pub fn is_sound(
     Ok(are_commits(&seen, state.durable(), state.commits()))
 }
 
-/// Makes a transaction that brings this byte into so many of a block, from the first one on; whether
-/// each of its calls went well. The error is want of memory.
+/// Makes a transaction that brings this byte into so many of a block, from the first one on;
+/// whether each of its calls went well. The error is want of memory.
 pub fn commit_byte(
     alloc: Global,
     run: &mut Run,
@@ -70,8 +70,8 @@ pub fn commit_byte(
     Ok(true)
 }
 
-/// Takes the next steps of a store down to none, at most so many, and tells how many they were; none
-/// where one of them fails, or more are left.
+/// Takes the next steps of a store down to none, fewer than so many, and tells how many they were;
+/// none where one of them fails, or more are left.
 pub fn go_on(run: &mut Run, most: u64) -> Option<u64> {
     for count in 0..most {
         match run.turn() {

@@ -11,12 +11,12 @@ use std::alloc::{AllocError, Global};
 #[derive(Clone, Copy, Debug)]
 pub struct Watch(pub Block, pub usize, pub usize);
 
-/// The one byte that stands in all places that are watched of a block; none where there are several,
-/// or the block is torn.
+/// The one byte that stands in all places that are watched of a block; none where there are
+/// several, or the block is torn.
 pub type Sight = Option<u8>;
 
-// All images are tried up to so many sectors that aren't synced, and of more than those so many that
-// a seed chooses.
+// All images are tried up to so many sectors that aren't synced, and of more than those so many
+// that a seed chooses.
 const FEW: usize = 4;
 
 const MANY: u64 = 34;
@@ -149,8 +149,9 @@ pub fn left_by(
     recovered(alloc, pages, image, watched)
 }
 
-/// What is seen of some images by the seeds from 0 on, each outcome once. The first image has none of
-/// the sectors that aren't synced, and the fourth all.
+/// What is seen of some images by the seeds from 0 on, each outcome once. The first image has none
+/// of the sectors that aren't synced, and the fourth all. The error is want of memory, or why
+/// recovery refuses an image.
 pub fn left_by_seed(
     alloc: Global,
     pages: u32,
@@ -177,8 +178,8 @@ fn put(all: &mut Vec<Vec<Sight>>, sights: Vec<Sight>) -> Result<(), AllocError> 
     Ok(())
 }
 
-/// What is seen of each image that a crash may leave now, or of some by a seed where there are many:
-/// each outcome once.
+/// What is seen of each image that a crash may leave now, or of some by a seed where there are
+/// many: each outcome once. The error is want of memory, or why recovery refuses an image.
 pub fn left(
     alloc: Global,
     pages: u32,

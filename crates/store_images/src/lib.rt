@@ -1,5 +1,5 @@
-//! A store of blocks that runs in memory, for worked rows: its calls are made where their conditions
-//! are met, and it is told what recovery makes of each image that a crash may leave of its device.
+//! A store of blocks that runs in memory, for worked rows: its calls are made where their
+//! conditions are met, and it is told what recovery makes of images that a crash may leave.
 #![tactic(auto)]
 
 mod blind;

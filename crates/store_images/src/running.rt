@@ -104,8 +104,8 @@ fn change_of(alloc: Global, block: Block, at: usize, new: &[u8]) -> Result<Chang
 }
 
 impl Run {
-    /// A store whose log has so many pages and no entry, on this device, which is synced; none where
-    /// so few pages are no log, or the device is too small. Three calls of the device.
+    /// A store whose log has so many pages and no entry, on this device, which is synced; none
+    /// where so few pages are no log, or the device is too small. Three calls of the device.
     ///
     /// The error is a failure of the device, or want of memory.
     pub fn open(alloc: Global, pages: u32, memory: MemoryDevice) -> Result<Option<Run>, ViewFault> {
@@ -211,8 +211,8 @@ impl Run {
         Ok(answer)
     }
 
-    /// Commits the open transaction, where there is one and room for its entry. The error is want of
-    /// memory before the call.
+    /// Commits the open transaction, where there is one and room for its entry. The error is want
+    /// of memory before the call.
     pub fn commit(&mut self, alloc: Global) -> Result<Answer, AllocError> {
         pages_are_enough();
         let pages = self.store.pages_for(alloc, &[])?;

@@ -10,8 +10,8 @@ const PAGES: u32 = 16;
 /// So many images are tried by a seed at each place.
 const IMAGES: u64 = 4;
 
-/// The steps of a run.
-const STEPS: u64 = 60;
+/// The number of a run's last step, from 0.
+const LAST: u64 = 59;
 
 /// Each transaction brings the same byte into both.
 const WATCHED: [Watch; 2] = [Watch(S0, 0, 512), Watch(R, 0x40, 960)];
@@ -37,16 +37,16 @@ fn step_of(number: u64, commits: u64) -> Step {
 fn goes_well(alloc: Global, run: &mut Run, number: u64) -> Result<bool, RecoveryFault> {
     let step = step_of(number, run.state().commits());
     let answer = make(alloc, run, step)?;
-    if answer != Answer::Fault && number + 1 != STEPS {
+    if answer != Answer::Fault && number != LAST {
         return Ok(true);
     }
     is_sound(alloc, PAGES, run, IMAGES, &WATCHED)
 }
 
-/// Makes the steps of a run, up to the first behind which an image doesn't recover; none where there
-/// isn't one.
+/// Makes the steps of a run, up to the first behind which an image doesn't recover; none where each
+/// does.
 fn first_wrong(alloc: Global, run: &mut Run) -> Result<Option<u64>, RecoveryFault> {
-    for number in 0..STEPS {
+    for number in 0..=LAST {
         if !goes_well(alloc, run, number)? {
             return Ok(Some(number));
         }
@@ -80,7 +80,7 @@ fn a_run_makes_so_many_calls(rt: HostRuntime) -> Result<(), Fail> {
     Ok(())
 }
 
-/// The first of some calls, from this one up to that one, whose failure leaves an image that doesn't
+/// The first of the calls from this one up to that one whose failure leaves an image that doesn't
 /// recover.
 fn first_lost(
     alloc: Global,
