@@ -1,11 +1,8 @@
 //! A commit before and after its page is durable, and a file record that is written out.
-use crate::disk::{R, S0};
-use crate::images::Watch;
-use crate::playing::Step::{Begin, Change, Commit, Out, Page, Seal, Sync};
-use crate::playing::{Row, Step, first_wrong};
-use crate::running::Answer;
-use crate::running::Answer::{Barred, Done, Fault};
 use std::test::Fail;
+use store_images::Answer::{Barred, Done, Fault};
+use store_images::Step::{Begin, Change, Commit, Out, Page, Seal, Sync};
+use store_images::{Answer, R, Row, S0, Step, Watch, first_wrong};
 
 const WATCHED: [Watch; 1] = [Watch(S0, 0, 512)];
 

@@ -1,10 +1,8 @@
 //! Transactions that are given up, and blocks over whose sectors another kind of block comes.
-use crate::disk::{IN_X, S0, S1, X};
-use crate::images::Watch;
-use crate::playing::Step::{Begin, Change, Commit, GiveUp, Out, Page, Seal, Sync};
-use crate::playing::{Row, Step, first_wrong};
-use crate::running::Answer::{Barred, Done, Fault};
 use std::test::Fail;
+use store_images::Answer::{Barred, Done, Fault};
+use store_images::Step::{Begin, Change, Commit, GiveUp, Out, Page, Seal, Sync};
+use store_images::{IN_X, Row, S0, S1, S2, Step, Watch, X, first_wrong};
 
 /// Two sectors.
 const TWO: [Watch; 2] = [Watch(S0, 0, 512), Watch(S1, 0, 512)];
@@ -13,8 +11,11 @@ const FIRST: Step = Change(S0, 0, 512, 0x22);
 
 const SECOND: Step = Change(S1, 0, 512, 0x33);
 
-/// The second change has to read its block, and that fails.
-static FAULTS: [Row; 2] = [
+const THIRD: Step = Change(S2, 0, 512, 0x44);
+
+/// The second change has to read its block, and that fails; or the third one, and then both blocks
+/// that were changed are dirty.
+static FAULTS: [Row; 3] = [
     Row {
         steps: &[
             (Begin, Done),
@@ -45,6 +46,31 @@ static FAULTS: [Row; 2] = [
             (Out(S0), Barred),
         ],
         failing: &[5],
+        tearing: 0,
+        counts: (1, 1),
+        seen: &[&[Some(0x11), Some(0x33)]],
+    },
+    Row {
+        steps: &[
+            (Begin, Done),
+            (FIRST, Done),
+            (SECOND, Done),
+            (THIRD, Fault),
+            (GiveUp, Barred),
+            (Seal, Done),
+            (Page, Done),
+            (Sync, Done),
+            (Out(S0), Done),
+            (Out(S1), Done),
+            (Out(S2), Barred),
+            (Begin, Done),
+            (SECOND, Done),
+            (Commit, Done),
+            (Seal, Done),
+            (Page, Done),
+            (Sync, Done),
+        ],
+        failing: &[6],
         tearing: 0,
         counts: (1, 1),
         seen: &[&[Some(0x11), Some(0x33)]],

@@ -1,7 +1,0 @@
-use Rattle.std.proofs.Common.{sym, ◌∙◌}
-use Rattle.txn_state.specs.States.{facts_of}
-use Rattle.store_rows.proofs.Beside.{alone_by, denied}
-use Rattle.store_rows.proofs.conditions.is_alone.Goals as goal
-
-pub returns : goal.returns
-returns c = λ alone. alone_by (facts_of c.args.state.now) c.args.block c.known.ensures c.requires (sym c.has_rival.ensures ∙ denied c.has_rival.result alone)
