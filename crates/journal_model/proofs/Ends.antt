@@ -7,11 +7,11 @@ use Rattle.std.proofs.lemmas.List.FromFn.{length-map-range_with_len}
 use Rattle.std.proofs.lemmas.List.{length-append, length-drop, length-take-le, take-append-drop, drop_at, drop_all}
 use Rattle.host_base.specs.Answers.{◌>>=◌, needs}
 use Rattle.disk_model.specs.Numbers.{field}
-use Rattle.disk_model.specs.Bytes.{AreBytes}
+use Rattle.disk_model.specs.Bytes.{AreBytes, all_zeros}
 use Rattle.disk_model.proofs.Fields.{AreBytes-drop}
 use Rattle.file_tree.specs.declared.journal.Usn.{Usn}
 use Rattle.journal_model.specs.declared.fault.UsnFault.{UsnFault}
-use Rattle.journal_model.specs.UsnRecords.{page_size, is_whole, all_zeros, usn_in, BeginsRecord}
+use Rattle.journal_model.specs.UsnRecords.{page_size, is_whole, usn_in, BeginsRecord}
 use Rattle.journal_model.specs.Pages.{with_entry, records_of, ends_in_record, Piece, StandFrom, piece_bytes, AreRecords}
 use Rattle.journal_model.specs.Journals.{bytes_between, page_from, page_to, page_entries, is_owned}
 use Rattle.journal_model.proofs.UsnRead.{found_length, read_table, table_read}

@@ -5,10 +5,10 @@ use Rattle.std.proofs.lemmas.Bool.{cases_lt}
 use Rattle.std.proofs.lemmas.List.{map-append, append-nil, get_or_past}
 use Rattle.std.proofs.lemmas.List.FromFn.{get_or-map-range_with_len, length-map-range_with_len}
 use Rattle.host_base.specs.Answers.{◌>>=◌}
-use Rattle.disk_model.specs.Bytes.{AreBytes, zeros}
+use Rattle.disk_model.specs.Bytes.{AreBytes, zeros, all_zeros}
 use Rattle.file_tree.specs.declared.journal.Usn.{Usn}
 use Rattle.journal_model.specs.declared.fault.UsnFault.{UsnFault}
-use Rattle.journal_model.specs.UsnRecords.{page_size, all_zeros}
+use Rattle.journal_model.specs.UsnRecords.{page_size}
 use Rattle.journal_model.specs.Pages.{records_of}
 use Rattle.journal_model.specs.Journals.{bytes_between, placed, page_from, page_to, page_entries, joined, pages_before, journal_from, journal_in}
 use Rattle.journal_model.proofs.PageRead.{records_end}

@@ -6,12 +6,12 @@ use Rattle.std.proofs.lemmas.Bool.{and_parts, eqb-true}
 use Rattle.std.proofs.lemmas.List.{append_assoc, length-append, length-drop, length-take-le, take-append-drop, take_at, drop_at}
 use Rattle.host_base.specs.Answers.{◌>>=◌}
 use Rattle.disk_model.specs.Numbers.{field}
-use Rattle.disk_model.specs.Bytes.{AreBytes, zeros}
+use Rattle.disk_model.specs.Bytes.{AreBytes, zeros, all_zeros}
 use Rattle.disk_model.proofs.Fields.{field_same, AreBytes-drop}
 use Rattle.record_model.proofs.Pieces.{AreBytes-take}
 use Rattle.file_tree.specs.declared.journal.Usn.{Usn}
 use Rattle.journal_model.specs.declared.fault.UsnFault.{UsnFault}
-use Rattle.journal_model.specs.UsnRecords.{page_size, page_rest, all_zeros, usn_in, IsRecord, BeginsRecord}
+use Rattle.journal_model.specs.UsnRecords.{page_size, page_rest, usn_in, IsRecord, BeginsRecord}
 use Rattle.journal_model.specs.Pages.{with_entry, records_in, records_of, page_records, Piece, StandFrom, piece_bytes, piece_entries, HasRecords, HasFault}
 use Rattle.journal_model.proofs.UsnRead.{zeros_from_test, zeros_pass, found_length, read_table, table_read}
 

@@ -12,7 +12,7 @@ use Rattle.host_base.specs.FileRefs.{unpacked}
 use Rattle.utf16_name.specs.Names.{name_of}
 use Rattle.utf16_name.proofs.Naming.{name_of-of_name}
 use Rattle.disk_model.specs.Numbers.{field}
-use Rattle.disk_model.specs.Bytes.{AreBytes, zeros, up8}
+use Rattle.disk_model.specs.Bytes.{AreBytes, zeros, up8, all_zeros}
 use Rattle.disk_model.proofs.Fields.{field-lt, field-take, AreBytes-drop}
 use Rattle.record_model.specs.Attributes.{units_at}
 use Rattle.record_model.proofs.Attributes.{length-units_at}
@@ -21,7 +21,7 @@ use Rattle.record_model.proofs.Pieces.{AreBytes-take}
 use Rattle.file_tree.specs.declared.journal.Usn.{Usn}
 use Rattle.journal_model.specs.declared.fault.UsnFault.{UsnFault}
 use Rattle.journal_model.specs.declared.fault.UsnFault.TheVariants.{Cut, Shape, Memory}
-use Rattle.journal_model.specs.UsnRecords.{known_version, page_size, page_rest, is_whole, is_length, own_bytes, all_zeros, name_units, padding, has_layout, is_usn, usn_of, entry_in, usn_in, usn_at, IsUsn, IsRecord, BeginsRecord}
+use Rattle.journal_model.specs.UsnRecords.{known_version, page_size, page_rest, is_whole, is_length, own_bytes, name_units, padding, has_layout, is_usn, usn_of, entry_in, usn_in, usn_at, IsUsn, IsRecord, BeginsRecord}
 use Rattle.journal_model.specs.UsnLaws.{BeginsNone}
 
 -- ---- zeros

@@ -3,10 +3,10 @@ use Rattle.std.specs.Prelude.{◌≡◌, ⊤, ℕ, zero, suc, ◌+◌, ◌==◌,
 use Rattle.std.specs.List.{concat, filter_map}
 use Rattle.host_base.specs.Answers.{◌>>=◌}
 use Rattle.disk_model.specs.Numbers.{field}
-use Rattle.disk_model.specs.Bytes.{zeros}
+use Rattle.disk_model.specs.Bytes.{zeros, all_zeros}
 use Rattle.file_tree.specs.declared.journal.Usn.{Usn}
 use Rattle.journal_model.specs.declared.fault.UsnFault.{UsnFault}
-use Rattle.journal_model.specs.UsnRecords.{page_rest, is_whole, all_zeros, usn_in, IsRecord}
+use Rattle.journal_model.specs.UsnRecords.{page_rest, is_whole, usn_in, IsRecord}
 
 -- ---- the reader
 
