@@ -73,16 +73,16 @@ shapeless n long short =
 not_whole : (n : ℕ) → 8 ≤ n → n ≤ 4096 → is_ok (fixup_of (filler n)) ≡ false
 not_whole n long short = ap (λ (b : Bool). is_ok (cond b (torn_or_check (first_torn (filler n)) (check_word (filler n))) (Err Shape))) (shapeless n long short)
 
-no_restart : (n : ℕ) → 8 ≤ n → n ≤ 4096 → restart_of (filler n) ≡ Err NotWhole
+pub no_restart : (n : ℕ) → 8 ≤ n → n ≤ 4096 → restart_of (filler n) ≡ Err NotWhole
 unfolding restart_of is_whole_restart
 no_restart n long short = ap (λ (b : Bool). needs b NotWhole >>= λ _. Ok (restart_in (restored (filler n)))) (and_left _ _ (not_whole n long short))
 
-blank : (n : ℕ) → is_blank (filler n) ≡ true
+pub blank : (n : ℕ) → is_blank (filler n) ≡ true
 unfolding is_blank filler
 blank zero = refl
 blank (suc n) = blank n
 
-unsaid : (n : ℕ) → 0 < n → said_lsn (filler n) ≡ None
+pub unsaid : (n : ℕ) → 0 < n → said_lsn (filler n) ≡ None
 unfolding filler
 unsaid zero lt = absurd (omega arith)
 unsaid (suc n) lt = refl
@@ -100,7 +100,7 @@ front_by raw none all = rw (none, all) (rw none refl)
 -- ---- laps
 
 -- a log of 8 MiB or less has 43 bits or more for its laps
-lap_left : (pages : ℕ) → 0 < pages → pages ≤ 2048 → has_lap pages 1 ≡ true
+pub lap_left : (pages : ℕ) → 0 < pages → pages ≤ 2048 → has_lap pages 1 ≡ true
 unfolding place_bits
 lap_left pages some few =
     let d = digits (4096 * pages) in

@@ -23,7 +23,7 @@ use Rattle.format_laws.proofs.EmptyLog.{filler, empty_state, recovery_here, page
 unfoldable pub new_place : ℕ → ℕ → ℕ → LogPlace
 new_place clusters device pages = stream_place 8 clusters device (Placed (extents_at 52 pages (4096 * pages)))
 
-pages_are : (clusters device pages : ℕ) → (new_place clusters device pages).pages ≡ pages
+pub pages_are : (clusters device pages : ℕ) → (new_place clusters device pages).pages ≡ pages
 unfolding new_place stream_place
 pages_are clusters device pages = omega arith
 
@@ -40,12 +40,12 @@ module _ (clusters device pages : ℕ) (room : 416 + 8 * pages ≤ device) (some
       ∙ ap (λ (o : Option Block). Some (first_of o)) at
       ∙ ap (λ (n : ℕ). Some n) place
 
-  place_sector : (s : ℕ) → s < 8 * pages → log_sector (new_place clusters device pages) s ≡ Some (416 + s)
+  pub place_sector : (s : ℕ) → s < 8 * pages → log_sector (new_place clusters device pages) s ≡ Some (416 + s)
   unfolding new_place stream_place
   place_sector s inside = sector_is (new_place clusters device pages) s (416 + s) (omega arith) (omega arith) (run_sector s inside)
 
   -- each sector of the pages is initialised to its end
-  initialised_past : (s : ℕ) → s < 8 * pages → 512 ≤ (new_place clusters device pages).initialised - 512 * s
+  pub initialised_past : (s : ℕ) → s < 8 * pages → 512 ≤ (new_place clusters device pages).initialised - 512 * s
   unfolding new_place stream_place
   initialised_past s inside = omega arith
 
