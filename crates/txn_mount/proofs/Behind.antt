@@ -1,16 +1,14 @@
 -- What stands behind a mount.
-use Rattle.std.proofs.Common.{◌≡◌, ◌⊎◌, subst, ℕ, ◌+◌, ◌-◌, ◌*◌, ◌^◌, ◌<◌, ◌≤◌, min, Bool, true, false, List, [], ◌∷◌, Option, Some, None, Result, Ok, Err, refl, sym, ap, ap₂, ◌∙◌, inl, inr, arith}
+use Rattle.std.proofs.Common.{◌≡◌, ◌⊎◌, subst, ℕ, ◌-◌, ◌^◌, ◌<◌, ◌≤◌, false, List, [], ◌∷◌, Option, Some, None, Result, Ok, Err, refl, sym, ap, ap₂, ◌∙◌, inl, inr, arith}
 use Rattle.std.specs.Prelude.{All, IfOk, IfErr, IfSome, nat_le, replicate}
 use Rattle.std.proofs.lemmas.Bool.{cases_Bool, leb-true}
 use Rattle.host_base.specs.declared.outside.Failed.{Failed}
-use Rattle.host_base.specs.Answers.{ExplainsOrFails}
-use Rattle.host_base.specs.Causes.{Rose, HasFailed, last_moment}
 use Rattle.disk_model.specs.declared.block.Block.{Block}
 use Rattle.disk_model.specs.Content.{Content, content_of}
 use Rattle.disk_model.specs.Sectors.{sector_of}
-use Rattle.sector_device.specs.Disks.{Disk, IsSettled, IsSized, SeesDisk, AreOver, MayLeave, Past, WasLeft, seen}
+use Rattle.sector_device.specs.Disks.{Disk, IsSized, SeesDisk, AreOver, MayLeave, Past, WasLeft, seen}
 use Rattle.sector_device.specs.Moments.{Changes, LeftSince}
-use Rattle.device_view.specs.Devices.{KeepsDevice, CountsOnDevice, CountsCauseOnDevice}
+use Rattle.device_view.specs.Devices.{KeepsDevice}
 use Rattle.log_model.specs.declared.entry.Entry.{Entry}
 use Rattle.log_page.specs.declared.places.LogPlace.{LogPlace}
 use Rattle.log_page.specs.Places.{sequence_bits}
@@ -25,23 +23,22 @@ use Rattle.log_recovery.specs.Writing.{state_with, to_write_in}
 use Rattle.txn_core.specs.Kept.{IsBegun}
 use Rattle.txn_core.specs.Openings.{StartsThen}
 use Rattle.txn_core.proofs.FirstPages.{first_begun, first_lap, oldest_place}
-use Rattle.txn_laws.specs.Laws.{first_lsn, opened_area}
 use Rattle.txn_laws.specs.Mounting.{HasMounted}
 use Rattle.txn_model.specs.Values.{StoreFacts}
 use Rattle.txn_model.specs.Calls.{first_facts}
 use Rattle.txn_mount.specs.declared.fault.StoreFault.{StoreFault}
-use Rattle.txn_mount.specs.declared.fault.StoreFault.TheVariants.{Refused, Fault, Memory}
+use Rattle.txn_mount.specs.declared.fault.StoreFault.TheVariants.{Fault}
 use Rattle.txn_state.specs.States.{facts_of}
 use Rattle.txn_mount.specs.declared.mounting.Mounted.{Mounted}
 use Rattle.txn_mount.specs.declared.puts.PutOut.{PutOut}
 use Rattle.txn_mount.specs.declared.room.MountPlan.{MountPlan}
 use Rattle.txn_mount.specs.Calls.{MountsBy}
 use Rattle.txn_mount.specs.Contents.{mounted_content}
-use Rattle.txn_mount.specs.Faults.{store_cause, cause_of, device_behind}
+use Rattle.txn_mount.specs.Faults.{device_behind}
 use Rattle.txn_mount.specs.Images.{LeavesAlike, RecoversAlike}
-use Rattle.txn_mount.specs.Laws.{MayMount, MountsAs}
-use Rattle.txn_mount.specs.Mounts.{ReadsAndWrites, IsMounted, StopsMount, ReadsOn, AreShadows, ShadowsFound, ShowsDisk, ShowsRecovered, StaysRecovered}
-use Rattle.txn_mount.specs.Plans.{IsPlan, IsPlanOn, PlansOn, WritesPlan, StopsWriting, area_behind, lsn_behind, bodies_in, items_by}
+use Rattle.txn_mount.specs.Laws.{MayMount}
+use Rattle.txn_mount.specs.Mounts.{ReadsAndWrites, IsMounted, StopsMount, AreShadows, ShadowsFound, ShowsRecovered, StaysRecovered}
+use Rattle.txn_mount.specs.Plans.{IsPlan, IsPlanOn, PlansOn, WritesPlan, StopsWriting, area_behind, bodies_in, items_by}
 use Rattle.txn_mount.specs.Puts.{items_of, MayPutAt}
 use Rattle.txn_mount.proofs.Choosing.{may_put_all}
 use Rattle.txn_mount.proofs.Ending.{mounts_recover_law}

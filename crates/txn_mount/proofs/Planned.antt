@@ -1,15 +1,13 @@
 -- What a mount has taken before it writes.
-use Rattle.std.proofs.Common.{◌≡◌, ◌⊎◌, subst, ℕ, ◌*◌, ◌^◌, ◌<◌, ◌≤◌, Bool, true, false, List, Option, Some, None, Result, Ok, Err, refl, sym, ap, ap₂, ◌∙◌, inl, inr, arith, le-leb, lt-ltb}
-use Rattle.std.specs.Prelude.{◌&&◌, nat_le, nat_lt, All, IfOk, IfErr, IfSome, IsErrOf}
+use Rattle.std.proofs.Common.{◌≡◌, ◌⊎◌, subst, ℕ, ◌*◌, ◌^◌, ◌<◌, ◌≤◌, Bool, true, List, Option, Some, None, Result, Ok, Err, refl, sym, ap, ap₂, ◌∙◌, inl, inr, arith, le-leb, lt-ltb}
+use Rattle.std.specs.Prelude.{◌&&◌, nat_le, nat_lt, IfOk, IfErr, IfSome}
 use Rattle.std.proofs.lemmas.Bool.{leb-true, ltb-true}
 use Rattle.host_base.specs.Answers.{ExplainsOrFails}
-use Rattle.host_base.specs.Causes.{last_moment}
 use Rattle.disk_model.specs.declared.block.Block.{Block}
 use Rattle.disk_model.specs.Content.{content_of}
 use Rattle.disk_model.specs.Sectors.{sector_of}
 use Rattle.sector_device.specs.Disks.{Disk, SeesDisk, seen}
 use Rattle.device_view.specs.Devices.{CountsOnDevice}
-use Rattle.log_model.specs.declared.entry.Entry.{Entry}
 use Rattle.log_page.specs.declared.places.LogPlace.{LogPlace}
 use Rattle.log_page.specs.Places.{sequence_bits}
 use Rattle.log_reading.specs.Rings.{IsRingPlace}
@@ -30,7 +28,7 @@ use Rattle.txn_mount.specs.declared.room.MountPlan.{MountPlan}
 use Rattle.txn_mount.specs.Contents.{ReadsLog}
 use Rattle.txn_mount.specs.Faults.{store_fault, store_cause}
 use Rattle.txn_mount.specs.Laws.{FindsOn, MayMount}
-use Rattle.txn_mount.specs.Plans.{is_level, IsUnlevel, IsPlan, IsPlanOn, PlansOn, bodies_in, items_by}
+use Rattle.txn_mount.specs.Plans.{is_level, IsUnlevel, IsPlan, IsPlanOn, PlansOn, items_by}
 use Rattle.txn_mount.proofs.Choosing.{may_mount_law}
 use Rattle.txn_mount.proofs.Finding.{found as finds, lap_some, lap_small, opens_small}
 use Rattle.txn_mount.proofs.Reading.{read_log}

@@ -1,5 +1,5 @@
 use Rattle.txn_state.specs.States.{facts_of}
-use Rattle.txn_mount.proofs.Behind.{first_as, starts_as}
+use Rattle.txn_mount.proofs.Behind.{starts_as}
 use Rattle.txn_mount.proofs.mounting.start_store.Goals as goal
 
 pub on-requires-clause-starts : goal.on-requires-clause-starts
