@@ -135,9 +135,10 @@ run_by upper (Some x) next script time before i now moment later onwards d turns
 
 -- all but the last, and the last
 front_all : (turns : List Turn) (t : Turn) → All IsSound (turns ++ t ∷ []) → All IsSound turns × IsSound t
-front_all turns t all =
-    (λ i d lt. subst IsSound (get_or_append_left turns (t ∷ []) d i lt) (all i d (rw (length-append turns (t ∷ [])) (omega (arith, lt)))),
-     subst IsSound (get_or-append_seam turns t [] t) (all (length turns) t (rw (length-append turns (t ∷ [])) (omega arith))))
+front_all turns t all = (
+  λ i d lt. subst IsSound (get_or_append_left turns (t ∷ []) d i lt) (all i d (rw (length-append turns (t ∷ [])) (omega (arith, lt)))),
+  subst IsSound (get_or-append_seam turns t [] t) (all (length turns) t (rw (length-append turns (t ∷ [])) (omega arith))),
+)
 
 counted_on : (now later : ℕ) (turns : List Turn) → now ≤ later → IsCounted now turns → IsCounted later turns
 counted_on now later turns le counted = λ i d lt. omega (arith, le, counted i d lt)
@@ -157,10 +158,10 @@ follows_by upper known next script time before i now moment later onwards d turn
       later = omega (arith, so_far.later, le);
       counted = All-push (λ (u : Turn). u.faults_after ≤ later) turns t (counted_on now later turns le so_far.counted) (omega (arith, it.last));
       told = λ all.
-        let parts = front_all turns t all in
-        let sound = parts.1 in
-        let early : moment < last_moment = omega (arith, it.told.onwards, it.time, sound.0) in
-        it.told.counted early sound.1 ∙ so_far.told parts.0;
+          let parts = front_all turns t all in
+          let sound = parts.1 in
+          let early : moment < last_moment = omega (arith, it.told.onwards, it.time, sound.0) in
+          it.told.counted early sound.1 ∙ so_far.told parts.0;
     })
 follows_by upper known next script time before i now moment later onwards d turns new (Find name) is lt what so_far follows =
     rw (follows.0, follows.1, follows.2) (record {
