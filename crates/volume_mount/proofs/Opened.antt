@@ -13,7 +13,6 @@ use Rattle.volume_state.proofs.Reports.{reports}
 use Rattle.volume_map.specs.Maps.{volume_in}
 use Rattle.log_page.specs.declared.places.LogPlace.{LogPlace}
 use Rattle.log_recovery.specs.Recovering.{content_with}
-use Rattle.volume_lookup.specs.Known.{known_tree}
 use Rattle.volume_lookup.proofs.Asking.{known_where}
 use Rattle.image_open.specs.declared.refusal.Refusal.{Refusal}
 use Rattle.image_open.specs.declared.refusal.MountFault.{MountFault}
