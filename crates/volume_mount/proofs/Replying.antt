@@ -2,6 +2,7 @@
 use Rattle.std.proofs.Common.{◌≡◌, ℕ, ◌^◌, ◌<◌, ◌≤◌, List, Option, Some, None, sym, ap, subst, arith}
 use Rattle.std.specs.Prelude.{IfSome}
 use Rattle.host_base.specs.Causes.{Rose, HasFailed}
+use Rattle.host_base.proofs.Known.{one}
 use Rattle.sector_device.specs.Moments.{Changes}
 use Rattle.file_tree.specs.declared.tree.Tree.{Tree}
 use Rattle.tree_model.specs.declared.reply.Reply.{Reply}
@@ -9,6 +10,7 @@ use Rattle.tree_model.specs.declared.reply.Reply.TheVariants.{Fault}
 use Rattle.tree_lookup.specs.Answered.{CountsReply}
 use Rattle.device_view.specs.Devices.{BorrowedDevice, borrowed, failures}
 use Rattle.device_view.proofs.Failing.{has_failed, has_not_failed}
+use Rattle.device_view.proofs.Keeping.{device_failed}
 use Rattle.volume_mount.specs.Answers.{CountsReplyOnDevice}
 
 failed_where : (known : Option Tree) (before now moment_before moment_now : ℕ) → IfSome known (λ t. Rose (failures before moment_before) (failures now moment_now)) → IfSome known (λ t. HasFailed before now moment_now)
@@ -20,7 +22,17 @@ counts : (known : Option Tree) (reply : Reply) (before now moment_before moment_
 counts known Fault before now moment_before moment_now more early rose = failed_where known before now moment_before moment_now rose
 counts known reply before now moment_before moment_now more early same = has_not_failed before now moment_before moment_now more early same
 
--- The device is now x, which is what the view's reference shows at the end, last, where that is still the reference that the view was made of.
+-- A fault says that the device failed. The device is now x, which is what the view's reference shows at the end, last, where that is still the
+-- reference that the view was made of.
+pub reply_failed : {D : Type 0} (known : Option Tree) (reply : Reply) (gives : D → Option (List (List ℕ))) (count : D → ℕ) (changes : D → Changes) (faults moment : D → ℕ) (old last x : D) (given reference before first : ℕ)
+    → reply ≡ Fault → borrowed gives count changes reference last before ≡ borrowed gives count changes given old (faults old)
+    → failures (faults old) (moment old) ≤ first → CountsReply known first (failures (faults last) (moment last)) reply → (given ≡ reference → x ≡ last) → IfSome known (λ t. HasFailed (faults old) (faults x) (moment x))
+reply_failed known reply gives count changes faults moment old last x given reference before first is kept more counted ended =
+    one known (λ t. Rose first (failures (faults last) (moment last))) (λ t. HasFailed (faults old) (faults x) (moment x))
+    (λ t rose. device_failed gives count changes faults moment old last x given reference before first kept more rose ended)
+    (subst (λ (r : Reply). CountsReply known first (failures (faults last) (moment last)) r) is counted)
+
+-- The same of its counts. The device is now x, which is what the view's reference shows at the end, last, where that is still the reference that the view was made of.
 pub reply_counts : {D : Type 0} (known : Option Tree) (reply : Reply) (gives : D → Option (List (List ℕ))) (count : D → ℕ) (changes : D → Changes) (faults moment : D → ℕ) (old last x : D) (given reference before first : ℕ)
     → borrowed gives count changes reference last before ≡ borrowed gives count changes given old (faults old)
     → first ≡ failures (faults old) (moment old) → before ≤ faults last → CountsReply known first (failures (faults last) (moment last)) reply → (given ≡ reference → x ≡ last)

@@ -1,5 +1,5 @@
 ghost use Rattle.std.specs.Prelude.{◌≡◌, ℕ, ◌<◌, true, false, IfOk, IfSome};
-ghost use Rattle.host_base.specs.Causes.{last_moment};
+ghost use Rattle.host_base.specs.Causes.{HasFailed, last_moment};
 ghost use Rattle.block_view.specs.Views.{KeepsView};
 ghost use Rattle.device_view.specs.Devices.{KeepsDevice};
 ghost use Rattle.tree_model.specs.Steps.{is_look, is_given_up, Replies, IsStep};
@@ -82,6 +82,7 @@ impl<'a> MountedTree<'a> {
         ensures value { IfSome (tree_shown self.now.mounted.now (D.gives device.old)) (λ t. is_given_up result ≡ false → Replies self.now.mounted.now.upper t.nodes t.links op.now result) }
         ensures step { IfSome (tree_shown self.now.mounted.now (D.gives device.old)) (λ t. (stamp : ℕ) → IsStep self.now.mounted.now.upper op.now stamp result t t) }
         ensures kept { KeepsDevice D.gives D.sector_count D.changes_of D.fault_count device.old device.new }
+        ensures fault { result ≡ Reply.Fault → IfSome (tree_shown self.now.mounted.now (D.gives device.old)) (λ _. HasFailed (D.fault_count device.old) (D.fault_count device.new) (D.moment_of device.new)) }
         ensures counted { D.moment_of device.old < last_moment → CountsReplyOnDevice (tree_shown self.now.mounted.now (D.gives device.old)) (D.fault_count device.old) (D.fault_count device.new) (D.moment_of device.new) result }
     {
         let Ok(mut room) = piece_room(alloc) else {
