@@ -1,5 +1,5 @@
 -- What a run prints, of a volume that was mounted.
-use Rattle.std.proofs.Common.{◌≡◌, ⊥, ℕ, ◌<◌, ◌≤◌, List, [], Option, Some, None, Result, Ok, Err, refl, sym, ap, ◌∙◌, subst}
+use Rattle.std.proofs.Common.{◌≡◌, ℕ, ◌<◌, ◌≤◌, List, [], Option, Some, None, Result, Ok, Err, refl, sym, ap, ◌∙◌, subst}
 use Rattle.std.specs.Prelude.{IfSome, String, string_bytes}
 use Rattle.std.specs.Global.{Global}
 use Rattle.host_base.specs.Answers.{ExplainsOrFails}
@@ -30,28 +30,28 @@ said : (P : Tree → Type 0) (o : Option Tree) (t : Tree) → o ≡ Some t → I
 said P o t e p = subst (λ (x : Option Tree). IfSome x P) e p
 
 unjournaled_as : (disk : List (List ℕ)) (meant : Result MountedVolume Refusal) (m : Mounted) → mounted_of disk ≡ meant → IsMountedAs (content_of (sector_of disk)) meant m → IfSome (tree_over m (Some (content_of (sector_of disk)))) (λ t. t.journal ≡ None)
-unjournaled_as disk (Ok meant) m is as = shown (λ t. t.journal ≡ None) _ (tree_in meant) as.tree (no_journal disk meant is)
-unjournaled_as disk (Err refusal) m is as = absurd as
+unjournaled_as disk (Ok meant) m is fits = shown (λ t. t.journal ≡ None) _ (tree_in meant) fits.tree (no_journal disk meant is)
+unjournaled_as disk (Err refusal) m is fits = absurd fits
 
 -- the tree of a mounted volume has no journal, where it is known
 pub unjournaled : (gives : Option (List (List ℕ))) (m : Mounted) → IfSome gives (λ disk. MountsAs (content_of (sector_of disk)) (mounted_of disk) (Ok m)) → IfSome (tree_shown m gives) (λ t. t.journal ≡ None)
-unjournaled None m as = tt
-unjournaled (Some disk) m as = unjournaled_as disk (mounted_of disk) m refl as
+unjournaled None m fits = tt
+unjournaled (Some disk) m fits = unjournaled_as disk (mounted_of disk) m refl fits
 
 printed_as : (disk : List (List ℕ)) (meant : Result MountedVolume Refusal) (m : Mounted) (script : List Command) (time : ℕ) (before : Counted) (start now : ℕ) (turns : List Turn) (text : String Global) → IsMountedAs (content_of (sector_of disk)) meant m
     → IfSome (tree_over m (Some (content_of (sector_of disk)))) (λ t. IsRunOf m.upper t script time start turns)
     → TakesTurns script start now turns → IsRunText turns [] (string_bytes text) → before.faults ≤ start → (before.moment < last_moment → start ≡ before.faults)
     → RunsAs meant script time before now (Ok text)
-printed_as disk (Ok meant) m script time before start now turns text as run taken printed later mounted = record {
+printed_as disk (Ok meant) m script time before start now turns text fits run taken printed later mounted = record {
   turns = turns;
   start = start;
   later = later;
   mounted = mounted;
-  run = subst (λ (upper : List ℕ). IsRunOf upper (tree_in meant) script time start turns) as.upper (said (λ t. IsRunOf m.upper t script time start turns) _ (tree_in meant) as.tree run);
+  run = subst (λ (upper : List ℕ). IsRunOf upper (tree_in meant) script time start turns) fits.upper (said (λ t. IsRunOf m.upper t script time start turns) _ (tree_in meant) fits.tree run);
   taken = taken;
   printed = printed;
 }
-printed_as disk (Err refusal) m script time before start now turns text as run taken printed later mounted = absurd as
+printed_as disk (Err refusal) m script time before start now turns text fits run taken printed later mounted = absurd fits
 
 -- the text of the turns on a mounted volume is that of a run
 pub any_run : (script : List Command) (time : ℕ) (before : Counted) (start now : ℕ) (turns : List Turn) (text : List ℕ)
@@ -62,9 +62,9 @@ pub run_is : (gives : Option (List (List ℕ))) (m : Mounted) (script : List Com
     → IfSome gives (λ disk. MountsAs (content_of (sector_of disk)) (mounted_of disk) (Ok m)) → IfSome (tree_shown m gives) (λ t. IsRunOf m.upper t script time start turns)
     → TakesTurns script start now turns → IsRunText turns [] (string_bytes text) → before.faults ≤ start → (before.moment < last_moment → start ≡ before.faults)
     → IfSome gives (λ disk. RunsAs (mounted_of disk) script time before now (Ok text))
-run_is None m script time before start now turns text as run taken printed later mounted = tt
-run_is (Some disk) m script time before start now turns text as run taken printed later mounted =
-    printed_as disk (mounted_of disk) m script time before start now turns text as run taken printed later mounted
+run_is None m script time before start now turns text fits run taken printed later mounted = tt
+run_is (Some disk) m script time before start now turns text fits run taken printed later mounted =
+    printed_as disk (mounted_of disk) m script time before start now turns text fits run taken printed later mounted
 
 runs_err : (meant : Result MountedVolume Refusal) (script : List Command) (time : ℕ) (before : Counted) (now : ℕ) (e : MountFault) → ExplainsOrFails (scan_cause e) meant → RunsAs meant script time before now (Err e)
 runs_err (Ok m) script time before now e why = why

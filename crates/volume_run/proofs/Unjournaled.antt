@@ -8,7 +8,7 @@ use Rattle.disk_model.specs.Sectors.{sector_of}
 use Rattle.state_model.specs.declared.geometry.Geometry.{Geometry}
 use Rattle.volume_model.specs.Volumes.{Volume, upper_of}
 use Rattle.volume_state.specs.Journals.{journal_file, journal_of, some_journal, file_or_none, journal_of_file}
-use Rattle.volume_state.specs.Trees.{volume_journal, tree_of}
+use Rattle.volume_state.specs.Trees.{volume_journal, tree_with, tree_of}
 use Rattle.log_page.specs.declared.places.LogPlace.{LogPlace}
 use Rattle.image_open.specs.declared.refusal.Refusal.{Refusal}
 use Rattle.image_open.specs.declared.refusal.Refusal.TheVariants.{Short, Unbuilt}
@@ -21,15 +21,18 @@ none_of None e = refl
 none_of (Some x) e = absurd cc
 
 -- the value, where there is one
-value_or : {A F : Type 0} → A → Result A F → A
+abbrev value_or : {A F : Type 0} → A → Result A F → A
 value_or d (Ok x) = x
 value_or d (Err f) = d
 
-ok_same : {A F : Type 0} (x y : A) → Result.Ok {E = F} x ≡ Ok y → x ≡ y
+abbrev fine : (A F : Type 0) → A → Result A F
+fine A F x = Ok x
+
+ok_same : {A F : Type 0} (x y : A) → fine A F x ≡ fine A F y → x ≡ y
 ok_same {A} {F} x y e = ap (λ (r : Result A F). value_or x r) e
 
 journal_none : (c : Content) (v : Volume) → journal_number (upper_of c v) v ≡ None → (tree_of c v).journal ≡ None
-unfolding tree_of volume_journal journal_of journal_file
+unfolding tree_of tree_with volume_journal journal_of journal_file
 journal_none c v none = ap (λ (o : Option ℕ). some_journal (journal_of_file c v.per (file_or_none v o))) none
 
 number_none : (upper : List ℕ) (v : Volume) → has_no_journal upper v ≡ Ok tt → journal_number upper v ≡ None

@@ -1,5 +1,5 @@
 -- What a run of a script on a device prints.
-use Rattle.std.specs.Prelude.{◌≡◌, ⊥, ℕ, ◌<◌, ◌≤◌, List, [], Option, Some, None, IfSome, Result, Ok, Err, String, string_bytes}
+use Rattle.std.specs.Prelude.{◌≡◌, ℕ, ◌<◌, ◌≤◌, List, [], Option, Some, None, IfSome, Result, Ok, Err, String, string_bytes}
 use Rattle.std.specs.Global.{Global}
 use Rattle.host_base.specs.Answers.{ExplainsOrFails}
 use Rattle.host_base.specs.Causes.{last_moment}

@@ -1,10 +1,10 @@
 //! A script's run on a mounted volume.
-ghost use Rattle.std.specs.Prelude.{◌≡◌, ◌<◌, ◌≤◌, None, [], IfOk, IfSome, IsErrOf, string_bytes};
+ghost use Rattle.std.specs.Prelude.{◌≡◌, ◌<◌, None, [], IfOk, IfSome, IsErrOf, string_bytes};
 ghost use Rattle.host_base.specs.Causes.{HasFailed, last_moment};
-ghost use Rattle.device_view.specs.Devices.{KeepsDevice, CountsOnDevice};
+ghost use Rattle.device_view.specs.Devices.{KeepsDevice};
 ghost use Rattle.tree_model.specs.Steps.{AllLook};
 ghost use Rattle.run_model.specs.Texts.{IsRunText};
-ghost use Rattle.image_open.specs.Errors.{scan_cause};
+ghost use Rattle.image_open.specs.declared.refusal.Refusal.{Refusal as RefusalOf};
 ghost use Rattle.serial_run.specs.Runs.{IsRunOf, TakesTurns};
 ghost use Rattle.volume_mount.specs.Trees.{tree_shown};
 ghost use Rattle.volume_mount.specs.Mounts.{mounted_of};
@@ -18,7 +18,7 @@ use serial_run::{Script, serial_run};
 use std::alloc::Global;
 use std::sync::Wait;
 use std::thread::Threads;
-use volume_mount::{MountFault, Mounted, MountedTree, mount};
+use volume_mount::{MountFault, Mounted, MountedTree, Refusal, mount};
 
 // The printed text of turns.
 fn text_of(alloc: Global, turns: &[Turn]) -> Result<String, Memory>
@@ -60,6 +60,7 @@ fn turns_on<R: Threads + Wait, D: Device, G: Gate>(
 /// - [`MountFault::Refused`]: what [`mount`] refuses.
 /// - [`MountFault::Device`]: the device failed while it was mounted.
 /// - [`MountFault::Memory`]: want of memory for the mount, the turns or the text.
+#[tactic(auto, using(crate::proofs::Printed::unjournaled, crate::proofs::Printed::any_run, crate::proofs::Printed::run_is, crate::proofs::Printed::mount_fails, crate::proofs::Printed::wants_memory))]
 pub fn run_text<R: Threads + Wait, D: Device, G: Gate>(
     rt: &R,
     alloc: Global,
