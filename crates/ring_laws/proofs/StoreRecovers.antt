@@ -8,6 +8,7 @@ use Rattle.log_model.specs.declared.entry.Entry.{Entry}
 use Rattle.log_model.specs.Logs.{is_other, is_written_out, first_partial}
 use Rattle.disk_model.specs.declared.block.Block.{Block}
 use Rattle.sector_device.specs.Disks.{Disk}
+use Rattle.store_model.specs.Logs.{has_update}
 use Rattle.store_model.specs.Geometry.{SectorBytes, CanLeave, Geometry}
 use Rattle.store_model.specs.Stores.{Store, list_of, IsSound, IsStored}
 use Rattle.store_model.specs.Volumes.{is_known, IsVolume, AreWhole, RecoversToContent, IsRecovered, BearsContent, window_of, mounted_on}
@@ -54,8 +55,11 @@ module _ (own : ℕ → Bool) (geometry : Geometry) (volume : IsVolume own geome
   none_partly = ap (λ (o : Option Entry). option_map (λ (e : Entry). e.lsn) o)
       (none_partial own geometry volume (content_of image) list list (λ b known. partial_same list b (content_of image) (content_of it.left.sectors) (same b known) ∙ not_partial own geometry volume store sound it.left it.may whole_left b known) stored)
 
+  known_updates : (b : Block) → has_update list b ≡ true → is_known own b ≡ true
+  known_updates b has = known_sized own geometry volume b 0 (some_known geometry list b stored has)
+
   out_known : (b : Block) → is_written_out (content_of image) list b ≡ true → is_known own b ≡ true
-  out_known b out = known_sized own geometry volume b 0 (some_known geometry list b stored (written_updated list b (content_of image) out))
+  out_known b out = known_updates b (written_updated list b (content_of image) out)
 
   out_spelled : (b : Block) → is_written_out (content_of image) list b ≡ true → is_other (content_of image) list b ≡ true → has_spelling b.kind ((window_of store.window).before found.0 b).bytes ≡ true
   out_spelled b out other =
@@ -72,6 +76,7 @@ module _ (own : ℕ → Bool) (geometry : Geometry) (volume : IsVolume own geome
     back = found.0;
     within = found.1.within;
     recovers = λ b known clear. without_recovered own image (list_of store it.left) ((window_of store.window).before found.0) b known (there b known clear);
+    updates = known_updates;
     no_partial = none_partly;
     known = out_known;
     spelled = out_spelled;

@@ -9,6 +9,7 @@ use Rattle.log_page.specs.declared.restart.Restart.{Restart}
 use Rattle.log_page.specs.LiveLogs.{live_log}
 use Rattle.log_reading.specs.Fronts.{chosen_in}
 use Rattle.sector_device.specs.Disks.{Disk}
+use Rattle.store_model.specs.Logs.{has_update}
 use Rattle.store_model.specs.Geometry.{SectorBytes, CanLeave, Geometry}
 use Rattle.store_model.specs.Stores.{Store, IsSound}
 use Rattle.store_model.specs.Volumes.{is_known, IsVolume, AreWhole, RecoversToContent, IsRecovered, BearsContent, window_of, mounted_on}
@@ -29,7 +30,9 @@ pub record ImageRecovers (own : ℕ → Bool) (s : LogSession) (l : LogNumbers) 
   pub back : ℕ
   pub within : back ≤ (window_of store.window).waiting
   pub recovers : RecoversToContent own list image ((window_of store.window).before back)
-  -- the list isn't refused for a block that it covers in part, and what recovery writes out are known blocks, whose recovered bodies have a spelling
+  -- the list updates known blocks alone; it isn't refused for a block that it covers in part, and what recovery writes out are known blocks, whose recovered
+  -- bodies have a spelling
+  pub updates : (b : Block) → has_update list b ≡ true → is_known own b ≡ true
   pub no_partial : first_partial (content_of image) list ≡ None
   pub known : (b : Block) → is_written_out (content_of image) list b ≡ true → is_known own b ≡ true
   pub spelled : (b : Block) → is_written_out (content_of image) list b ≡ true → is_other (content_of image) list b ≡ true → has_spelling b.kind ((window_of store.window).before back b).bytes ≡ true

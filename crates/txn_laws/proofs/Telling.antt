@@ -30,6 +30,7 @@ behind_recovers f disk m h image left whole =
       back = x.back;
       within = x.within;
       recovers = x.recovers;
+      updates = x.updates;
       no_partial = x.no_partial;
       known = x.known;
       spelled = x.spelled;

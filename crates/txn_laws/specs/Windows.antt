@@ -14,6 +14,7 @@ use Rattle.log_page.specs.declared.places.LogPlace.{LogPlace}
 use Rattle.log_page.specs.declared.restart.Restart.{Restart}
 use Rattle.log_page.specs.LiveLogs.{live_log}
 use Rattle.log_reading.specs.Fronts.{chosen_in}
+use Rattle.store_model.specs.Logs.{has_update}
 use Rattle.store_model.specs.Geometry.{SectorBytes}
 use Rattle.store_model.specs.Stores.{Store}
 use Rattle.store_model.specs.Volumes.{is_known, ContentWindow, window_of, RecoversToContent}
@@ -42,8 +43,8 @@ pub record HasStart (changes : Changes) (f : StoreFacts) (content : Content) : T
   pub none : window.waiting ≡ 0
   pub present : (b : Block) → window.present b ≡ content b
 
--- Recovery of the image chooses a restart page, reads a list of entries from its oldest place on, and no entry of another shape; it refuses the list for no block
--- that is covered in part, and for no body that has no spelling; and it leaves the known blocks that the list doesn't shadow as they are so many commits back.
+-- Recovery of the image chooses a restart page, reads a list of entries from its oldest place on, and no entry of another shape; each entry updates a known block; it refuses
+-- the list for no block that is covered in part, and for no body that has no spelling; and it leaves the known blocks that the list doesn't shadow as they are so many commits back.
 pub record RecoversWithin (place : LogPlace) (own : ℕ → Bool) (w : ContentWindow) (image : SectorBytes) : Type 0 where
   pub restart : Restart
   pub chosen : chosen_in (raw_page place image 0) (raw_page place image 1) ≡ Some restart
@@ -52,6 +53,7 @@ pub record RecoversWithin (place : LogPlace) (own : ℕ → Bool) (w : ContentWi
   pub back : ℕ
   pub within : back ≤ w.waiting
   pub recovers : RecoversToContent own list image (w.before back)
+  pub updates : (b : Block) → has_update list b ≡ true → is_known own b ≡ true
   pub no_partial : first_partial (content_of image) list ≡ None
   pub known : (b : Block) → is_written_out (content_of image) list b ≡ true → is_known own b ≡ true
   pub spelled : (b : Block) → is_written_out (content_of image) list b ≡ true → is_other (content_of image) list b ≡ true → has_spelling b.kind (w.before back b).bytes ≡ true

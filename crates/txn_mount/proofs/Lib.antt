@@ -14,3 +14,4 @@ pub mod Stopping
 pub mod Knowing
 pub mod Planned
 pub mod Behind
+pub mod Looks

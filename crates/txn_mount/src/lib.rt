@@ -11,6 +11,7 @@
 mod fault;
 mod keys;
 mod laws;
+mod looking;
 mod mounting;
 mod planning;
 mod puts;
@@ -23,6 +24,7 @@ pub use keys::keys_of;
 pub use laws::{
     chosen_may_mount, mounts_recover, reads_disk, reads_level, starts_behind, stopped_mounts,
 };
+pub use looking::show_recovered;
 pub use mounting::{Mounted, mount};
 pub use puts::{PutOut, write_outs};
 pub use read::read_log;

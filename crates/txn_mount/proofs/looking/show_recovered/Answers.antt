@@ -1,0 +1,12 @@
+use Rattle.std.proofs.Common.{rules, ◌∙◌, arith}
+use Rattle.device_view.proofs.Keeping.{device_failed, device_counts}
+use Rattle.txn_core.specs.Changes.{view_cause}
+use Rattle.txn_mount.proofs.looking.show_recovered.Goals as goal
+
+pub returns-clause-fault : goal.returns-clause-fault
+returns-clause-fault g c = λ fault.
+    device_failed g.D.Device.gives g.D.Device.sector_count g.D.Device.changes_of g.D.Device.fault_count g.D.Device.moment_of c.args.device.now _ _ _ _ _ _ (c.show_in.ensures.kept.stays ∙ c.new-view.ensures.kept) (omega (arith, c.new-view.ensures.faults)) (rw fault at c.show_in.ensures.kept.counted) (search rules)
+
+pub returns-clause-counted : goal.returns-clause-counted
+returns-clause-counted g c = λ early.
+    device_counts view_cause c.show_in.result g.D.Device.gives g.D.Device.sector_count g.D.Device.changes_of g.D.Device.fault_count g.D.Device.moment_of c.args.device.now _ _ _ _ _ _ (c.show_in.ensures.kept.stays ∙ c.new-view.ensures.kept) c.new-view.ensures.faults c.show_in.new.view.later c.show_in.ensures.kept.counted (search rules) early
