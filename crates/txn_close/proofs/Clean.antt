@@ -3,7 +3,6 @@ use Rattle.std.proofs.Common.{◌≡◌, subst, ℕ, zero, suc, ◌+◌, ◌-◌
 use Rattle.std.specs.Prelude.{IfSome, OnOk, unwrap_or, nat_lt, nat_le}
 use Rattle.std.specs.Option.{option_map}
 use Rattle.std.proofs.lemmas.Bool.Decides.{nat_tests}
-use Rattle.host_base.specs.declared.outside.Failed.{Failed}
 use Rattle.disk_model.specs.Sectors.{sector_of}
 use Rattle.fixup_record.specs.Protecting.{protected_bytes}
 use Rattle.sector_device.specs.Disks.{Disk, MayLeave, SeesDisk, settled}
@@ -18,7 +17,6 @@ use Rattle.log_area.specs.declared.restart.SentRestart.{SentRestart}
 use Rattle.log_area.specs.Areas.{LogAreaOf, lap_at, number_of, restart_sector, sent_word, page_to_send, naming_page, named_area, synced_area}
 use Rattle.log_area.specs.Calls.{IsSent}
 use Rattle.log_area.proofs.Numbering.{lsn_room}
-use Rattle.log_reading.specs.Fronts.{chosen_in}
 use Rattle.store_model.specs.Rings.{Ring, Restarts, entries_on, synced_places}
 use Rattle.store_model.specs.Stores.{Store}
 use Rattle.store_model.specs.Volumes.{ContentWindow}
@@ -26,7 +24,7 @@ use Rattle.ring_laws.specs.Numbers.{LogSession, lsn_of_page}
 use Rattle.ring_laws.specs.PageBytes.{raw_page}
 use Rattle.ring_laws.specs.RestartPages.{restart_written, restart_synced}
 use Rattle.area_laws.specs.Standing.{Stands, freed_to}
-use Rattle.area_laws.specs.Laws.{IsKnown, MayName, RestartsStandAfter}
+use Rattle.area_laws.specs.Laws.{MayName, RestartsStandAfter}
 use Rattle.area_laws.proofs.Joined.{syncs_all}
 use Rattle.area_laws.proofs.Naming.{restart_names}
 use Rattle.area_laws.proofs.Reading.{is_first, number_is, is_read}

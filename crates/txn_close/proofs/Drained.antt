@@ -1,10 +1,8 @@
 -- What is left of a store once no step is left but those of checkpoints.
-use Rattle.std.proofs.Common.{◌≡◌, ◌⊎◌, subst, ℕ, ◌+◌, ◌-◌, ◌<◌, ◌≤◌, Bool, true, false, cond, List, [], ◌∷◌, length, Option, Some, None, Result, Ok, Err, refl, sym, ap, ◌∙◌, inl, inr, arith}
-use Rattle.std.specs.Prelude.{◌==◌, ◌||◌, nat_lt, count_by, IfSome}
+use Rattle.std.proofs.Common.{◌≡◌, subst, ℕ, ◌+◌, ◌<◌, Bool, true, false, cond, List, [], ◌∷◌, length, Option, Some, None, Ok, refl, sym, ap, ◌∙◌, arith}
+use Rattle.std.specs.Prelude.{◌==◌, ◌||◌}
 use Rattle.std.proofs.lemmas.Bool.Decides.{nat_tests}
-use Rattle.host_base.specs.declared.outside.Failed.{Failed}
 use Rattle.disk_model.specs.declared.block.Block.{Block}
-use Rattle.disk_model.specs.Sectors.{same_block}
 use Rattle.log_area.specs.Areas.{LogAreaOf, is_filling, next_lsn}
 use Rattle.flush_policy.specs.declared.facts.Facts.{Facts}
 use Rattle.flush_policy.specs.declared.facts.StoreStep.{StoreStep}
@@ -25,7 +23,7 @@ use Rattle.txn_core.specs.Leading.{dirty_blocks}
 use Rattle.txn_core.specs.Steps.{MayTurn, HasTurned}
 use Rattle.txn_core.proofs.AfterCalls.{out_log}
 use Rattle.txn_core.proofs.Leading.{steps_lead_on}
-use Rattle.txn_close.specs.Rests.{draining, IsPlain, IsDrained}
+use Rattle.txn_close.specs.Rests.{draining, IsDrained}
 
 zero_is : (n : ℕ) → (n == 0) ≡ true → n ≡ 0
 zero_is n e = grind (arith, nat_tests, e)

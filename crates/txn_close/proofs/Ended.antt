@@ -1,17 +1,15 @@
 -- A checkpoint of a drained store begins and ends.
 use Rattle.std.proofs.Common.{◌≡◌, subst, ℕ, ◌+◌, ◌-◌, ◌*◌, ◌/◌, ◌%◌, ◌^◌, ◌<◌, ◌≤◌, Bool, true, false, cond, Option, Some, None, Result, Ok, Err, refl, sym, ap, ap₂, ◌∙◌, arith}
-use Rattle.std.specs.Prelude.{IfSome, OnOk, IsSome, is_some, unwrap_or, slice_index, nat_le, nat_lt, ◌&&◌, ◌||◌, ◌==◌, not}
+use Rattle.std.specs.Prelude.{IfSome, OnOk, IsSome, unwrap_or, slice_index, ◌&&◌, ◌||◌, ◌==◌}
 use Rattle.std.proofs.lemmas.Bool.Decides.{nat_tests}
 use Rattle.std.proofs.lemmas.Nat.{div-add-mod'}
-use Rattle.disk_model.specs.declared.block.Block.{Block}
 use Rattle.log_page.specs.declared.places.LogPlace.{LogPlace}
-use Rattle.log_page.specs.Places.{lap_of, page_of}
-use Rattle.log_area.specs.Areas.{LogAreaOf, is_filling, used_pages, ring_size, place_at, number_of, named_area, synced_area, sealed_area}
+use Rattle.log_area.specs.Areas.{LogAreaOf, is_filling, ring_size, place_at, number_of, sealed_area}
 use Rattle.ring_laws.specs.Numbers.{LogSession}
 use Rattle.ring_laws.proofs.Numbering.{says_lap, says_page}
 use Rattle.txn_model.specs.declared.mark.Mark.{Mark}
 use Rattle.txn_model.specs.Values.{StoreFacts}
-use Rattle.txn_model.specs.Calls.{given_up_facts, sealed_facts, front_lsn, named_facts, noted_facts, synced_facts, synced_mark, noted_mark, durable_after}
+use Rattle.txn_model.specs.Calls.{given_up_facts, sealed_facts, front_lsn, named_facts, noted_facts, synced_facts, synced_mark, noted_mark}
 use Rattle.txn_core.specs.Turns.{HasNext, MayRestart}
 use Rattle.txn_close.specs.declared.fault.CloseFault.{CloseFault}
 use Rattle.txn_close.specs.Rests.{IsPlain, IsDrained, IsAtRest, stopped_facts}

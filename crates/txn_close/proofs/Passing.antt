@@ -1,8 +1,7 @@
 -- What several calls of a store do to its window, one behind the other.
-use Rattle.std.proofs.Common.{◌≡◌, ◌⊎◌, subst, ℕ, ◌≤◌, Bool, true, false, List, refl, sym, ap, ◌∙◌, inl, inr, arith}
-use Rattle.std.proofs.lemmas.Bool.{cases_Bool}
+use Rattle.std.proofs.Common.{◌≡◌, ◌⊎◌, subst, ℕ, ◌≤◌, Bool, true, false, List, refl, sym, ◌∙◌, inl, inr, arith}
 use Rattle.disk_model.specs.declared.block.Block.{Block}
-use Rattle.disk_model.specs.Sectors.{sector_of, are_rivals}
+use Rattle.disk_model.specs.Sectors.{sector_of}
 use Rattle.sector_device.specs.Moments.{Changes, LeftSince}
 use Rattle.log_page.specs.declared.places.LogPlace.{LogPlace}
 use Rattle.store_model.specs.Geometry.{SectorBytes}

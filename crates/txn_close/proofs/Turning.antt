@@ -1,31 +1,29 @@
 -- What one step of a store does to its marks, to its window and to the moment.
-use Rattle.std.proofs.Common.{◌≡◌, ◌⊎◌, subst, ℕ, ◌+◌, ◌<◌, ◌≤◌, Bool, true, false, cond, List, Option, Some, None, Result, Ok, Err, refl, sym, ap, ◌∙◌, inl, inr, arith}
+use Rattle.std.proofs.Common.{◌≡◌, subst, ℕ, ◌+◌, ◌≤◌, Bool, true, false, cond, List, Option, Some, None, Result, Ok, Err, refl, sym, ap, ◌∙◌, inl, inr, arith}
 use Rattle.std.specs.Prelude.{◌&&◌, is_ok, is_some, nat_le, nat_lt}
-use Rattle.std.proofs.lemmas.Bool.{cases_Bool}
 use Rattle.host_base.specs.Causes.{last_moment}
 use Rattle.host_base.specs.declared.outside.Failed.{Failed}
 use Rattle.disk_model.specs.declared.block.Block.{Block}
 use Rattle.disk_model.specs.declared.block.Body.{Body}
 use Rattle.disk_model.specs.Sectors.{same_block, are_rivals}
 use Rattle.sector_device.specs.Moments.{moment_after, Changes}
-use Rattle.log_area.specs.Calls.{sending_moment, SentOrAsked, IsSentOrNot}
+use Rattle.log_area.specs.Calls.{sending_moment, IsSentOrNot}
 use Rattle.store_model.specs.Volumes.{ContentWindow}
 use Rattle.store_model.proofs.Told.{true≢false}
 use Rattle.flush_policy.specs.declared.facts.StoreStep.{StoreStep}
 use Rattle.flush_policy.specs.declared.facts.StoreStep.TheVariants.{SealPage, WritePage, SyncDevice, WriteOut, BeginCheckpoint, WriteRestart}
 use Rattle.txn_model.specs.declared.mark.Mark.{Mark}
 use Rattle.txn_model.specs.Values.{StoreFacts}
-use Rattle.txn_model.specs.Calls.{is_ready, is_buried, synced_mark, written_out_facts, sent_out_facts, again_facts}
+use Rattle.txn_model.specs.Calls.{is_ready, is_buried}
 use Rattle.txn_laws.specs.Windows.{AfterWrite, MovesTo}
 use Rattle.txn_laws.proofs.PageWrites.{sends_later}
 use Rattle.device_blocks.specs.declared.word.CheckWord.{CheckWord}
 use Rattle.device_blocks.specs.declared.word.CheckWord.TheVariants.{Unread, Missing, Stands, Sent}
 use Rattle.device_blocks.specs.Words.{known_word}
-use Rattle.device_blocks.specs.Calls.{PutOrAsked, IsPutOrNot, IsPutAgainOrNot}
-use Rattle.txn_core.specs.Calls.{out_facts, is_spelled, AfterSync, sync_facts, WritesOut, IsOut}
+use Rattle.device_blocks.specs.Calls.{IsPutOrNot, IsPutAgainOrNot}
+use Rattle.txn_core.specs.Calls.{out_facts, is_spelled, AfterSync, sync_facts, WritesOut}
 use Rattle.txn_core.specs.Steps.{MayTurn, HasTurned, TurnsDevice, AfterTurn}
 use Rattle.txn_core.proofs.Outs.{ready_dirty}
-use Rattle.txn_model.specs.Calls.{given_up_facts}
 use Rattle.txn_state.specs.States.{facts_of}
 use Rattle.txn_laws.specs.Windows.{AfterGiveUp}
 use Rattle.txn_core.specs.Seen.{Seen, TakesStep}

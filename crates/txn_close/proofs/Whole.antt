@@ -1,27 +1,27 @@
 -- After a clean end each image stands for the content after all commits.
-use Rattle.std.proofs.Common.{◌≡◌, subst, ℕ, ◌+◌, ◌≤◌, true, false, List, [], Option, Some, None, Result, Ok, Err, refl, sym, ap, ◌∙◌, arith}
+use Rattle.std.proofs.Common.{◌≡◌, subst, ℕ, ◌+◌, false, List, [], Some, Result, Ok, Err, refl, sym, ap, ◌∙◌, arith}
 use Rattle.std.specs.Prelude.{OnOk}
 use Rattle.disk_model.specs.declared.block.Block.{Block}
 use Rattle.disk_model.specs.declared.block.Body.{Body}
 use Rattle.disk_model.specs.Content.{Content}
 use Rattle.disk_model.specs.Sectors.{sector_of}
-use Rattle.sector_device.specs.Moments.{Changes, MayLeaveNow}
+use Rattle.sector_device.specs.Moments.{Changes}
 use Rattle.log_model.specs.declared.entry.Entry.{Entry}
 use Rattle.log_model.specs.Logs.{is_shadowed}
 use Rattle.log_page.specs.declared.restart.Restart.{Restart}
 use Rattle.log_page.specs.RecordPages.{Reading}
 use Rattle.log_page.specs.LiveLogs.{live_log}
 use Rattle.store_model.specs.Geometry.{SectorBytes}
-use Rattle.store_model.specs.Volumes.{is_known, ContentWindow, IsRecovered}
+use Rattle.store_model.specs.Volumes.{ContentWindow, IsRecovered}
 use Rattle.ring_laws.specs.PageBytes.{raw_page}
 use Rattle.txn_model.specs.Values.{StoreFacts, own_of}
 use Rattle.txn_state.specs.States.{facts_of}
-use Rattle.txn_laws.specs.Windows.{HasWindow, RecoversWithin}
+use Rattle.txn_laws.specs.Windows.{RecoversWithin}
 use Rattle.txn_laws.proofs.Telling.{at_return, waits}
 use Rattle.txn_core.specs.Seen.{Seen}
 use Rattle.txn_close.specs.declared.fault.CloseFault.{CloseFault}
 use Rattle.txn_close.specs.Rests.{IsAtRest}
-use Rattle.txn_close.specs.Passing.{IsSpared, Spares, Goes}
+use Rattle.txn_close.specs.Passing.{Spares, Goes}
 use Rattle.txn_close.specs.Ends.{IsLeftClean, IsLeftWhole, LeavesClean, LeavesWhole}
 use Rattle.txn_close.proofs.Passing.{here}
 

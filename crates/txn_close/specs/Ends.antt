@@ -1,5 +1,5 @@
 -- How a checkpoint ends by a restart page, and what the last one leaves of the log.
-use Rattle.std.specs.Prelude.{◌≡◌, ℕ, Bool, true, List, [], Option, Some, None, Result, Ok, Err, unwrap_or, IfErr, OnOk}
+use Rattle.std.specs.Prelude.{◌≡◌, ℕ, Bool, true, List, [], Option, Some, None, Result, Ok, unwrap_or, IfErr, OnOk}
 use Rattle.host_base.specs.declared.outside.Failed.{Failed}
 use Rattle.host_base.specs.Answers.{Cause, refused, failed}
 use Rattle.disk_model.specs.declared.block.Block.{Block}

@@ -1,5 +1,5 @@
 -- What a store is once nothing is left to write.
-use Rattle.std.specs.Prelude.{◌≡◌, ℕ, ◌^◌, ◌<◌, ◌≤◌, false, if◌then◌else◌, Option, Some, None, IfSome}
+use Rattle.std.specs.Prelude.{◌≡◌, ◌^◌, ◌<◌, ◌≤◌, false, if◌then◌else◌, Option, Some, None, IfSome}
 use Rattle.disk_model.specs.declared.block.Block.{Block}
 use Rattle.log_area.specs.Areas.{is_filling, used_pages}
 use Rattle.flush_policy.specs.declared.facts.StoreStep.{StoreStep}

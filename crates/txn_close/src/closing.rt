@@ -51,10 +51,10 @@ fn end_session<D: Device>(store: &mut Store<D>) -> Result<(), CloseFault>
     end_clean(store)
 }
 
-/// Closes a store, and gives its device back: the transaction that is open is given up, all that the
-/// store holds is written out, and its log is marked clean by a last checkpoint, as [`drain`] and
-/// the calls of a checkpoint do it; a checkpoint that has begun ends first. No store may go on behind
-/// a log that is marked clean.
+/// Closes a store, and gives its device back: the transaction that is open is given up, all that
+/// the store holds is written out, as [`drain`](crate::drain) does it, and its log is marked clean
+/// by a last checkpoint; one that has begun ends first. No store goes on behind a log that is
+/// marked clean.
 ///
 /// - [`CloseFault::Fault`]: the device failed, and nothing more was done.
 /// - [`CloseFault::Unmarked`]: no restart page can be made; all that the store held is written out

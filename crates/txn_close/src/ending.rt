@@ -13,8 +13,8 @@ use crate::fault::CloseFault;
 use sector_device::Device;
 use txn_core::Store;
 
-/// Whether a restart page can be made: the log has a lap for a further entry, and its count of opens
-/// isn't at its end. In constant time.
+/// Whether a restart page can be made: the log has a lap for a further entry, and its count of
+/// opens isn't at its end. In constant time.
 pub fn has_next<D: Device>(store: &Store<D>) -> bool
     ensures { (result ≡ true) ↔ HasNext store.now.state.log }
 {

@@ -1,4 +1,3 @@
-use Rattle.std.proofs.Common.{refl}
 use Rattle.txn_close.proofs.closing.close.Goals as goal
 
 pub returns-clause-closes : goal.returns-clause-closes

@@ -1,5 +1,4 @@
 use Rattle.std.proofs.Common.{sym, refl, ◌∙◌}
-use Rattle.log_area.specs.Areas.{next_lsn}
 use Rattle.txn_state.specs.States.{facts_of}
 use Rattle.txn_core.specs.Leading.{dirty_blocks}
 use Rattle.txn_core.proofs.Leading.{steps_lead_on}
