@@ -46,13 +46,27 @@ fn first_other(alloc: Global, run: &mut Run, rises: &[Rise]) -> Result<Option<us
     Ok(None)
 }
 
+/// The first step before a checkpoint that differs, the steps that the store takes down to rest, and
+/// the first one behind the checkpoint that differs; none where the store isn't opened. It seals and
+/// writes a page, syncs, writes the record, syncs, begins the checkpoint, ends it, and syncs.
+type Outcome = (Option<usize>, Option<u64>, Option<usize>);
+
+fn risen(alloc: Global) -> Result<Option<Outcome>, ViewFault> {
+    let Some(mut run) = Run::open(alloc, PAGES, disk(alloc, &[], 0)?)? else {
+        return Ok(None);
+    };
+    let before = first_other(alloc, &mut run, &BEFORE)?;
+    let steps = go_on(&mut run, 100);
+    let behind = first_other(alloc, &mut run, &BEHIND)?;
+    Ok(Some((before, steps, behind)))
+}
+
 #[test]
 fn a_checkpoint_has_a_block_logged_whole_again(rt: HostRuntime) -> Result<(), Fail> {
-    let alloc = rt.alloc();
-    let mut run = Run::open(alloc, PAGES, disk(alloc, &[], 0)?)?.ok_or("no store")?;
-    assert_eq!(rt; first_other(alloc, &mut run, &BEFORE)?, None);
-    assert!(rt; go_on(&mut run, 100).is_some());
-    assert_eq!(rt; first_other(alloc, &mut run, &BEHIND)?, None);
+    let (before, steps, behind) = risen(rt.alloc())?.ok_or("no store")?;
+    assert_eq!(rt; before, None);
+    assert_eq!(rt; steps, Some(8));
+    assert_eq!(rt; behind, None);
     Ok(())
 }
 

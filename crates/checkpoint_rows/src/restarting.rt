@@ -73,14 +73,22 @@ struct Outcome {
     synced: (bool, bool),
 }
 
-/// Sends it again and syncs.
-fn sent_again(alloc: Global, run: &mut Run) -> Result<Option<Outcome>, RecoveryFault> {
-    let before = page(alloc, run)?;
-    let torn = restarts_left(alloc, PAGES, run.memory(), IMAGES)?;
+/// Sends it again, and tells of how many sectors these bytes are what stands then; none where that
+/// isn't answered as it is to be.
+fn sent_again(alloc: Global, run: &mut Run, before: &[u8]) -> Result<Option<usize>, AllocError> {
     if make(alloc, run, Next(WriteRestart))? != Done {
         return Ok(None);
     }
-    let same = same_sectors(&before, &page(alloc, run)?);
+    Ok(Some(same_sectors(before, &page(alloc, run)?)))
+}
+
+/// Sends it again and syncs.
+fn ended(alloc: Global, run: &mut Run) -> Result<Option<Outcome>, RecoveryFault> {
+    let before = page(alloc, run)?;
+    let torn = restarts_left(alloc, PAGES, run.memory(), IMAGES)?;
+    let Some(same) = sent_again(alloc, run, &before)? else {
+        return Ok(None);
+    };
     let sent = restarts_left(alloc, PAGES, run.memory(), IMAGES)?;
     if make(alloc, run, Next(SyncDevice))? != Done {
         return Ok(None);
@@ -104,7 +112,7 @@ fn sent_twice(alloc: Global, tearing: usize) -> Result<Option<Outcome>, Recovery
     if !are_made(alloc, &mut run)? {
         return Ok(None);
     }
-    sent_again(alloc, &mut run)
+    ended(alloc, &mut run)
 }
 
 #[test]
