@@ -45,9 +45,9 @@ impl<D: Device> Store<D> {
     /// Writes the restart page that names the place which a checkpoint noted: nothing that it noted
     /// is still to be written out or synced, the pages sealed before it are durable, and no restart
     /// page was written since the last sync. The next sync that succeeds frees the ring up to there.
-    /// The page's flag says whether the log is closed: recovery reads no entry behind a page that has
-    /// it, so it is for the last page of a store that ends. A call after one that failed behind its
-    /// read writes the same bytes, with the flag that they had.
+    /// The page's flag says whether the log is closed: recovery reads no entry behind a page that
+    /// has it, so it is for the last page of a store that ends. A call after one that failed behind
+    /// its read writes the same bytes, with the flag that they had.
     ///
     /// The error is a failure of the device: then any sectors of the page may stand, and the
     /// checkpoint hasn't ended. At most two calls of the device.
