@@ -17,16 +17,24 @@ fn goes_well(alloc: Global, run: &mut Run) -> Result<bool, AllocError> {
     Ok(go_on(run, 1000).is_some())
 }
 
+/// Makes so many rounds; whether all went well.
+fn all_well(alloc: Global, run: &mut Run, rounds: u64) -> Result<bool, AllocError> {
+    for _ in 0..rounds {
+        if !goes_well(alloc, run)? {
+            return Ok(false);
+        }
+    }
+    Ok(true)
+}
+
 /// The reads, writes and syncs of so many rounds; none where its store isn't opened, or one of them
 /// doesn't go well.
 fn calls(alloc: Global, rounds: u64) -> Result<Option<(u64, u64, u64)>, ViewFault> {
     let Some(mut run) = Run::open(alloc, PAGES, disk(alloc, &[], 0)?)? else {
         return Ok(None);
     };
-    for _ in 0..rounds {
-        if !goes_well(alloc, &mut run)? {
-            return Ok(None);
-        }
+    if !all_well(alloc, &mut run, rounds)? {
+        return Ok(None);
     }
     let device = run.memory();
     let (writes, syncs) = (device.writes, device.syncs);

@@ -1,10 +1,9 @@
 //! A block that is noted by a checkpoint, and over whose sector another kind of block comes.
-use block_view::ViewFault;
 use flush_policy::StoreStep::{
     BeginCheckpoint, SealPage, SyncDevice, WriteOut, WritePage, WriteRestart,
 };
 use log_recovery::RecoveryFault;
-use std::alloc::Global;
+use std::alloc::{AllocError, Global};
 use std::test::Fail;
 use store_images::Answer::Done;
 use store_images::Step::{Begin, Change, Checkpoint, Commit, Next, Page, Rest, Seal, Sync};
@@ -47,12 +46,17 @@ static STEPS: [(Step, u64); 24] = [
     (Rest, 0),
 ];
 
+/// Makes a step; whether that goes well and so many noted blocks are left behind it.
+fn leaves(alloc: Global, run: &mut Run, step: Step, noted: u64) -> Result<bool, AllocError> {
+    let answer = make(alloc, run, step)?;
+    Ok(answer == Done && run.facts().noted_left == noted)
+}
+
 /// Makes the steps, and tells the first one that isn't made, or behind which another number is
 /// left.
-fn first_other(alloc: Global, run: &mut Run) -> Result<Option<usize>, ViewFault> {
+fn first_other(alloc: Global, run: &mut Run) -> Result<Option<usize>, AllocError> {
     for (number, (step, noted)) in STEPS.iter().enumerate() {
-        let answer = make(alloc, run, *step)?;
-        if answer != Done || run.facts().noted_left != *noted {
+        if !leaves(alloc, run, *step, *noted)? {
             return Ok(Some(number));
         }
     }

@@ -1,7 +1,7 @@
 //! What is logged of a block that is changed anew, before and behind a checkpoint.
 use block_view::ViewFault;
 use flush_policy::StoreStep::{SealPage, SyncDevice, WriteOut, WritePage, WriteRestart};
-use std::alloc::Global;
+use std::alloc::{AllocError, Global};
 use std::test::Fail;
 use store_images::Answer::{Done, Fault};
 use store_images::Step::{Begin, Change, Checkpoint, Commit, Next, Rest};
@@ -34,12 +34,17 @@ static BEFORE: [Rise; 7] = [
 /// Behind a checkpoint: its first change logs it whole again.
 static BEHIND: [Rise; 4] = [(Begin, 0), (BYTE, 267), (NEXT_BYTE, 13), (Commit, 11)];
 
+/// Makes a step; whether that goes well and raises it by so many.
+fn raises(alloc: Global, run: &mut Run, step: Step, rise: u64) -> Result<bool, AllocError> {
+    let before = run.facts().next;
+    let answer = make(alloc, run, step)?;
+    Ok(answer == Done && run.facts().next.saturating_sub(before) == rise)
+}
+
 /// The first step that isn't made or raises it by another number.
-fn first_other(alloc: Global, run: &mut Run, rises: &[Rise]) -> Result<Option<usize>, ViewFault> {
+fn first_other(alloc: Global, run: &mut Run, rises: &[Rise]) -> Result<Option<usize>, AllocError> {
     for (number, (step, rise)) in rises.iter().enumerate() {
-        let before = run.facts().next;
-        let answer = make(alloc, run, *step)?;
-        if answer != Done || run.facts().next.checked_sub(before) != Some(*rise) {
+        if !raises(alloc, run, *step, *rise)? {
             return Ok(Some(number));
         }
     }

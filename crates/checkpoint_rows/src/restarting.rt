@@ -35,10 +35,20 @@ static STEPS: [(Step, Answer); 9] = [
 /// there are two syncs.
 const FAILING: u64 = 11;
 
+/// Makes a step; whether it is answered so.
+fn is_answered(
+    alloc: Global,
+    run: &mut Run,
+    step: Step,
+    answer: Answer,
+) -> Result<bool, AllocError> {
+    Ok(make(alloc, run, step)? == answer)
+}
+
 /// Makes the steps; whether each is answered so.
 fn are_made(alloc: Global, run: &mut Run) -> Result<bool, AllocError> {
     for (step, answer) in &STEPS {
-        if make(alloc, run, *step)? != *answer {
+        if !is_answered(alloc, run, *step, *answer)? {
             return Ok(false);
         }
     }

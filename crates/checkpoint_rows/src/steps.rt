@@ -165,19 +165,27 @@ fn is_kind(step: StoreStep, other: StoreStep) -> bool {
     }
 }
 
+/// Takes the next step where it is of this kind; whether it went well.
+fn is_taken(run: &mut Run, kind: StoreStep) -> bool {
+    match run.next() {
+        Some(step) if is_kind(step, kind) => matches!(run.turn(), Some((_, Answer::Done))),
+        _ => false,
+    }
+}
+
 /// Takes the next steps while they are of this kind and go well, and tells how many they were.
 fn taken(run: &mut Run, kind: StoreStep) -> u64 {
     for count in 0..1000 {
-        match run.next() {
-            Some(step) if is_kind(step, kind) => {}
-            _ => return count,
-        }
-        match run.turn() {
-            Some((_, Answer::Done)) => {}
-            _ => return count,
+        if !is_taken(run, kind) {
+            return count;
         }
     }
     1000
+}
+
+/// The steps of this kind that are taken, and what is told behind them.
+fn behind(run: &mut Run, kind: StoreStep) -> (u64, Facts) {
+    (taken(run, kind), run.facts())
 }
 
 /// What differs of a row: the steps that were taken, and what is told.
@@ -186,8 +194,7 @@ type Other = (usize, u64, Facts);
 /// The first row that differs.
 fn first_other(run: &mut Run) -> Option<Other> {
     for (number, Row(kind, count, told)) in ROWS.iter().enumerate() {
-        let found = taken(run, *kind);
-        let facts = run.facts();
+        let (found, facts) = behind(run, *kind);
         if found != *count || facts != *told {
             return Some((number, found, facts));
         }
