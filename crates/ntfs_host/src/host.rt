@@ -5,7 +5,7 @@ ghost use Rattle.host_base.specs.Causes.{AppendsPart};
 ghost use Rattle.ntfs_host.specs.declared.command.Asked.{Asked as the_asked};
 ghost use Rattle.ntfs_host.specs.declared.command.Asked.TheVariants.{Quietly};
 ghost use Rattle.ntfs_host.specs.Answers.{known_answer};
-ghost use Rattle.ntfs_host.specs.Outcomes.{AnswersQuiet, AnswersNoLine, Answers, HasCauses, HasDeviceCauses, KeepsOrder, LeavesDevice, IsWhole};
+ghost use Rattle.ntfs_host.specs.Outcomes.{AnswersQuiet, AnswersNoLine, Answers, HasCauses, HasDeviceCauses, HasCausesBy, KeepsOrder, LeavesDevice, IsWhole};
 ghost use Rattle.ntfs_host.specs.Words.{asked_by, asked_in};
 
 use crate::answers::answer;
