@@ -6,8 +6,8 @@ use thiserror::Error;
 /// Why a store isn't mounted.
 #[derive(Clone, Copy, Debug, PartialEq, Eq, Error)]
 pub enum StoreFault {
-    /// The log is refused, as [`recover_to_write`](log_recovery::recover_to_write) says. Nothing was
-    /// written.
+    /// The log is refused, as [`recover_to_write`](log_recovery::recover_to_write) says. Nothing
+    /// was written.
     #[error("the log is refused: {0}")]
     Refused(LogRefusal),
     /// The device failed.

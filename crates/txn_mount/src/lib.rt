@@ -1,11 +1,11 @@
-//! A store is mounted on a device whose log may hold entries: the blocks that recovery makes are put
-//! out, and a session is opened. And the parts of it: what is read of the log, which blocks are put
-//! out, and all that is written.
+//! A store is mounted on a device whose log may hold entries: the blocks that recovery makes are
+//! put out, and a session is opened. And the parts of it: what is read of the log, which blocks are
+//! put out, and all that is written.
 //!
-//! The contract: exactly the calls of the device, in their order, and where one fails; and on a known
-//! disk what stands then. The laws: what these calls leave of a settled device, wherever the mount is
-//! stopped, recovers to the same content on known blocks that the log doesn't shadow; and a store
-//! begins behind them that shows it.
+//! The contract: exactly the calls of the device, in their order, and where one fails; and on a
+//! known disk what stands then. The laws: what these calls leave of a settled device, wherever the
+//! mount is stopped, recovers to the same content on known blocks that the log doesn't shadow; and
+//! a store begins behind them that shows it.
 #![tactic(auto)]
 
 mod fault;

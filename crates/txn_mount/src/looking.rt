@@ -34,9 +34,9 @@ fn show_in<V: View>(
 }
 
 /// The body that a block of a device has once it is recovered, by the bodies that recovery found
-/// ([`log_recovery::recover`]) and their places: that is what a mount shows that writes nothing. The
-/// device is only read, through room for a piece ([`device_view::piece_room`]): nothing is written
-/// or synced, and what a crash may leave of it stays.
+/// ([`log_recovery::recover`]) and their places: that is what a mount shows that writes nothing.
+/// The device is only read, through room for a piece ([`device_view::piece_room`]): nothing is
+/// written or synced, and what a crash may leave of it stays.
 ///
 /// The error is a failure of the device; a block that has a recovered body isn't read.
 pub fn show_recovered<D: Device>(

@@ -103,14 +103,16 @@ fn carry_out<D: Device>(
 }
 
 /// Mounts a store on a device: recovers it by its log, and opens a session there. The log lies at
-/// this place, and is found by the `kept` blocks: of a volume the boot sector's and that of record 2.
+/// this place, and is found by the `kept` blocks: of a volume the boot sector's and that of record
+/// 2.
 ///
 /// It takes all memory that it needs, and reads. Then it writes the blocks that
-/// [`recover_to_write`](log_recovery::recover_to_write) says, by rising first sector, each under the
-/// check word behind the one that stands there; it syncs; it writes a restart page, which names the
-/// first page of a lap that no page of the ring says; and it syncs. So a crash inside it is recovery
-/// again: whatever is left of a settled device, wherever the mount stopped, recovers to the same
-/// content on known blocks that the log doesn't shadow. And the store that begins has that content.
+/// [`recover_to_write`](log_recovery::recover_to_write) says, by rising first sector, each under
+/// the check word behind the one that stands there; it syncs; it writes a restart page, which names
+/// the first page of a lap that no page of the ring says; and it syncs. So a crash inside it is
+/// recovery again: whatever is left of a settled device, wherever the mount stopped, recovers to
+/// the same content on known blocks that the log doesn't shadow. And the store that begins has that
+/// content.
 ///
 /// Each error gives the device back.
 /// - [`StoreFault::Refused`]: the log is refused, exactly as `recover_to_write` says. Nothing was
@@ -119,9 +121,9 @@ fn carry_out<D: Device>(
 /// - [`StoreFault::Memory`]: want of memory, before anything was written.
 ///
 /// The log is read once, in pieces of 64 KiB, and each body is written once, in one call behind a
-/// read of its check word; a log without entries costs two writes' worth of calls: a read and a write
-/// of the restart page, and two syncs. Time is that of `recover_to_write`, and linear in the log's
-/// bytes; memory is 4,096 bytes for each page of the ring, and what recovery takes.
+/// read of its check word; a log without entries costs two writes' worth of calls: a read and a
+/// write of the restart page, and two syncs. Time is that of `recover_to_write`, and linear in the
+/// log's bytes; memory is 4,096 bytes for each page of the ring, and what recovery takes.
 pub fn mount<D: Device>(
     alloc: Global,
     mut device: D,

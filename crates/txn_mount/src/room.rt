@@ -26,8 +26,8 @@ pub struct MountPlan {
     pub ends: Vec<u64>,
 }
 
-// Whether a session may begin with what was found: with this lap, and with this place and open count
-// of its restart page.
+// Whether a session may begin with what was found: with this lap, and with this place and open
+// count of its restart page.
 fn is_level(place: &LogPlace, found: &Recovered) -> bool
     requires pages { place.now.pages < 2 ^ 52 }
     ensures value { result ≡ is_level place.now.pages found.now }
@@ -77,8 +77,8 @@ fn room_for(
 /// What a mount on a device of so many sectors needs by what was found. Nothing is asked of the
 /// device.
 ///
-/// The errors are want of memory, and a refusal where no session may begin with what was found, as is
-/// never so of a log.
+/// The errors are want of memory, and a refusal where no session may begin with what was found, as
+/// is never so of a log.
 pub fn plan_for(
     alloc: Global,
     place: &LogPlace,
