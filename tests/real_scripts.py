@@ -2,6 +2,8 @@
 
 Each directory is listed, and files are asked for by their paths: all, or a sample where there are many.
 """
+import re
+import struct
 import subprocess
 
 from real_printed import units_of
@@ -36,6 +38,24 @@ def replies(program, image, commands):
     return [line.split(" ")[4:] for line in lines]
 
 
+def log_of(image):
+    """How many pages the log has by istat, how many of them are initialised, and how many a session that writes needs by the volume's clusters of eight
+    sectors."""
+    text = subprocess.run(["istat", image, "2"], capture_output=True).stdout.decode()
+    size, initialised = map(int, re.search(r"\$DATA .*Non-Resident +size: (\d+) +init_size: (\d+)", text).groups())
+    with open(image, "rb") as file:
+        clusters = struct.unpack_from("<Q", file.read(512), 0x28)[0] // 8
+    sectors = -(-clusters // 4096)
+    return size // 4096, initialised // 4096, 512 - -sectors // 3
+
+
+def small_log(image):
+    """The line by which scripts are refused on a volume whose log is too small; None where it is large enough."""
+    pages, whole, needed = log_of(image)
+    needed = max(needed, pages)
+    return f"refused 13 LogSmall {whole} {needed}" if whole < needed else None
+
+
 def nodes_of(text):
     """{number: what a stat tells of the node, in words} of a dump."""
     nodes, links = {}, {}
@@ -53,6 +73,11 @@ def nodes_of(text):
 
 def compare_scripts(count, what, image, peer):
     """Directories have the names that fls prints, of which `peer` has record numbers and paths; and nodes are those of the dump."""
+    line = small_log(image)
+    if line is not None:
+        ended = subprocess.run([count.program, image, "run"], input=b"1 stat /\n", capture_output=True)
+        told = ended.returncode, ended.stdout.decode()
+        return count.say(f"scripts on {what}", [] if told == (3, line + "\n") else [f"{told}, not {line}"], line)
     (_, scanned), (_, dumped) = count.command(image, "scan"), count.command(image, "dump")
     paths, nodes = paths_of(scanned), nodes_of(dumped)
     children = {}

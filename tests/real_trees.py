@@ -3,7 +3,7 @@ import os
 
 from real_compare import compare_names, compare_refusal
 from real_peers import clusters_of, cut_record, has_list
-from real_volumes import copied, kinds, scattered, tree
+from real_volumes import ASKED, copied, kinds, scattered, tree
 from volumes import MEBIBYTE, blank, library, put
 
 CLUSTERS = [512, 1024, 2048, 4096]
@@ -44,7 +44,7 @@ def trees(count, folder):
     calls = library()
     for cluster in CLUSTERS:
         for what, image in [
-            ("kinds", kinds(calls, folder, cluster)),
+            ("kinds", kinds(calls, folder, cluster, ASKED if cluster == 4096 else 16 * MEBIBYTE)),
             ("tree", tree(calls, folder, cluster)),
             ("gaps of 16 KiB", scattered(calls, folder, cluster, 16384, 500)),
             ("gaps of 4 KiB", scattered(calls, folder, cluster, 4096, 1500)),

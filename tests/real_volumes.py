@@ -17,6 +17,9 @@ NAMES = [
     "\U0001f600" * 127,
 ]
 
+# Of this size on mkntfs makes logs that are large enough for volumes on which scripts run.
+ASKED = 448 * MEBIBYTE
+
 
 def copied(folder, cluster):
     """Names of every kind, put in by ntfscp, with data of several sizes."""
@@ -32,7 +35,7 @@ def copied(folder, cluster):
 def tree(calls, folder, cluster):
     """Directories in directories, one of 1,500 names, files with many names (their records have attribute lists), and
     deleted names."""
-    image = blank(folder, f"tree-{cluster}", cluster, 16 * MEBIBYTE)
+    image = blank(folder, f"tree-{cluster}", cluster, ASKED if cluster == 4096 else 16 * MEBIBYTE)
     with Volume(calls, image) as volume:
         path = "/"
         for depth in range(12):
