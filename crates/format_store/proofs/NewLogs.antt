@@ -1,8 +1,8 @@
 -- The log of a new volume is a ring of blank pages.
-use Rattle.std.proofs.Common.{◌≡◌, ⊥, ℕ, ◌+◌, ◌-◌, ◌*◌, ◌/◌, ◌^◌, ◌<◌, ◌≤◌, true, List, length, take, drop, Option, Some, None, refl, sym, ap, ◌∙◌, subst, arith}
+use Rattle.std.proofs.Common.{◌≡◌, ℕ, ◌+◌, ◌-◌, ◌*◌, ◌/◌, ◌^◌, ◌<◌, ◌≤◌, true, List, length, take, drop, Option, Some, None, refl, sym, ap, ◌∙◌, subst, arith}
 use Rattle.std.proofs.Math.Path.{fun_ext}
 use Rattle.std.proofs.Math.Pow.{pow_mono}
-use Rattle.std.proofs.lemmas.Bool.{ltb-lt}
+use Rattle.std.proofs.lemmas.Bool.{ltb-true}
 use Rattle.disk_model.specs.declared.block.Body.{Body}
 use Rattle.disk_model.specs.declared.block.BlockKind.TheVariants.{Plain}
 use Rattle.disk_model.specs.Sectors.{sector_of}
@@ -23,7 +23,7 @@ use Rattle.image_open.specs.LogPlaces.{stream_place, place_of_log}
 use Rattle.volume_format.specs.declared.layout.Layout.{Layout}
 use Rattle.volume_format.specs.Layouts.{IsLayout, layout_of, used_clusters}
 use Rattle.volume_format.specs.Files.{system_data, record_of}
-use Rattle.volume_format.specs.Images.{formatted}
+use Rattle.volume_format.specs.Images.{formatted, log_bytes as new_bytes}
 use Rattle.format_blocks.specs.Blocks.{block, HasBlocks}
 use Rattle.format_blocks.specs.Regions.{CanFormat}
 use Rattle.format_blocks.proofs.Sizing.{length-log}
@@ -41,8 +41,8 @@ use Rattle.store_model.specs.Geometry.{SectorBytes}
 use Rattle.txn_core.specs.Openings.{IsBefore, OpensOn, LogsOpen}
 use Rattle.format_store.specs.Openings.{new_log, NewLogsOpen}
 
-absurd_none : {X : Type 0} {x : X} → None ≡ Some x → ⊥
-absurd_none e = absurd e
+absurd_none : {X Y : Type 0} {x : X} → None ≡ Some x → Y
+absurd_none e = absurd cc
 
 -- ---- the place
 
@@ -68,9 +68,9 @@ module _ (clusters device pages : ℕ) (room : 416 + 8 * pages ≤ device) (some
         small = omega (arith, count);
         pages = λ n lt. (416 + 8 * n, page_at n (omega (arith, count, lt)));
         apart = λ i j s less low a b.
-          let first = sym (place_sector clusters device pages room some few i (omega (arith, count, less, low))) ∙ a in
-          let second = sym (place_sector clusters device pages room some few j (omega (arith, count, low))) ∙ b in
-          grind (arith, first, second, less);
+            let first = sym (place_sector clusters device pages room some few i (omega (arith, count, less, low))) ∙ a in
+            let second = sym (place_sector clusters device pages room some few j (omega (arith, count, low))) ∙ b in
+            grind (arith, first, second, less);
       }
 
   -- ---- its pages
@@ -102,7 +102,7 @@ module _ (clusters device pages : ℕ) (room : 416 + 8 * pages ≤ device) (some
 
 lap_room : (clusters device pages : ℕ) → 512 ≤ pages → pages ≤ 2048 → 1 < 2 ^ sequence_bits (new_place clusters device pages).pages
 lap_room clusters device pages some few =
-    let left : 1 + 2 ^ 16 < 2 ^ sequence_bits pages = ltb-lt (1 + 2 ^ 16) (2 ^ sequence_bits pages) (lap_left pages (omega arith) few) in
+    let left : 1 + 2 ^ 16 < 2 ^ sequence_bits pages = ltb-true (1 + 2 ^ 16) (2 ^ sequence_bits pages) (lap_left pages (omega arith) few) in
     subst (λ (n : ℕ). 1 < 2 ^ sequence_bits n) (sym (pages_are clusters device pages)) (omega (arith, left))
 
 -- ---- a new volume
@@ -129,7 +129,7 @@ module _ (old : List (List ℕ)) (seed time : ℕ) (can : CanFormat old seed tim
   cluster_room = let within = layout.inside in omega (arith, within)
 
   filled : (s : ℕ) → s < 8 * v.log_pages → (content_of (sector_of (formatted old seed time)) (block (416 + s) Plain)).bytes ≡ filler 512
-  unfolding filler
+  unfolding new_bytes sector_in filler
   filled s inside = ap (λ (b : Body). b.bytes) ((blocks_read old seed time can).log s (omega (arith, length-log v))) ∙ filler_part (512 * s) 512 (4096 * v.log_pages) (omega arith)
 
   opened : LogsOpen → (restart opens : ℕ) (disk : Disk) → ((s : ℕ) → seen disk s ≡ sector_of (formatted old seed time) s) → IsSized disk → IsSettled disk → restart ≤ 1
@@ -139,7 +139,7 @@ module _ (old : List (List ℕ)) (seed time : ℕ) (can : CanFormat old seed tim
       let shown = sym (fun_ext shows) in
       let is_before = before v.clusters (length old) v.log_pages device_room layout.log_some layout.log_small cluster_room (seen disk) (subst (λ (at : SectorBytes). (s : ℕ) → s < 8 * v.log_pages → (content_of at (block (416 + s) Plain)).bytes ≡ filler 512) shown filled) restart least in
       subst (λ (p : LogPlace). IsRingPlace p × OpensOn p 1 restart opens disk) (sym place_here)
-          (ring, opens_at (new_place v.clusters (length old) v.log_pages) 1 restart opens disk ring (omega arith) (lap_room v.clusters (length old) v.log_pages layout.log_some layout.log_small) least sized settled is_before)
+      (ring, opens_at (new_place v.clusters (length old) v.log_pages) 1 restart opens disk ring (omega arith) (lap_room v.clusters (length old) v.log_pages layout.log_some layout.log_small) least sized settled is_before)
 
 pub all_open : LogsOpen → NewLogsOpen
 all_open opens_at = λ old seed time restart opens disk can shows sized settled least. opened old seed time can opens_at restart opens disk shows sized settled least
