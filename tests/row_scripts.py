@@ -80,7 +80,7 @@ def other_clusters_are_refused_in_their_place():
         (0x0C, 4, "2 Geometry 11 1024"),
     ]:
         yield run(changed(TINY, (at, bytes([byte]))), SCRIPT, 3, f"refused {line}\n")
-    yield run(changed(ASKED, (0x28, b"\0")), SCRIPT, 3, "refused 2 Geometry 40 0\n")
+    yield run(changed(ASKED, (0x28, bytes(2))), SCRIPT, 3, "refused 2 Geometry 40 0\n")
     yield run(TINY[:300], SCRIPT, 3, "refused 4 Short 1 0\n")
 
 

@@ -138,7 +138,7 @@ def faults_of_journals():
 def faults_of_lines():
     for line in ("13 X", "6 BadRecord 70", "6 BadRecord 70 11", "6 BadRecord x 10", "6 BadVolume 70 10", "7", "7 MftList 1"):
         yield f"status 0\nrefused {line}\n".encode(), 2, f"refused {line}"
-    for line in ("script", "script line 3", "script line 3 rule 8", "script bytes 3", "status", "status 1", "status 3 4", "", "0 1 5 5 $MFT"):
+    for line in ("script", "script line 3", "script line 3 rule 10", "script bytes 3", "status", "status 1", "status 3 4", "", "0 1 5 5 $MFT"):
         yield f"status 0\n{line}\n".encode(), 2, line
     yield b"status 0\nstatus 3", 2, "cut off"
 
