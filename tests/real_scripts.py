@@ -42,7 +42,7 @@ def log_of(image):
     """How many pages the log has by istat, how many of them are initialised, and how many a session that writes needs by the volume's clusters of eight
     sectors."""
     text = subprocess.run(["istat", image, "2"], capture_output=True).stdout.decode()
-    size, initialised = map(int, re.search(r"\$DATA .*Non-Resident +size: (\d+) +init_size: (\d+)", text).groups())
+    size, initialised = map(int, re.search(r"\(128-\d+\).*Non-Resident +size: (\d+) +init_size: (\d+)", text).groups())
     with open(image, "rb") as file:
         clusters = struct.unpack_from("<Q", file.read(512), 0x28)[0] // 8
     sectors = -(-clusters // 4096)
