@@ -153,7 +153,7 @@ module _ {D : Type 0} (gives : D → Option (List (List ℕ))) (changes : D → 
 named_page : (f : StoreFacts) → f.noted ≡ Some f.log.sealed → unwrap_or f.noted 0 ≡ f.log.sealed
 named_page f noted = ap (λ (o : Option ℕ). unwrap_or o 0) noted
 
-module _ {D : Type 0} (gives : D → Option (List (List ℕ))) (changes : D → Changes) (moment : D → ℕ) (f : StoreFacts) (old new : D) (noted : f.noted ≡ Some f.log.sealed) (unsent : f.log.sent ≡ None) (ends : EndsBy gives changes moment true f old new) where
+module _ {D : Type 0} (gives : D → Option (List (List ℕ))) (changes : D → Changes) (moment : D → ℕ) (f : StoreFacts) (old new : D) (noted : f.noted ≡ Some f.log.sealed) (unsent : f.log.sent ≡ None) (ends : EndsBy gives changes moment f old new) where
   sends : SendsNaming gives changes moment f.log f.log.sealed true ends.word (Ok tt) old ends.mid
   sends = subst (λ (n : ℕ). SendsNaming gives changes moment f.log n true ends.word (Ok tt) old ends.mid) (named_page f noted) ends.sends
 
@@ -176,7 +176,7 @@ leaves_behind count moment changes base old mid device goes leaves w has image l
 
 module _ {D : Type 0} (gives : D → Option (List (List ℕ))) (count moment : D → ℕ) (changes : D → Changes) (old mid new : Seen D) (d : IsDrained (facts_of mid.state)) (noted : (facts_of mid.state).noted ≡ Some (facts_of mid.state).log.sealed)
     (unsent : mid.state.log.sent ≡ None) where
-  pub then_ends_clean : (result : Result (Unit {0}) CloseFault) → OnOk result (EndsBy gives changes moment true (facts_of mid.state) mid.device new.device)
+  pub then_ends_clean : (result : Result (Unit {0}) CloseFault) → OnOk result (EndsBy gives changes moment (facts_of mid.state) mid.device new.device)
       → OnOk result (facts_of new.state ≡ synced_facts (named_facts (unwrap_or mid.state.noted 0) (facts_of mid.state))) → OnOk result (EndsClean gives changes moment new)
   then_ends_clean (Ok tt) ends is = record {
     log = mid.state.log;
@@ -189,7 +189,7 @@ module _ {D : Type 0} (gives : D → Option (List (List ℕ))) (count moment : D
   }
   then_ends_clean (Err e) ends is = tt
 
-  pub then_leaves_clean : (base : StoreFacts) (result : Result (Unit {0}) CloseFault) → SeesDisk (gives mid.device) (changes mid.device).disk → Goes count moment changes base old mid → OnOk result (EndsBy gives changes moment true (facts_of mid.state) mid.device new.device)
+  pub then_leaves_clean : (base : StoreFacts) (result : Result (Unit {0}) CloseFault) → SeesDisk (gives mid.device) (changes mid.device).disk → Goes count moment changes base old mid → OnOk result (EndsBy gives changes moment (facts_of mid.state) mid.device new.device)
       → OnOk result (HasNext mid.state.log) → OnOk result (LeavesClean count changes old new.device)
   then_leaves_clean base (Ok tt) sees goes ends next =
       leaves_behind count moment changes base old mid new.device goes (λ w has image left. clean_leaves gives changes moment (facts_of mid.state) mid.device new.device noted unsent ends d next sees w has (count new.device) image left)

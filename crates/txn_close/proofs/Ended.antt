@@ -1,6 +1,6 @@
 -- A checkpoint of a drained store begins and ends.
 use Rattle.std.proofs.Common.{◌≡◌, subst, ℕ, ◌+◌, ◌-◌, ◌*◌, ◌/◌, ◌%◌, ◌^◌, ◌<◌, ◌≤◌, Bool, true, false, cond, Option, Some, None, Result, Ok, Err, refl, sym, ap, ap₂, ◌∙◌, arith}
-use Rattle.std.specs.Prelude.{IfSome, OnOk, IsSome, unwrap_or, slice_index, ◌&&◌, ◌||◌, ◌==◌}
+use Rattle.std.specs.Prelude.{IfSome, IfErr, OnOk, IsSome, unwrap_or, slice_index, ◌&&◌, ◌||◌, ◌==◌}
 use Rattle.std.proofs.lemmas.Bool.Decides.{nat_tests}
 use Rattle.std.proofs.lemmas.Nat.{div-add-mod'}
 use Rattle.log_page.specs.declared.places.LogPlace.{LogPlace}
@@ -12,7 +12,8 @@ use Rattle.txn_model.specs.Values.{StoreFacts}
 use Rattle.txn_model.specs.Calls.{given_up_facts, sealed_facts, front_lsn, named_facts, noted_facts, synced_facts, synced_mark, noted_mark}
 use Rattle.txn_core.specs.Turns.{HasNext, MayRestart}
 use Rattle.txn_close.specs.declared.fault.CloseFault.{CloseFault}
-use Rattle.txn_close.specs.Rests.{IsPlain, IsDrained, IsAtRest, stopped_facts}
+use Rattle.txn_close.specs.declared.fault.CloseFault.TheVariants.{Fault, Unmarked}
+use Rattle.txn_close.specs.Rests.{IsPlain, IsDrained, IsAtRest, IsUnmarked, stopped_facts}
 
 -- ---- the number of the page that an LSN says
 
@@ -169,3 +170,14 @@ empty_by a false is = is
 
 pub sealed_empty : (f g : StoreFacts) → g ≡ sealed_facts (stopped_facts f) → is_filling g.log ≡ false
 sealed_empty f g is = ap (λ (h : StoreFacts). is_filling h.log) is ∙ empty_by (stopped_facts f).log (is_filling (stopped_facts f).log) refl
+
+-- ---- by the answer alone
+
+pub at_ok : {A : Type 0} (result : Result (Unit {0}) CloseFault) → A → OnOk result A
+at_ok (Ok tt) is = is
+at_ok (Err e) is = tt
+
+-- a failure of the device isn't want of a restart page
+pub never_unmarked : (result : Result (Unit {0}) CloseFault) (f : StoreFacts) → IfErr result (λ e. e ≡ Fault) → IfErr result (λ e. e ≡ Unmarked → IsUnmarked f)
+never_unmarked (Ok tt) f is = tt
+never_unmarked (Err e) f is = λ un. absurd (let both = sym is ∙ un in cc)

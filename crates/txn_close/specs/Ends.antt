@@ -1,5 +1,5 @@
 -- How a checkpoint ends by a restart page, and what the last one leaves of the log.
-use Rattle.std.specs.Prelude.{◌≡◌, ℕ, Bool, true, List, [], Option, Some, None, Result, Ok, unwrap_or, IfErr, OnOk}
+use Rattle.std.specs.Prelude.{◌≡◌, ℕ, true, List, [], Option, Some, None, Result, Ok, unwrap_or, IfErr, OnOk}
 use Rattle.host_base.specs.declared.outside.Failed.{Failed}
 use Rattle.host_base.specs.Answers.{Cause, refused, failed}
 use Rattle.disk_model.specs.declared.block.Block.{Block}
@@ -36,11 +36,11 @@ close_cause Unmarked = refused tt
 abbrev pub written_ok : Unit {0} → Result (Unit {0}) Failed
 written_ok u = Ok u
 
--- the restart page that names the noted page was written, and the device was synced
-pub record EndsBy {D : Type 0} (gives : D → Option (List (List ℕ))) (changes : D → Changes) (moment : D → ℕ) (clean : Bool) (f : StoreFacts) (old new : D) : Type 0 where
+-- the restart page that says that the log is closed, and names the noted page, was written, and the device was synced
+pub record EndsBy {D : Type 0} (gives : D → Option (List (List ℕ))) (changes : D → Changes) (moment : D → ℕ) (f : StoreFacts) (old new : D) : Type 0 where
   pub mid : D
   pub word : ℕ
-  pub sends : SendsNaming gives changes moment f.log (unwrap_or f.noted 0) clean word (Ok tt) old mid
+  pub sends : SendsNaming gives changes moment f.log (unwrap_or f.noted 0) true word (Ok tt) old mid
   pub syncs : SyncsNow changes moment (Ok tt) mid new
 
 -- The last calls of the device: from a log with these fields, of which each page is sealed, a restart page was written that says that the log is closed and names the
@@ -65,6 +65,16 @@ pub record IsLeftClean (place : LogPlace) (image : SectorBytes) : Type 0 where
 abbrev pub LeavesClean : {D : Type 0} → (D → ℕ) → (D → Changes) → Seen D → D → Type 0
 LeavesClean count changes old device =
     (w : ContentWindow) → HasWindow (changes old.device) (facts_of old.state) w → (image : List (List ℕ)) → MayLeaveNow (count device) (changes device) image → IsLeftClean (facts_of old.state).place (sector_of image)
+
+-- The log of a drained store was marked clean, which gave the device back: this was the store just before.
+pub record MarksClean {D : Type 0} (gives : D → Option (List (List ℕ))) (count moment : D → ℕ) (changes : D → Changes) (store : Seen D) (result : Result (Unit {0}) CloseFault) (device : D) : Type 0 where
+  pub last : Seen D
+  pub gave : last.device ≡ device
+  pub rests : OnOk result (IsAtRest (facts_of last.state))
+  pub clean : OnOk result (EndsClean gives changes moment last)
+  pub leaves : OnOk result (LeavesClean count changes store last.device)
+  pub unmarked : IfErr result (λ fault. fault ≡ Unmarked → IsUnmarked (facts_of last.state))
+  pub goes : Goes count moment changes (facts_of store.state) store last
 
 -- The image is of a clean log, and recovery of it, by no entries, leaves each known block that was spared as it is after all commits of this window.
 pub record IsLeftWhole (base f : StoreFacts) (w : ContentWindow) (image : SectorBytes) : Type 0 where

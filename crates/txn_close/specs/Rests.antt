@@ -1,22 +1,23 @@
 -- What a store is once nothing is left to write.
-use Rattle.std.specs.Prelude.{◌≡◌, ◌^◌, ◌<◌, ◌≤◌, false, if◌then◌else◌, Option, Some, None, IfSome}
+use Rattle.std.specs.Prelude.{◌≡◌, ◌^◌, ◌<◌, ◌≤◌, Bool, true, false, if◌then◌else◌, Option, Some, None, IfSome}
 use Rattle.disk_model.specs.declared.block.Block.{Block}
 use Rattle.log_area.specs.Areas.{is_filling, used_pages}
 use Rattle.flush_policy.specs.declared.facts.StoreStep.{StoreStep}
-use Rattle.flush_policy.specs.declared.facts.StoreStep.TheVariants.{SealPage, WritePage, SyncDevice, WriteOut, BeginCheckpoint, WriteRestart}
+use Rattle.flush_policy.specs.declared.facts.StoreStep.TheVariants.{BeginCheckpoint, WriteRestart}
 use Rattle.txn_model.specs.declared.mark.Mark.{Mark}
 use Rattle.txn_model.specs.Values.{StoreFacts}
 use Rattle.txn_model.specs.Calls.{given_up_facts}
 use Rattle.txn_core.specs.Turns.{HasNext}
 
--- a step that neither begins nor ends a checkpoint
+-- the step neither begins nor ends a checkpoint
+abbrev pub drains : StoreStep → Bool
+drains BeginCheckpoint = false
+drains WriteRestart = false
+drains step = true
+
+-- that step, if it drains
 abbrev pub draining : Option StoreStep → Option StoreStep
-draining (Some SealPage) = Some SealPage
-draining (Some WritePage) = Some WritePage
-draining (Some SyncDevice) = Some SyncDevice
-draining (Some (WriteOut b)) = Some (WriteOut b)
-draining (Some BeginCheckpoint) = None
-draining (Some WriteRestart) = None
+draining (Some step) = if drains step then Some step else None
 draining None = None
 
 -- The block is as it stands on the disk, durable, and no checkpoint waits for it.

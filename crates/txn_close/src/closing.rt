@@ -1,15 +1,15 @@
 //! A store is closed.
-ghost use Rattle.std.specs.Prelude.{◌≡◌, OnOk, IfErr};
+ghost use Rattle.std.specs.Prelude.{◌≡◌, OnOk, IfErr, None};
 ghost use Rattle.device_view.specs.Devices.{CountsOnDevice};
 ghost use Rattle.txn_model.specs.Calls.{sealed_facts};
 ghost use Rattle.txn_state.specs.States.{facts_of};
 ghost use Rattle.txn_close.specs.declared.fault.CloseFault.TheVariants.{Unmarked};
-ghost use Rattle.txn_close.specs.Rests.{stopped_facts, IsAtRest, IsUnmarked};
+ghost use Rattle.txn_close.specs.Rests.{stopped_facts, IsDrained, IsUnmarked};
 ghost use Rattle.txn_close.specs.Passing.{Goes};
-ghost use Rattle.txn_close.specs.Ends.{close_cause, EndsClean, LeavesWhole, Closes};
+ghost use Rattle.txn_close.specs.Ends.{close_cause, Closes};
 
 use crate::draining::drain;
-use crate::ending::end_clean;
+use crate::ending::{end_begun, mark_clean};
 use crate::fault::CloseFault;
 use sector_device::Device;
 use txn_core::Store;
@@ -36,19 +36,18 @@ fn stop<D: Device>(store: &mut Store<D>)
     store.seal();
 }
 
-// Ends what a store does: gives up the transaction that is open, writes out all that it holds, and
-// marks its log clean by a last checkpoint; one that has begun ends first.
+// Ends what a store does, but for its last checkpoint: gives up the transaction that is open, and
+// writes out all that it holds; a checkpoint that has begun ends.
 fn end_session<D: Device>(store: &mut Store<D>) -> Result<(), CloseFault>
-    ensures rests { OnOk result (IsAtRest (facts_of store.new.state)) }
-    ensures clean { OnOk result (EndsClean D.gives D.changes_of D.moment_of store.new) }
-    ensures leaves { OnOk result (LeavesWhole D.sector_count D.changes_of (stopped_facts (facts_of store.old.state)) store.old store.new.device) }
+    ensures drained { OnOk result (IsDrained (facts_of store.new.state)) }
+    ensures ended { OnOk result (store.new.state.noted ≡ None) }
     ensures unmarked { IfErr result (λ fault. fault ≡ Unmarked → IsUnmarked (facts_of store.new.state)) }
     ensures cause { CountsOnDevice close_cause (D.fault_count store.old.device) (D.fault_count store.new.device) (D.moment_of store.new.device) result }
     ensures goes { Goes D.sector_count D.moment_of D.changes_of (stopped_facts (facts_of store.old.state)) store.old store.new }
 {
     stop(store);
     drain(store)?;
-    end_clean(store)
+    end_begun(store)
 }
 
 /// Closes a store, and gives its device back: the transaction that is open is given up, all that
@@ -67,6 +66,8 @@ pub fn close<D: Device>(store: Store<D>) -> (Result<(), CloseFault>, D)
     ensures cause { CountsOnDevice close_cause (D.fault_count store.device) (D.fault_count result.1) (D.moment_of result.1) result.0 }
 {
     let mut store = store;
-    let result = end_session(&mut store);
-    (result, store.into_device())
+    match end_session(&mut store) {
+        Ok(()) => mark_clean(store),
+        Err(fault) => (Err(fault), store.into_device()),
+    }
 }

@@ -4,7 +4,7 @@ ghost use Rattle.host_base.specs.Causes.{FailsByCause};
 ghost use Rattle.flush_policy.specs.Choice.{next_step};
 ghost use Rattle.log_area.specs.Areas.{is_filling};
 ghost use Rattle.txn_state.specs.States.{facts_of};
-ghost use Rattle.txn_close.specs.Rests.{draining, IsDrained};
+ghost use Rattle.txn_close.specs.Rests.{drains, draining, IsDrained};
 ghost use Rattle.txn_close.specs.Passing.{Goes};
 
 use flush_policy::{Facts, StoreStep, next_step};
@@ -12,18 +12,27 @@ use host_base::Failed;
 use sector_device::Device;
 use txn_core::Store;
 
+// Whether a step neither begins nor ends a checkpoint.
+fn drains(step: StoreStep) -> bool
+    ensures { result ≡ drains step }
+{
+    match step {
+        StoreStep::SealPage => true,
+        StoreStep::WritePage => true,
+        StoreStep::SyncDevice => true,
+        StoreStep::WriteOut(_) => true,
+        StoreStep::BeginCheckpoint => false,
+        StoreStep::WriteRestart => false,
+    }
+}
+
 // The step that comes next, unless it begins or ends a checkpoint.
 fn draining_step(facts: &Facts) -> Option<StoreStep>
     ensures { result ≡ draining (next_step facts.now) }
 {
     match next_step(facts) {
-        Some(StoreStep::BeginCheckpoint) => None,
-        Some(StoreStep::WriteRestart) => None,
-        Some(StoreStep::SealPage) => Some(StoreStep::SealPage),
-        Some(StoreStep::WritePage) => Some(StoreStep::WritePage),
-        Some(StoreStep::SyncDevice) => Some(StoreStep::SyncDevice),
-        Some(StoreStep::WriteOut(block)) => Some(StoreStep::WriteOut(block)),
-        None => None,
+        Some(step) if drains(step) => Some(step),
+        _ => None,
     }
 }
 

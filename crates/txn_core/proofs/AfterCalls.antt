@@ -19,11 +19,11 @@ use Rattle.txn_core.specs.declared.telling.Telling.{Telling}
 use Rattle.txn_core.specs.Calls.{page_facts, sync_facts, out_facts}
 use Rattle.txn_core.specs.Changes.{MayChangeNow, IsDone}
 use Rattle.txn_core.specs.Kept.{IsKept}
-use Rattle.txn_core.specs.Tells.{TellsLeft, IsLowest, StaysLowest, IsTold}
+use Rattle.txn_core.specs.Tells.{TellsLeft, IsLowest, StaysLowest, TellsFront, IsTold}
 use Rattle.txn_core.specs.Turns.{restart_facts}
 use Rattle.txn_core.proofs.KeptLogs.{log_appends}
 use Rattle.txn_core.proofs.Kepts.{changed_kept, given_up_kept, written_kept, checked_kept, sent_kept, named_kept, synced_kept, written_out_kept, sent_out_kept, again_kept}
-use Rattle.txn_core.proofs.Tellings.{changed_told, given_up_told, written_told, checked_told, synced_told, WroteOut, asked_wrote, written_wrote, sent_wrote, again_wrote}
+use Rattle.txn_core.proofs.Tellings.{changed_told, given_up_told, written_told, checked_told, synced_front, synced_told, WroteOut, asked_wrote, written_wrote, sent_wrote, again_wrote}
 
 pub told_at : (f g : StoreFacts) (t : Telling) → f ≡ g → IsTold g t → IsTold f t
 told_at f g t same told = subst (λ (h : StoreFacts). IsTold h t) (sym same) told
@@ -47,6 +47,10 @@ pub sync_told : (result : Result (Unit {0}) Failed) (ok : Bool) (f g : StoreFact
 sync_told (Ok tt) ok f g t now is facts dry left lowest front failed k =
     synced_told f t now (dry is) (subst (λ (h : StoreFacts). TellsLeft h.mark now.left) facts (left is)) (subst (λ (h : StoreFacts). IsLowest (is_ready h) now.ready) facts (lowest is)) front k
 sync_told (Err e) ok f g t now is facts dry left lowest front failed k = subst (λ (x : Telling). IsTold f x) (sym (failed is)) k
+
+pub sync_front : (result : Result (Unit {0}) Failed) (f : StoreFacts) (front : ℕ) → TellsFront f.log f.noted front → TellsFront (sync_facts result f).log (sync_facts result f).noted front
+sync_front (Ok tt) f front k = synced_front f front k
+sync_front (Err e) f front k = k
 
 -- ---- restart pages
 

@@ -25,10 +25,10 @@ use Rattle.txn_laws.proofs.Noting.{notes}
 use Rattle.txn_laws.proofs.Naming.{names_page, fails_to_name}
 use Rattle.txn_core.specs.declared.telling.Telling.{Telling}
 use Rattle.txn_core.specs.Kept.{IsKept}
-use Rattle.txn_core.specs.Tells.{IsTold}
+use Rattle.txn_core.specs.Tells.{TellsFront, LeavesOpen, IsTold}
 use Rattle.txn_core.specs.Turns.{MayRestart, restart_page, restart_facts}
 use Rattle.txn_core.proofs.Calling.{asked_step}
-use Rattle.txn_core.proofs.Tellings.{named_told, sent_told}
+use Rattle.txn_core.proofs.Tellings.{named_front, sent_front}
 
 pub note_step : (count moment : ℕ) (changes : Changes) (f : StoreFacts) → f.is_open ≡ false → f.noted ≡ None → Simulates count moment changes changes f (noted_facts f) AfterWrite
 note_step count moment changes f closed none = in_memory count moment changes f _ _ refl refl (λ disk m is h. notes f disk m closed none h)
@@ -125,25 +125,25 @@ module _ (f : StoreFacts) (kept : IsKept f) (store : IsStore f) (may : MayRestar
       by_fit true = omega arith
       by_fit false = omega arith
 
-  module _ (t : Telling) (told : IsTold f t) where
-    pub front_is : t.front ≡ lsn
-    front_is = (subst (λ (o : Option ℕ). IfSome o (λ n. lap_at f.log n < 2 ^ sequence_bits f.log.pages → t.front ≡ front_lsn f.log n)) noted_is told.front.page) own_lap
+  module _ (front : ℕ) (told : TellsFront f.log f.noted front) where
+    pub front_is : front ≡ lsn
+    front_is = (subst (λ (o : Option ℕ). IfSome o (λ n. lap_at f.log n < 2 ^ sequence_bits f.log.pages → front ≡ front_lsn f.log n)) noted_is told.page) own_lap
 
-    sent_names : (o : Option SentRestart) → IfSome o (λ x. (is_some f.noted ≡ true) × (x.page.oldest ≡ t.front)) → IfSome o (λ x. x.page.oldest ≡ lsn)
+    sent_names : (o : Option SentRestart) → IfSome o (λ x. (is_some f.noted ≡ true) × (x.page.oldest ≡ front)) → IfSome o (λ x. x.page.oldest ≡ lsn)
     sent_names (Some x) is = is.1 ∙ front_is
     sent_names None is = tt
 
     pub may_end : MayEndCheckpoint f named
-    may_end = record { may = may.0.1; again = sent_names f.log.sent told.front.sent; lap = may.1.lap; opens = may.1.opens }
+    may_end = record { may = may.0.1; again = sent_names f.log.sent told.sent; lap = may.1.lap; opens = may.1.opens }
 
-    pub may_send : (flag : Bool) → IfSome f.log.sent (λ x. x.page.clean ≡ flag) → IfSome f.log.sent (λ x. (x.page.oldest ≡ t.front) × (x.page.clean ≡ flag))
-    may_send flag flags = by_sent f.log.sent told.front.sent flags
+    pub may_send : (flag : Bool) → IfSome f.log.sent (λ x. x.page.clean ≡ flag) → IfSome f.log.sent (λ x. (x.page.oldest ≡ front) × (x.page.clean ≡ flag))
+    may_send flag flags = by_sent f.log.sent told.sent flags
       where
-        by_sent : (o : Option SentRestart) → IfSome o (λ x. (is_some f.noted ≡ true) × (x.page.oldest ≡ t.front)) → IfSome o (λ x. x.page.clean ≡ flag) → IfSome o (λ x. (x.page.oldest ≡ t.front) × (x.page.clean ≡ flag))
+        by_sent : (o : Option SentRestart) → IfSome o (λ x. (is_some f.noted ≡ true) × (x.page.oldest ≡ front)) → IfSome o (λ x. x.page.clean ≡ flag) → IfSome o (λ x. (x.page.oldest ≡ front) × (x.page.clean ≡ flag))
         by_sent (Some x) one two = (one.1, two)
         by_sent None one two = tt
 
-    pub front_named : IsOldest f.log t.front
+    pub front_named : IsOldest f.log front
     front_named = subst (λ (n : ℕ). IsOldest f.log n) (sym front_is) front_oldest
 
 -- ---- what is sent
@@ -208,10 +208,40 @@ page_names a oldest clean again = by_sent a.sent refl
     by_sent (Some x) is = ap (λ (o : Option SentRestart). (page_to_send (record a { sent = o }) oldest clean).oldest) is ∙ subst (λ (o : Option SentRestart). IfSome o (λ y. y.page.oldest ≡ oldest)) is again
     by_sent None is = ap (λ (o : Option SentRestart). (page_to_send (record a { sent = o }) oldest clean).oldest) is
 
-pub restart_told : (f : StoreFacts) (page : ℕ) (clean : Bool) (result : Result (Unit {0}) Failed) (now : Option SentRestart) (t : Telling) → MayEndCheckpoint f page → unwrap_or f.noted 0 ≡ page → t.front ≡ front_lsn f.log page
-    → OnErr result (IfSome now (λ x. x.page ≡ restart_page clean f)) → IsTold f t → IsTold (restart_facts result now f) t
-restart_told f page clean (Ok tt) now t may is front made told = named_told f (front_lsn f.log (unwrap_or f.noted 0)) t told
-restart_told f page clean (Err e) now t may is front made told =
-    sent_told f now t may.may.unnamed
-    (told_page f.log.sent now (restart_page clean f) (is_some f.noted) t.front (ap (λ (o : Option ℕ). is_some o) may.may.noted)
-    (ap (λ (n : ℕ). (page_to_send f.log (front_lsn f.log n) clean).oldest) is ∙ page_names f.log (front_lsn f.log page) clean may.again ∙ sym front) made) told
+pub restart_front : (f : StoreFacts) (page : ℕ) (clean : Bool) (result : Result (Unit {0}) Failed) (now : Option SentRestart) (front : ℕ) → MayEndCheckpoint f page → unwrap_or f.noted 0 ≡ page → front ≡ front_lsn f.log page
+    → OnErr result (IfSome now (λ x. x.page ≡ restart_page clean f)) → TellsFront f.log f.noted front → TellsFront (restart_facts result now f).log (restart_facts result now f).noted front
+restart_front f page clean (Ok tt) now front may is names made told = named_front f (front_lsn f.log (unwrap_or f.noted 0)) front told
+restart_front f page clean (Err e) now front may is names made told =
+    sent_front f now front may.may.unnamed
+    (told_page f.log.sent now (restart_page clean f) (is_some f.noted) front (ap (λ (o : Option ℕ). is_some o) may.may.noted)
+    (ap (λ (n : ℕ). (page_to_send f.log (front_lsn f.log n) clean).oldest) is ∙ page_names f.log (front_lsn f.log page) clean may.again ∙ sym names) made) told
+
+-- a page without the flag goes out where none was sent with it
+pub restart_open : (f : StoreFacts) → LeavesOpen f.log → (restart_page false f).clean ≡ false
+restart_open f is = by_sent f.log.sent refl
+  where
+    front : ℕ
+    front = front_lsn f.log (unwrap_or f.noted 0)
+
+    by_sent : (o : Option SentRestart) → f.log.sent ≡ o → (page_to_send f.log front false).clean ≡ false
+    by_sent (Some x) same = ap (λ (o : Option SentRestart). (page_to_send (record f.log { sent = o }) front false).clean) same ∙ subst (λ (o : Option SentRestart). IfSome o (λ y. y.page.clean ≡ false)) same is
+    by_sent None same = ap (λ (o : Option SentRestart). (page_to_send (record f.log { sent = o }) front false).clean) same
+
+sent_open : (page : Restart) (now : Option SentRestart) → page.clean ≡ false → IfSome now (λ x. x.page ≡ page) → IfSome now (λ x. x.page.clean ≡ false)
+sent_open page (Some x) is made = ap (λ (p : Restart). p.clean) made ∙ is
+sent_open page None is made = tt
+
+leaves_open : (f : StoreFacts) (result : Result (Unit {0}) Failed) (now : Option SentRestart) → LeavesOpen f.log → OnErr result (IfSome now (λ x. x.page ≡ restart_page false f)) → LeavesOpen (restart_facts result now f).log
+leaves_open f (Ok tt) now is made = tt
+leaves_open f (Err e) now is made = sent_open (restart_page false f) now (restart_open f is) made
+
+-- the blocks stay as they are
+restart_blocks : (f : StoreFacts) (result : Result (Unit {0}) Failed) (now : Option SentRestart) (t : Telling) → IsTold f t → TellsFront (restart_facts result now f).log (restart_facts result now f).noted t.front → LeavesOpen (restart_facts result now f).log → IsTold (restart_facts result now f) t
+restart_blocks f (Ok tt) now t told front unmarked = record { wet = told.wet; left = told.left; ready = told.ready; front = front; unmarked = unmarked }
+restart_blocks f (Err e) now t told front unmarked = record { wet = told.wet; left = told.left; ready = told.ready; front = front; unmarked = unmarked }
+
+pub restart_told : (f g : StoreFacts) (result : Result (Unit {0}) Failed) (now : Option SentRestart) (t : Telling) → g ≡ restart_facts result now f → TellsFront g.log g.noted t.front
+    → OnErr result (IfSome now (λ x. x.page ≡ restart_page false f)) → IsTold f t → IsTold g t
+restart_told f g result now t is front made told =
+    subst (λ (h : StoreFacts). IsTold h t) (sym is)
+    (restart_blocks f result now t told (subst (λ (h : StoreFacts). TellsFront h.log h.noted t.front) is front) (leaves_open f result now told.unmarked made))

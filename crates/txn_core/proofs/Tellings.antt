@@ -21,7 +21,7 @@ use Rattle.txn_model.specs.Told.{is_left}
 use Rattle.txn_state.specs.States.{IsStore}
 use Rattle.txn_core.specs.declared.telling.Telling.{Telling}
 use Rattle.txn_core.specs.Kept.{IsKept, IsBegun}
-use Rattle.txn_core.specs.Tells.{TellsWet, TellsLeft, IsLowest, StaysLowest, TellsFront, IsTold}
+use Rattle.txn_core.specs.Tells.{TellsWet, TellsLeft, IsLowest, StaysLowest, TellsFront, LeavesOpen, IsTold}
 use Rattle.txn_core.proofs.KeptLogs.{Appends, seal_appends}
 
 -- ---- frames
@@ -53,6 +53,9 @@ front_same a b noted front pages lap sent named t = record {
 front_appends : (a b : LogAreaOf) (noted : Option ℕ) (front : ℕ) → Appends a b → TellsFront a noted front → TellsFront b noted front
 front_appends a b noted front on t = front_same a b noted front on.pages_same on.lap_same on.sent_same on.named_same t
 
+open_same : (a b : LogAreaOf) → b.sent ≡ a.sent → LeavesOpen a → LeavesOpen b
+open_same a b same is = subst (λ (o : Option SentRestart). IfSome o (λ x. x.page.clean ≡ false)) (sym same) is
+
 abbrev ready_of : Mark → Bool → ℕ → ℕ → Bool
 ready_of m changed durable synced = m.dirty && not changed && nat_le m.commit durable && nat_le m.until synced
 
@@ -68,12 +71,13 @@ first_told place log found new = record {
     sent = subst (λ (o : Option SentRestart). IfSome o (λ x. ◌≡◌ {A = Bool} false true × (x.page.oldest ≡ 0))) (sym new.sent) tt;
     apart = λ is. new.sent;
   };
+  unmarked = subst (λ (o : Option SentRestart). IfSome o (λ x. x.page.clean ≡ false)) (sym new.sent) tt;
 }
 
 -- ---- transactions
 
 pub begun_told : (f : StoreFacts) (t : Telling) → IsTold f t → IsTold (begun_facts f) t
-begun_told f t k = record { wet = k.wet; left = k.left; ready = k.ready; front = k.front }
+begun_told f t k = record { wet = k.wet; left = k.left; ready = k.ready; front = k.front; unmarked = k.unmarked }
 
 committed_wet : (m : Mark) (t : Bool) (n : ℕ) → (cond t (record m { commit = n }) m).wet ≡ m.wet
 committed_wet m true n = refl
@@ -99,6 +103,7 @@ committed_told f t kept on k = record {
   ready = lowest_same (is_ready f) (is_ready (committed_facts f)) t.ready
       (λ b. committed_ready (f.mark b) (is_some (f.before b)) (suc f.commits) f.durable f.log.synced (committed_facts f).log.synced (let le = kept.commits_are.few in omega (arith, le)) on.synced_same) k.ready;
   front = front_appends f.log (committed_facts f).log f.noted t.front on k.front;
+  unmarked = open_same f.log (committed_facts f).log on.sent_same k.unmarked;
 }
 
 given_up_wet : (m : Mark) (t : Bool) → (cond t (record m { dirty = true; dead = false; imaged = false }) m).wet ≡ m.wet
@@ -117,6 +122,7 @@ given_up_told f t now same lowest k =
       left = left_same f.mark (given_up_facts f).mark t.left (λ b. given_up_left (f.mark b) (is_some (f.before b))) k.left;
       ready = lowest;
       front = k.front;
+      unmarked = k.unmarked;
     })
 
 changed_wet : (m : Mark) (u r : Bool) (n : ℕ) → (cond u (changed_mark n m) (cond r (rival_mark n m) m)).wet ≡ m.wet
@@ -145,6 +151,7 @@ changed_told f c at new x t now on same lowest k =
       left = left_same f.mark g.mark t.left (λ b. changed_left (f.mark b) (same_block b c) (are_rivals c b) (suc g.log.sealed)) k.left;
       ready = lowest (is_ready f) k.ready (λ b is. changed_ready (f.mark b) (same_block b c) (are_rivals c b) (suc g.log.sealed) f.durable f.log.synced g.log.synced (f.before b) _ on.synced_same is);
       front = front_appends f.log g.log f.noted t.front on k.front;
+      unmarked = open_same f.log g.log on.sent_same k.unmarked;
     })
 
 -- ---- steps of the log
@@ -157,6 +164,7 @@ sealed_told f t kept k =
       left = k.left;
       ready = lowest_same (is_ready f) (is_ready (sealed_facts f)) t.ready (λ b. ap (λ (s : ℕ). ready_of (f.mark b) (is_some (f.before b)) f.durable s) on.synced_same) k.ready;
       front = front_appends f.log (sealed_area f.log) f.noted t.front on k.front;
+      unmarked = open_same f.log (sealed_area f.log) on.sent_same k.unmarked;
     }
 
 -- the place that is noted is that of the next entry
@@ -198,24 +206,20 @@ noted_told f t now kept none same left front k =
         sent = subst (λ (o : Option SentRestart). IfSome o (λ x. ◌≡◌ {A = Bool} true true × (x.page.oldest ≡ now.front))) (sym unsent) tt;
         apart = λ is. unsent;
       };
+      unmarked = open_same f.log a on.sent_same k.unmarked;
     })
 
 pub written_told : (f : StoreFacts) (t : Telling) → IsTold f t → IsTold (written_facts f) t
-written_told f t k = record { wet = k.wet; left = k.left; ready = k.ready; front = record { page = k.front.page; sent = k.front.sent; apart = k.front.apart } }
+written_told f t k = record { wet = k.wet; left = k.left; ready = k.ready; front = record { page = k.front.page; sent = k.front.sent; apart = k.front.apart }; unmarked = k.unmarked }
 
 pub checked_told : (f : StoreFacts) (check : Option ℕ) (t : Telling) → IsTold f t → IsTold (record f { log = record f.log { check = check } }) t
-checked_told f check t k = record { wet = k.wet; left = k.left; ready = k.ready; front = record { page = k.front.page; sent = k.front.sent; apart = k.front.apart } }
+checked_told f check t k = record { wet = k.wet; left = k.left; ready = k.ready; front = record { page = k.front.page; sent = k.front.sent; apart = k.front.apart }; unmarked = k.unmarked }
 
-pub named_told : (f : StoreFacts) (lsn : ℕ) (t : Telling) → IsTold f t → IsTold (record f { log = named_area lsn f.log }) t
-named_told f lsn t k = record { wet = k.wet; left = k.left; ready = k.ready; front = record { page = k.front.page; sent = tt; apart = λ is. refl } }
+pub named_front : (f : StoreFacts) (lsn front : ℕ) → TellsFront f.log f.noted front → TellsFront (named_area lsn f.log) f.noted front
+named_front f lsn front k = record { page = k.page; sent = tt; apart = λ is. refl }
 
-pub sent_told : (f : StoreFacts) (sent : Option SentRestart) (t : Telling) → f.log.named ≡ None → IfSome sent (λ x. (is_some f.noted ≡ true) × (x.page.oldest ≡ t.front)) → IsTold f t → IsTold (record f { log = record f.log { sent = sent } }) t
-sent_told f sent t unnamed names k = record {
-  wet = k.wet;
-  left = k.left;
-  ready = k.ready;
-  front = record { page = k.front.page; sent = names; apart = λ is. absurd (true≢false (sym is ∙ ap (λ (o : Option ℕ). is_some o) unnamed)) };
-}
+pub sent_front : (f : StoreFacts) (sent : Option SentRestart) (front : ℕ) → f.log.named ≡ None → IfSome sent (λ x. (is_some f.noted ≡ true) × (x.page.oldest ≡ front)) → TellsFront f.log f.noted front → TellsFront (record f.log { sent = sent }) f.noted front
+sent_front f sent front unnamed names k = record { page = k.page; sent = names; apart = λ is. absurd (true≢false (sym is ∙ ap (λ (o : Option ℕ). is_some o) unnamed)) }
 
 -- ---- a sync
 
@@ -230,13 +234,16 @@ synced_sent : (sent : Option SentRestart) (noted named : Option ℕ) (front : �
 synced_sent sent noted (Some n) front apart is = subst (λ (o : Option SentRestart). IfSome o (λ x. ◌≡◌ {A = Bool} false true × (x.page.oldest ≡ front))) (sym (apart refl)) tt
 synced_sent sent noted None front apart is = is
 
+pub synced_front : (f : StoreFacts) (front : ℕ) → TellsFront f.log f.noted front → TellsFront (synced_area f.log) (synced_facts f).noted front
+synced_front f front k = record { page = synced_page f.log f.noted f.log.named front k.page; sent = synced_sent f.log.sent f.noted f.log.named front k.apart k.sent; apart = λ is. absurd (true≢false (sym is)) }
+
 pub synced_told : (f : StoreFacts) (t now : Telling) → now.wrote ≡ false → TellsLeft (synced_facts f).mark now.left → IsLowest (is_ready (synced_facts f)) now.ready → now.front ≡ t.front → IsTold f t → IsTold (synced_facts f) now
 synced_told f t now dry left lowest front k = record {
   wet = record { dry = λ e b. refl; some = λ e. absurd (true≢false (sym e ∙ dry)) };
   left = left;
   ready = lowest;
-  front = subst (λ (n : ℕ). TellsFront (synced_area f.log) (synced_facts f).noted n) (sym front)
-      (record { page = synced_page f.log f.noted f.log.named t.front k.front.page; sent = synced_sent f.log.sent f.noted f.log.named t.front k.front.apart k.front.sent; apart = λ is. absurd (true≢false (sym is)) });
+  front = subst (λ (n : ℕ). TellsFront (synced_area f.log) (synced_facts f).noted n) (sym front) (synced_front f t.front k.front);
+  unmarked = k.unmarked;
 }
 
 -- ---- write-outs
@@ -285,6 +292,7 @@ out_told f g b anew t now log noted w is wrote again same lowest front k = recor
   left = left_after_out f g b anew t.left now.left is w again same k.left;
   ready = lowest (is_ready f) k.ready w.fewer;
   front = subst (λ (n : ℕ). TellsFront g.log g.noted n) (sym front) (subst (λ (a : LogAreaOf). TellsFront a g.noted t.front) (sym log) (subst (λ (o : Option ℕ). TellsFront f.log o t.front) (sym noted) k.front));
+  unmarked = subst LeavesOpen (sym log) k.unmarked;
 }
 
 -- nothing was sent

@@ -40,11 +40,16 @@ pub record TellsFront (a : LogAreaOf) (noted : Option ℕ) (front : ℕ) : Type 
   pub sent : IfSome a.sent (λ x. (is_some noted ≡ true) × (x.page.oldest ≡ front))
   pub apart : is_some a.named ≡ true → a.sent ≡ None
 
+-- no restart page was sent that says that the log is closed
+abbrev pub LeavesOpen : LogAreaOf → Type 0
+LeavesOpen a = IfSome a.sent (λ x. x.page.clean ≡ false)
+
 pub record IsTold (f : StoreFacts) (t : Telling) : Type 0 where
   pub wet : TellsWet f.mark t.wrote
   pub left : TellsLeft f.mark t.left
   pub ready : IsLowest (is_ready f) t.ready
   pub front : TellsFront f.log f.noted t.front
+  pub unmarked : LeavesOpen f.log
 
 -- what was written of the log is durable
 pub record IsAllDone (a : LogAreaOf) : Type 0 where

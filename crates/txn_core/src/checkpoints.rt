@@ -1,10 +1,14 @@
 //! Checkpoints begin and end.
-ghost use Rattle.std.specs.Prelude.{◌≡◌, None, OnErr, IfSome, false};
+ghost use Rattle.std.specs.Prelude.{◌≡◌, ◌≤◌, None, OnErr, IfSome, false, List};
+ghost use Rattle.disk_model.specs.declared.block.Block.{Block};
 ghost use Rattle.host_base.specs.Causes.{FailsByCause};
+ghost use Rattle.device_blocks.specs.declared.word.CheckWord.{CheckWord};
 ghost use Rattle.txn_model.specs.Calls.{noted_facts};
 ghost use Rattle.txn_state.specs.States.{facts_of};
-ghost use Rattle.txn_laws.specs.Windows.{AfterWrite};
-ghost use Rattle.txn_core.specs.Seen.{TakesStep};
+ghost use Rattle.txn_laws.specs.Windows.{Simulates, AfterWrite};
+ghost use Rattle.txn_core.specs.Kept.{IsKept};
+ghost use Rattle.txn_core.specs.Seen.{StandsOn, TakesStep};
+ghost use Rattle.txn_core.specs.Tells.{TellsFront};
 ghost use Rattle.txn_core.specs.Turns.{MayRestart, restart_page, restart_facts, SendsRestartPage};
 
 use crate::store::Store;
@@ -21,6 +25,33 @@ fn flag_of(state: &StoreState, clean: bool) -> bool
         Some(sent) => sent.page.clean,
         None => clean,
     }
+}
+
+// Writes the restart page that names the place which a checkpoint noted, whose LSN is `front`, with
+// this flag that the log is closed; a page that was sent already goes out again, with the flag that
+// it had.
+pub(crate) fn send_restart<D: Device>(
+    device: &mut D,
+    state: &mut StoreState,
+    front: u64,
+    clean: bool,
+) -> Result<(), Failed>
+    requires place { state.old.place.device ≤ D.sector_count device.old }
+    requires kept { IsKept (facts_of state.old) }
+    requires front { TellsFront state.old.log state.old.noted front }
+    requires may { MayRestart (facts_of state.old) }
+    ensures facts { facts_of state.new ≡ restart_facts result state.new.log.sent (facts_of state.old) }
+    ensures page { OnErr result (IfSome state.new.log.sent (λ s. s.page ≡ restart_page clean (facts_of state.old))) }
+    ensures sent { SendsRestartPage D.gives D.changes_of D.moment_of clean (facts_of state.old) (facts_of state.new) result device.old device.new }
+    ensures sectors { D.sector_count device.new ≡ D.sector_count device.old }
+    ensures cause { FailsByCause (D.fault_count device.old) (D.fault_count device.new) (D.moment_of device.new) result }
+    ensures step { Simulates (D.sector_count device.old) (D.moment_of device.old) (D.changes_of device.old) (D.changes_of device.new) (facts_of state.old) (facts_of state.new) AfterWrite }
+    ensures stands { (words : List (Block × CheckWord)) → StandsOn (D.sector_count device.old) (D.changes_of device.old) state.old words → StandsOn (D.sector_count device.new) (D.changes_of device.new) state.new words }
+    ensures names { TellsFront state.new.log state.new.noted front }
+{
+    state.known();
+    let flag = flag_of(state, clean);
+    state.write_restart(device, front, flag)
 }
 
 impl<D: Device> Store<D> {
@@ -45,25 +76,22 @@ impl<D: Device> Store<D> {
     /// Writes the restart page that names the place which a checkpoint noted: nothing that it noted
     /// is still to be written out or synced, the pages sealed before it are durable, and no restart
     /// page was written since the last sync. The next sync that succeeds frees the ring up to there.
-    /// The page's flag says whether the log is closed: recovery reads no entry behind a page that
-    /// has it, so it is for the last page of a store that ends. A call after one that failed behind
-    /// its read writes the same bytes, with the flag that they had.
+    /// The page doesn't say that the log is closed. A call after one that failed behind its read
+    /// writes the same bytes.
     ///
     /// The error is a failure of the device: then any sectors of the page may stand, and the
     /// checkpoint hasn't ended. At most two calls of the device.
-    pub fn write_restart(&mut self, clean: bool) -> Result<(), Failed>
+    pub fn write_restart(&mut self) -> Result<(), Failed>
         requires may { MayRestart (facts_of self.old.state) }
         ensures facts { facts_of self.new.state ≡ restart_facts result self.new.state.log.sent (facts_of self.old.state) }
-        ensures page { OnErr result (IfSome self.new.state.log.sent (λ s. s.page ≡ restart_page clean (facts_of self.old.state))) }
-        ensures sent { SendsRestartPage D.gives D.changes_of D.moment_of clean (facts_of self.old.state) (facts_of self.new.state) result self.old.device self.new.device }
+        ensures page { OnErr result (IfSome self.new.state.log.sent (λ s. s.page ≡ restart_page false (facts_of self.old.state))) }
+        ensures sent { SendsRestartPage D.gives D.changes_of D.moment_of false (facts_of self.old.state) (facts_of self.new.state) result self.old.device self.new.device }
+        ensures unmarked { (restart_page false (facts_of self.old.state)).clean ≡ false }
         ensures words { self.new.words ≡ self.old.words }
         ensures sectors { D.sector_count self.new.device ≡ D.sector_count self.old.device }
         ensures cause { FailsByCause (D.fault_count self.old.device) (D.fault_count self.new.device) (D.moment_of self.new.device) result }
         ensures step { TakesStep D.sector_count D.moment_of D.changes_of AfterWrite self.old self.new }
     {
-        self.state.known();
-        let flag = flag_of(&self.state, clean);
-        self.state
-            .write_restart(&mut self.device, self.told.front, flag)
+        send_restart(&mut self.device, &mut self.state, self.told.front, false)
     }
 }

@@ -8,6 +8,7 @@
 
 mod changing;
 mod checkpoints;
+mod closing;
 mod counting;
 mod fault;
 mod laws;
@@ -21,6 +22,7 @@ mod turning;
 mod view;
 mod writing;
 
+pub use closing::Closing;
 pub use fault::ChangeFault;
 pub use laws::{logs_open, steps_lead_on};
 pub use opening::open_log;

@@ -7,6 +7,7 @@ ghost use Rattle.txn_state.specs.States.{facts_of};
 ghost use Rattle.txn_laws.specs.Windows.{HasStart};
 ghost use Rattle.txn_core.specs.Kept.{IsBegun};
 ghost use Rattle.txn_core.specs.Openings.{StartsThen};
+ghost use Rattle.txn_core.specs.Tells.{LeavesOpen};
 
 use crate::telling::Telling;
 use block_pool::Pool;
@@ -71,6 +72,14 @@ impl<D: Device> Store<D> {
         ensures { result.now ≡ self.now.state }
     {
         &self.state
+    }
+
+    /// Law: no restart page that a store sends says that its log is closed, behind which recovery
+    /// reads no entry.
+    pub fn leaves_open(&self)
+        ensures { LeavesOpen self.now.state.log }
+    {
+        self.state.known();
     }
 
     /// The device alone, as the store leaves it.

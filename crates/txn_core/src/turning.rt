@@ -36,7 +36,7 @@ impl<D: Device> Store<D> {
                 self.begin_checkpoint();
                 Ok(())
             }
-            StoreStep::WriteRestart => self.write_restart(false),
+            StoreStep::WriteRestart => self.write_restart(),
         }
     }
 }

@@ -2,8 +2,6 @@ use Rattle.txn_state.specs.States.{facts_of}
 use Rattle.txn_close.specs.Rests.{stopped_facts}
 use Rattle.txn_close.proofs.Passing.{goes_joined}
 use Rattle.txn_close.proofs.Ended.{sealed_closed, sealed_empty}
-use Rattle.txn_close.proofs.Clean.{leaves_then}
-use Rattle.txn_close.proofs.Whole.{leaves_whole}
 use Rattle.txn_close.proofs.closing.end_session.Goals as goal
 
 pub drain-requires-clause-closed : goal.drain-requires-clause-closed
@@ -16,15 +14,8 @@ pub returns-in_err-drain-clause-goes : goal.returns-in_err-drain-clause-goes
 returns-in_err-drain-clause-goes g c =
     goes_joined g.D.Device.sector_count g.D.Device.moment_of g.D.Device.changes_of (stopped_facts (facts_of c.args.store.now.state)) c.args.store.now c.stop.new.store c.drain.new.store c.stop.ensures.goes c.drain.ensures.goes
 
-pub returns-clause-leaves : goal.returns-clause-leaves
-returns-clause-leaves g c =
-    let first = goes_joined g.D.Device.sector_count g.D.Device.moment_of g.D.Device.changes_of (stopped_facts (facts_of c.args.store.now.state)) c.args.store.now c.stop.new.store c.drain.new.store c.stop.ensures.goes c.drain.ensures.goes in
-    leaves_whole g.D.Device.sector_count g.D.Device.moment_of g.D.Device.changes_of (stopped_facts (facts_of c.args.store.now.state)) c.args.store.now c.end_clean.new.store c.end_clean.result
-    (goes_joined g.D.Device.sector_count g.D.Device.moment_of g.D.Device.changes_of (stopped_facts (facts_of c.args.store.now.state)) c.args.store.now c.drain.new.store c.end_clean.new.store first c.end_clean.ensures.goes) c.end_clean.ensures.rests
-    (leaves_then g.D.Device.sector_count g.D.Device.moment_of g.D.Device.changes_of (stopped_facts (facts_of c.args.store.now.state)) c.args.store.now c.drain.new.store c.end_clean.new.store.device c.end_clean.result first c.end_clean.ensures.leaves)
-
 pub returns-clause-goes : goal.returns-clause-goes
 returns-clause-goes g c =
-    goes_joined g.D.Device.sector_count g.D.Device.moment_of g.D.Device.changes_of (stopped_facts (facts_of c.args.store.now.state)) c.args.store.now c.drain.new.store c.end_clean.new.store
+    goes_joined g.D.Device.sector_count g.D.Device.moment_of g.D.Device.changes_of (stopped_facts (facts_of c.args.store.now.state)) c.args.store.now c.drain.new.store c.end_begun.new.store
     (goes_joined g.D.Device.sector_count g.D.Device.moment_of g.D.Device.changes_of (stopped_facts (facts_of c.args.store.now.state)) c.args.store.now c.stop.new.store c.drain.new.store c.stop.ensures.goes c.drain.ensures.goes)
-    c.end_clean.ensures.goes
+    c.end_begun.ensures.goes

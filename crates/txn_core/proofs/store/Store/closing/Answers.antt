@@ -1,0 +1,4 @@
+use Rattle.txn_core.proofs.store.Store.closing.Goals as goal
+
+pub invariant_of-result : goal.invariant_of-result
+invariant_of-result g c = (c.self.invariant.0, c.self.invariant.1.front)
