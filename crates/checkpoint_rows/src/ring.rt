@@ -68,7 +68,7 @@ fn a_ring_that_is_full_is_freed(rt: HostRuntime) -> Result<(), Fail> {
 const PAGES: u32 = 20;
 
 /// So many images are tried by a seed at each place.
-const IMAGES: u64 = 2;
+const IMAGES: u64 = 34;
 
 const WATCHED: [Watch; 1] = [Watch(S0, 0, 512)];
 

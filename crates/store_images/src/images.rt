@@ -17,9 +17,9 @@ pub type Sight = Option<u8>;
 
 // All images are tried up to so many sectors that aren't synced, and of more than those so many
 // that a seed chooses.
-const FEW: usize = 4;
+const FEW: usize = 12;
 
-const MANY: u64 = 34;
+const MANY: u64 = 1000;
 
 // How many sectors were written since the last sync that succeeded.
 fn unsynced(device: &MemoryDevice) -> usize {
