@@ -23,8 +23,8 @@ fn commits_of(sights: &[Sight]) -> Option<u64> {
     u64::from(first).checked_sub(FIRST)
 }
 
-// Whether each of these has a number of commits from the last durable one on.
-fn are_commits(seen: &[Vec<Sight>], durable: u64, commits: u64) -> bool {
+/// Whether each of these outcomes has the byte of a number of commits from this durable one on.
+pub fn are_commits(seen: &[Vec<Sight>], durable: u64, commits: u64) -> bool {
     for sights in seen {
         match commits_of(sights) {
             Some(count) if durable <= count && count <= commits => {}

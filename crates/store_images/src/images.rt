@@ -21,10 +21,10 @@ const FEW: usize = 12;
 
 const MANY: u64 = 1000;
 
-// How many sectors were written since the last sync that succeeded.
-fn unsynced(device: &MemoryDevice) -> usize {
+// How many sectors were written by so many kept calls since the last sync that succeeded.
+fn unsynced_after(device: &MemoryDevice, calls: usize) -> usize {
     let mut count: usize = 0;
-    for call in device.done.iter() {
+    for call in device.done.iter().take(calls) {
         match call {
             KeptCall::Write {
                 at: _,
@@ -39,6 +39,11 @@ fn unsynced(device: &MemoryDevice) -> usize {
         }
     }
     count
+}
+
+// How many sectors were written since the last sync that succeeded.
+fn unsynced(device: &MemoryDevice) -> usize {
+    unsynced_after(device, device.done.len())
 }
 
 // So many images are tried, or one where there is no other.
@@ -116,8 +121,9 @@ fn sights<V: View>(
     Ok(all)
 }
 
-// What is seen of an image once it is recovered, by a log of so many pages; or why it is refused.
-fn recovered(
+/// What is seen of an image once it is recovered, by a log of so many pages; nothing of one whose
+/// last sector isn't whole. The error is want of memory, or why recovery refuses the image.
+pub fn recovered(
     alloc: Global,
     pages: u32,
     image: Vec<u8>,
@@ -165,6 +171,23 @@ pub fn left_by_seed(
         put(&mut all, left_by(alloc, pages, device, &flags, watched)?)?;
     }
     Ok(all)
+}
+
+/// Some images by the seeds from 0 on, so many, that a crash may leave behind the first of the kept
+/// calls, or one where all that they wrote is durable. The error is want of memory.
+pub fn images_after(
+    alloc: Global,
+    device: &MemoryDevice,
+    calls: usize,
+    count: u64,
+) -> Result<Vec<Vec<u8>>, AllocError> {
+    let sectors = unsynced_after(device, calls);
+    let mut images = Vec::new(alloc);
+    for seed in 0..if sectors == 0 { 1 } else { count } {
+        let flags = flags_by(alloc, sectors, seed)?;
+        images.push(device.left_by(alloc, calls, &flags)?)?;
+    }
+    Ok(images)
 }
 
 // Puts what is seen among the rest, unless it is there.

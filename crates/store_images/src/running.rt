@@ -120,6 +120,12 @@ impl Run {
         Ok(Some(Run { store, turns: 0 }))
     }
 
+    /// The store.
+    pub fn into_store(self) -> Store<BlindDevice<MemoryDevice>> {
+        let Run { store, .. } = self;
+        store
+    }
+
     /// The device.
     pub fn memory(&self) -> &MemoryDevice {
         &self.store.device().device
