@@ -26,13 +26,14 @@ use Rattle.index_plan.specs.Lists.{own_key}
 use Rattle.index_plan.specs.Reading.{NodeReads}
 use Rattle.index_tree.specs.declared.fault.TreeFault.{TreeFault}
 use Rattle.index_tree.specs.declared.fault.TreeFault.TheVariants.{Node, Present, Absent, Deep, View}
-use Rattle.index_change.specs.declared.plan.DirPlan.{DirPlan}
+use Rattle.index_change.specs.declared.nodes_plan.NodesPlan.{NodesPlan}
 use Rattle.index_tree.specs.Calls.{FindGives, is_sought}
 use Rattle.index_tree.specs.Faults.{IsRead}
 use Rattle.index_change.specs.Heights.{tallest, if_read, height_below, height_of}
 use Rattle.index_change.specs.Holding.{HoldsNodesOf}
 use Rattle.index_change.specs.Orders.{names_file, link_of, has_entry}
-use Rattle.index_change.specs.Plans.{PutsNew, InsertGives}
+use Rattle.index_change.specs.NodePlans.{PlansNew, PlansNodes}
+use Rattle.index_change.specs.Plans.{InsertGives}
 use Rattle.index_change.proofs.Lawful.{link_child}
 
 -- ---- nodes that are held
@@ -123,14 +124,14 @@ module _ (p : Place) (upper value name : List ℕ) (used : ℕ) (key : Key) (fre
       let found : links ≡ filter (is_sought upper (link_of key).name) (links_of (walk t)) = h t held ∙ ap (λ (n : List ℕ). filter (is_sought upper n) (links_of (walk t))) same in
       ap (list_any (names_file (link_of key).child)) (sym found) ∙ ap (λ f. list_any (names_file f) links) (link_child key) ∙ is
 
-  insert_at : (c : Content) (result : Result DirPlan TreeFault) → Has false c → PutsNew c p upper value used key fresh result → InsertGives c p upper value used key fresh result
-  insert_at c (Ok plan) none h = (none, h)
+  insert_at : (c : Content) (result : Result NodesPlan TreeFault) → Has false c → PlansNew c p upper value used key fresh result → PlansNodes c p upper value used key fresh result
+  insert_at c (Ok n) none h = (none, h)
   insert_at c (Err (Node vcn rule)) none h = h
   insert_at c (Err Present) none h = absurd h
   insert_at c (Err Absent) none h = absurd h
   insert_at c (Err (Deep height)) none h = (none, h)
   insert_at c (Err (View cause)) none h = tt
 
-  pub insert_known : (known now : Option Content) (result : Result DirPlan TreeFault) → now ≡ known → IfSome known (Has false) → IfSome now (λ c. PutsNew c p upper value used key fresh result) → IfSome known (λ c. InsertGives c p upper value used key fresh result)
+  pub insert_known : (known now : Option Content) (result : Result NodesPlan TreeFault) → now ≡ known → IfSome known (Has false) → IfSome now (λ c. PlansNew c p upper value used key fresh result) → IfSome known (λ c. PlansNodes c p upper value used key fresh result)
   insert_known None now result e none h = tt
-  insert_known (Some c) now result e none h = insert_at c result none (subst (λ (o : Option Content). IfSome o (λ c. PutsNew c p upper value used key fresh result)) e h)
+  insert_known (Some c) now result e none h = insert_at c result none (subst (λ (o : Option Content). IfSome o (λ c. PlansNew c p upper value used key fresh result)) e h)

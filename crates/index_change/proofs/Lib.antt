@@ -21,3 +21,5 @@ pub mod Sizing
 pub mod Tightening
 pub mod InOrders
 pub mod Searches
+pub mod Joining
+pub mod Raising

@@ -1,12 +1,12 @@
 -- The index after an insertion.
-use Rattle.std.proofs.Common.{◌≡◌, ℕ, suc, ◌+◌, ◌<◌, ◌≤◌, Bool, true, List, [], ◌∷◌, length, Option, Result, Ok, Err, refl, sym, ap, ◌∙◌, ◌⊎◌, inl, inr, arith}
+use Rattle.std.proofs.Common.{◌≡◌, ℕ, suc, ◌+◌, ◌<◌, ◌≤◌, Bool, true, List, [], ◌∷◌, length, Option, Some, Result, Ok, Err, refl, sym, ap, ◌∙◌, ◌⊎◌, inl, inr, arith}
 use Rattle.std.specs.Prelude.{reverse, nat_eq}
 use Rattle.std.proofs.lemmas.List.{length-append, length-reverse, length-take}
 use Rattle.disk_model.specs.declared.block.Change.{Change}
 use Rattle.disk_model.specs.Content.{Content, HasSizes}
 use Rattle.block_view.specs.Changes.{content_after}
 use Rattle.record_model.specs.declared.entry.Entry.{Entry as Raw}
-use Rattle.record_model.specs.Nodes.{root_at}
+use Rattle.record_model.specs.Nodes.{root_at, last_entry}
 use Rattle.record_model.specs.Values.{is_file_name}
 use Rattle.file_tree.specs.declared.link.Link.{Link}
 use Rattle.index_model.specs.declared.key.Key.{Key}
@@ -90,12 +90,12 @@ root_fits : (room : ℕ) (root raws old : List Raw) → root ≡ raws → (fits_
 root_fits room root raws old is (inl e) = inl (sym (ap (fits_in room) is) ∙ e)
 root_fits room root raws old is (inr e) = inr (sym is ∙ e)
 
--- an index after a plan of nodes
-pub new_index : (c : Content) (p : Place) (upper value : List ℕ) (used : ℕ) (t : Tree) (all fresh gone : List ℕ) (r : Rooted) (plan : DirPlan) (more : Bool) (keys : List Key) (freed : ℕ → ℕ) (meant : List Link)
-    → HasSizes c → IsLaidOut p (uses t all) → IsMade p (clusters_of value) fresh gone r plan → Once t fresh → length fresh ≡ 17 → ((x : ℕ) → times x fresh ≤ times x all)
+-- an index after a plan of nodes that took its blocks from at most seventeen
+pub made_index : (c : Content) (p : Place) (upper value : List ℕ) (used : ℕ) (t : Tree) (all fresh gone : List ℕ) (r : Rooted) (plan : DirPlan) (more : Bool) (keys : List Key) (freed : ℕ → ℕ) (meant : List Link)
+    → HasSizes c → IsLaidOut p (uses t all) → IsMade p (clusters_of value) fresh gone r plan → Once t fresh → length fresh ≤ 17 → (more ≡ true → (f : ℕ) × (r.root ≡ last_entry (Some f) ∷ [])) → ((x : ℕ) → times x fresh ≤ times x all)
     → NewTree (plan_nodes (node_of_block c p)) t fresh keys freed (root_room used value) more r → ((x : ℕ) → freed x ≡ times x gone) → levels t + one_if more ≤ 16 → links_of keys ≡ meant → rises upper meant ≡ true → NewIndex c p upper value used t all more keys meant plan
 unfolding listed
-new_index c p upper value used t all fresh gone r plan more keys freed meant sized laid made once seventeen_all among n is_gone low links ordered =
+made_index c p upper value used t all fresh gone r plan more keys freed meant sized laid made once within lone among n is_gone low links ordered =
     let s : Tree = n.tree in
     let taken_fresh : (v : ℕ) → times v plan.taken.items + times v r.plan.fresh ≡ times v fresh = (λ v. sym (times-both v plan.taken.items r.plan.fresh) ∙ ap (times v) made.taken) in
     let same_writes : (v : ℕ) → times v (written_vcns made.writes) ≡ times v (written_vcns r.plan.writes) = (λ v. sym (times-reverse v made.writes) ∙ ap (λ (l : List Write). times v (written_vcns l)) made.order) in
@@ -128,21 +128,35 @@ new_index c p upper value used t all fresh gone r plan more keys freed meant siz
       numbers = λ v. omega (arith, ap (times v) made.freed, taken_fresh v, numbers v);
       height = n.height;
       has_room = λ m. root_fits (root_room used value) r.root (raws_of s) (raws_of t) n.root (n.has_room m);
-      one_entry = λ m. let o = n.one_entry m (omega (arith, seventeen_all)) in (omega (arith, low, ap one_if m), (o.0, sym n.root ∙ o.1));
+      one_entry = λ m. let o = lone m in (omega (arith, low, ap one_if m), (o.0, sym n.root ∙ o.1));
       written = omega (arith, made_few p (clusters_of value) fresh gone r plan made, n.written);
       apart = one_each p (uses t all) made.writes plan.changes.items laid each made.puts (λ v. omega (arith, placed v, numbers v, once v));
-      few = omega (arith, ap length made.taken, length-append plan.taken.items r.plan.fresh, seventeen_all);
+      few = omega (arith, ap length made.taken, length-append plan.taken.items r.plan.fresh, within);
       among = λ v. omega (arith, taken_fresh v, among v);
     }
 
+-- and one that took them from seventeen
+pub new_index : (c : Content) (p : Place) (upper value : List ℕ) (used : ℕ) (t : Tree) (all fresh gone : List ℕ) (r : Rooted) (plan : DirPlan) (more : Bool) (keys : List Key) (freed : ℕ → ℕ) (meant : List Link)
+    → HasSizes c → IsLaidOut p (uses t all) → IsMade p (clusters_of value) fresh gone r plan → Once t fresh → length fresh ≡ 17 → ((x : ℕ) → times x fresh ≤ times x all)
+    → NewTree (plan_nodes (node_of_block c p)) t fresh keys freed (root_room used value) more r → ((x : ℕ) → freed x ≡ times x gone) → levels t + one_if more ≤ 16 → links_of keys ≡ meant → rises upper meant ≡ true → NewIndex c p upper value used t all more keys meant plan
+new_index c p upper value used t all fresh gone r plan more keys freed meant sized laid made once seventeen_all among n =
+    made_index c p upper value used t all fresh gone r plan more keys freed meant sized laid made once (omega (arith, seventeen_all)) (λ m. n.one_entry m (omega (arith, seventeen_all))) among n
+
+-- the nodes after an insertion
+pub inserted_nodes : (c : Content) (p : Place) (upper value : List ℕ) (used : ℕ) (key : Key) (fresh : List ℕ) (root : List Raw) (r : Rooted) (t : Tree)
+    → root_at value ≡ Ok root → InsertsInto (plan_nodes (node_of_block c p)) (goes upper (link_of key).name) key (seventeen fresh) root (root_room used value) r → HoldsIndex c p upper value t → Once t (seventeen fresh)
+    → NewTree (plan_nodes (node_of_block c p)) t (seventeen fresh) (put (goes upper (link_of key).name) key (walk t)) (λ x. 0) (root_room used value) (needs_level upper (root_room used value) key (seventeen fresh) t) r
+inserted_nodes c p upper value used key fresh root r t read inserts h few =
+    let names : AreNames (walk t) = index_names c p upper value t h in
+    inserts t (root_raws c p upper value root t read h) (as_plan (node_of_block c p) t h.is_index.stands) few (keys_rise upper (link_of key).name (walk t) names h.is_index.ordered) h.is_index.height
+
 -- the index after an insertion
-pub inserted : (c : Content) (p : Place) (upper value : List ℕ) (used : ℕ) (key : Key) (fresh : List ℕ) (root : List Raw) (r : Rooted) (plan : DirPlan) (t : Tree)
-    → HasSizes c → 17 ≤ length fresh → root_at value ≡ Ok root → is_file_name key.value ≡ true → InsertsInto (plan_nodes (node_of_block c p)) (goes upper (link_of key).name) key (seventeen fresh) root (root_room used value) r → IsMade p (clusters_of value) (seventeen fresh) [] r plan
+pub inserted : (c : Content) (p : Place) (upper value : List ℕ) (used : ℕ) (key : Key) (fresh : List ℕ) (r : Rooted) (plan : DirPlan) (t : Tree)
+    → HasSizes c → 17 ≤ length fresh → is_file_name key.value ≡ true → IsMade p (clusters_of value) (seventeen fresh) [] r plan
+    → NewTree (plan_nodes (node_of_block c p)) t (seventeen fresh) (put (goes upper (link_of key).name) key (walk t)) (λ x. 0) (root_room used value) (needs_level upper (root_room used value) key (seventeen fresh) t) r
     → HoldsIndex c p upper value t → levels t + one_if (needs_level upper (root_room used value) key (seventeen fresh) t) ≤ 16 → Once t fresh → IsLaidOut p (uses t fresh)
     → NewIndex c p upper value used t fresh (needs_level upper (root_room used value) key (seventeen fresh) t) (put (goes upper (link_of key).name) key (walk t)) (put_link upper (link_of key) (links_of (walk t))) plan
-inserted c p upper value used key fresh root r plan t sized enough read lawful inserts made h low once laid =
+inserted c p upper value used key fresh r plan t sized enough lawful made n h low once laid =
     let names : AreNames (walk t) = index_names c p upper value t h in
-    let few : Once t (seventeen fresh) = once_fewer t 17 fresh once in
-    let n = inserts t (root_raws c p upper value root t read h) (as_plan (node_of_block c p) t h.is_index.stands) few (keys_rise upper (link_of key).name (walk t) names h.is_index.ordered) h.is_index.height in
-    new_index c p upper value used t fresh (seventeen fresh) [] r plan (needs_level upper (root_room used value) key (seventeen fresh) t) (put (goes upper (link_of key).name) key (walk t)) (λ x. 0) (put_link upper (link_of key) (links_of (walk t))) sized laid made few
+    new_index c p upper value used t fresh (seventeen fresh) [] r plan (needs_level upper (root_room used value) key (seventeen fresh) t) (put (goes upper (link_of key).name) key (walk t)) (λ x. 0) (put_link upper (link_of key) (links_of (walk t))) sized laid made (once_fewer t 17 fresh once)
     (omega (arith, enough, length-take 17 fresh)) (λ x. times-take x 17 fresh) n (λ x. refl) low (put_links upper key (link_of key) (walk t) names (key_link_is key lawful)) (put_rises upper (link_of key) (links_of (walk t)) h.is_index.ordered)

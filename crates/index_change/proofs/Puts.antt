@@ -1,25 +1,26 @@
 -- What a plan that puts a key in answers, over a content that may be known.
-use Rattle.std.proofs.Common.{◌≡◌, ℕ, ◌+◌, ◌<◌, ◌≤◌, Bool, true, false, List, [], length, Option, Some, None, Result, Ok, Err, refl, sym, ◌∙◌, subst, ◌⊎◌, inl, inr, arith}
-use Rattle.std.specs.Prelude.{IfSome, IfOk, IfErr, IsTrue}
-use Rattle.disk_model.specs.Content.{Content, HasSizes}
+use Rattle.std.proofs.Common.{◌≡◌, ℕ, ◌+◌, ◌<◌, ◌≤◌, Bool, true, false, List, [], length, Option, Some, None, Ok, Err, refl, sym, ◌∙◌, subst, ◌⊎◌, inl, inr, arith}
+use Rattle.std.specs.Prelude.{IfSome, IsTrue}
+use Rattle.disk_model.specs.Content.{Content}
 use Rattle.record_model.specs.declared.entry.Entry.{Entry as Raw}
 use Rattle.record_model.specs.Nodes.{root_at}
 use Rattle.record_model.specs.Values.{is_file_name}
 use Rattle.index_model.specs.declared.key.Key.{Key}
-use Rattle.index_model.specs.Trees.{Tree, levels, one_if}
+use Rattle.index_model.specs.Trees.{Tree, walk, levels, one_if}
 use Rattle.index_model.specs.Indexes.{Place, node_of_block}
 use Rattle.index_model.specs.Laws.{HoldsIndex}
 use Rattle.index_plan.specs.declared.plan.Rooted.{Rooted}
 use Rattle.index_plan.specs.Reading.{nodes_of}
-use Rattle.index_plan.specs.Laws.{InsertsInto, LevelFits, NeedsLevel, TakesFew}
-use Rattle.index_tree.specs.declared.fault.TreeFault.{TreeFault}
-use Rattle.index_tree.specs.declared.fault.TreeFault.TheVariants.{Node, Present, Absent, Deep, View}
-use Rattle.index_change.specs.declared.plan.DirPlan.{DirPlan}
-use Rattle.index_change.specs.Faults.{IsOfView}
+use Rattle.index_plan.specs.Laws.{InsertsInto, LevelFits, NeedsLevel, NewTree, TakesFew}
+use Rattle.index_plan.specs.Search.{put}
+use Rattle.index_tree.specs.declared.fault.TreeFault.TheVariants.{Deep}
+use Rattle.index_change.specs.declared.nodes_plan.NodesPlan.{NodesPlan}
 use Rattle.index_change.specs.Heights.{height_of}
 use Rattle.index_change.specs.Orders.{goes, link_of}
-use Rattle.index_change.specs.Plans.{clusters_of, root_room, seventeen, needs_level, IsMade, PutsNew}
-use Rattle.index_change.proofs.NewIndexes.{inserted, as_plan}
+use Rattle.index_change.specs.NodePlans.{IsDrawn, PlansNew}
+use Rattle.index_change.specs.Plans.{root_room, seventeen, needs_level, PutsNew}
+use Rattle.index_change.proofs.Joining.{drawn_is}
+use Rattle.index_change.proofs.NewIndexes.{inserted_nodes, as_plan}
 use Rattle.index_change.proofs.Sizing.{short_key}
 use Rattle.index_change.proofs.Tightening.{tight_if_higher, few_taken}
 use Rattle.index_change.proofs.Tall.{root_raws, index_height}
@@ -27,9 +28,6 @@ use Rattle.index_change.proofs.Tall.{root_raws, index_height}
 module _ (p : Place) (upper value name : List ℕ) (used : ℕ) (key : Key) (fresh : List ℕ) (root : List Raw) where
   abbrev room : ℕ
   room = root_room used value
-
-  abbrev pub clusters : ℕ
-  clusters = clusters_of value
 
   -- of each index, the plan puts the key in
   abbrev pub PutsIn : Content → Rooted → Type 0
@@ -58,31 +56,26 @@ module _ (p : Place) (upper value name : List ℕ) (used : ℕ) (key : Key) (fre
   judged c height t read h (inl e) = inl e
   judged c height t read h (inr e) = inr (e ∙ index_height c p upper value root t read h)
 
-  puts : (c : Content) (r : Rooted) (plan : DirPlan) (height : ℕ) → HasSizes c → 17 ≤ length fresh → root_at value ≡ Ok root → is_file_name key.value ≡ true → name ≡ (link_of key).name → PutsIn c r → LevelIn height c → FewIn r c → Judged c height → IsMade p clusters (seventeen fresh) [] r plan → PutsNew c p upper value used key fresh (Ok plan)
-  puts c r plan height sized enough read lawful same puts_in level few j made t h once laid =
+  puts : (c : Content) (r : Rooted) (n : NodesPlan) (height : ℕ) → 17 ≤ length fresh → root_at value ≡ Ok root → is_file_name key.value ≡ true → name ≡ (link_of key).name → PutsIn c r → LevelIn height c → FewIn r c → Judged c height → IsDrawn (seventeen fresh) r n → PlansNew c p upper value used key fresh (Ok n)
+  puts c r n height enough read lawful same puts_in level few j drawn t h once =
       let into = subst (λ (n : List ℕ). InsertsInto (nodes_of (node_of_block c p)) (goes upper n) key (seventeen fresh) root room r) same puts_in in
       let fits = subst (λ (n : List ℕ). LevelFits (nodes_of (node_of_block c p)) (goes upper n) key (seventeen fresh) root room height) same level in
       let st = as_plan (node_of_block c p) t h.is_index.stands in
-      let low = low_enough (needs_level upper room key (seventeen fresh) t) (levels t) height (fits t (root_raws c p upper value root t read h) st h.is_index.height) h.is_index.height (judged c height t read h j) in
-      let takes = subst (λ (n : List ℕ). TakesFew (node_of_block c p) (goes upper n) key (record { writes = []; fresh = seventeen fresh }) root room r) same (few (short_key key.value lawful)) in (
-        inserted c p upper value used key fresh root r plan t sized enough read lawful into made h low once laid,
-        record {
-          level = tight_if_higher c p upper value used fresh root t read h enough key lawful;
-          taken = few_taken c p upper value used fresh root t read h enough clusters key r plan takes made;
-        },
-      )
+      let more : Bool = needs_level upper room key (seventeen fresh) t in
+      let takes = subst (λ (n : List ℕ). TakesFew (node_of_block c p) (goes upper n) key (record { writes = []; fresh = seventeen fresh }) root room r) same (few (short_key key.value lawful)) in
+      record {
+        becomes = subst (λ (x : Rooted). NewTree (nodes_of (node_of_block c p)) t (seventeen fresh) (put (goes upper (link_of key).name) key (walk t)) (λ x. 0) room more x) (drawn_is (seventeen fresh) r n drawn) (inserted_nodes c p upper value used key fresh root r t read into h once);
+        low = low_enough more (levels t) height (fits t (root_raws c p upper value root t read h) st h.is_index.height) h.is_index.height (judged c height t read h j);
+        level = tight_if_higher c p upper value used fresh root t read h enough key lawful;
+        few = few_taken c p upper value used fresh root t read h enough key r n.taken.items takes drawn.taken;
+      }
 
-  -- a plan that is finished
-  pub puts_known : (known now : Option Content) (r : Rooted) (result : Result DirPlan TreeFault) (height : ℕ) → now ≡ known → IfSome known HasSizes → 17 ≤ length fresh → root_at value ≡ Ok root → is_file_name key.value ≡ true → name ≡ (link_of key).name
-      → IfSome now (λ c. PutsIn c r) → IfSome now (LevelIn height) → IfSome now (FewIn r) → IfSome now (λ c. Judged c height) → IfOk result (IsMade p clusters (seventeen fresh) [] r) → IfErr result IsOfView → IfSome known (λ c. PutsNew c p upper value used key fresh result)
-  puts_known None now r result height e sized enough read lawful same a b f j made only = tt
-  puts_known (Some c) now r (Ok plan) height e sized enough read lawful same a b f j made only =
-      puts c r plan height sized enough read lawful same (subst (λ (o : Option Content). IfSome o (λ c. PutsIn c r)) e a) (subst (λ (o : Option Content). IfSome o (LevelIn height)) e b) (subst (λ (o : Option Content). IfSome o (FewIn r)) e f) (subst (λ (o : Option Content). IfSome o (λ c. Judged c height)) e j) made
-  puts_known (Some c) now r (Err (View cause)) height e sized enough read lawful same a b f j made only = tt
-  puts_known (Some c) now r (Err (Node vcn rule)) height e sized enough read lawful same a b f j made only = absurd only
-  puts_known (Some c) now r (Err Present) height e sized enough read lawful same a b f j made only = absurd only
-  puts_known (Some c) now r (Err Absent) height e sized enough read lawful same a b f j made only = absurd only
-  puts_known (Some c) now r (Err (Deep h)) height e sized enough read lawful same a b f j made only = absurd only
+  -- a plan that is made
+  pub puts_known : (known now : Option Content) (r : Rooted) (n : NodesPlan) (height : ℕ) → now ≡ known → 17 ≤ length fresh → root_at value ≡ Ok root → is_file_name key.value ≡ true → name ≡ (link_of key).name
+      → IfSome now (λ c. PutsIn c r) → IfSome now (LevelIn height) → IfSome now (FewIn r) → IfSome now (λ c. Judged c height) → IsDrawn (seventeen fresh) r n → IfSome known (λ c. PlansNew c p upper value used key fresh (Ok n))
+  puts_known None now r n height e enough read lawful same a b f j drawn = tt
+  puts_known (Some c) now r n height e enough read lawful same a b f j drawn =
+      puts c r n height enough read lawful same (subst (λ (o : Option Content). IfSome o (λ c. PutsIn c r)) e a) (subst (λ (o : Option Content). IfSome o (LevelIn height)) e b) (subst (λ (o : Option Content). IfSome o (FewIn r)) e f) (subst (λ (o : Option Content). IfSome o (λ c. Judged c height)) e j) drawn
 
   deep : (c : Content) (height : ℕ) → 17 ≤ length fresh → root_at value ≡ Ok root → is_file_name key.value ≡ true → name ≡ (link_of key).name → 16 ≤ height → NeedsIn c → height ≡ height_of (node_of_block c p) root → PutsNew c p upper value used key fresh (Err (Deep height))
   deep c height enough read lawful same high needs is t h =
@@ -93,7 +86,7 @@ module _ (p : Place) (upper value name : List ℕ) (used : ℕ) (key : Key) (fre
       (levels_are, omega (arith, levels_are, low, high), needed, tight_if_higher c p upper value used fresh root t read h enough key lawful needed)
 
   -- there are sixteen levels
-  pub deep_known : (known now : Option Content) (height h : ℕ) → now ≡ known → 17 ≤ length fresh → root_at value ≡ Ok root → is_file_name key.value ≡ true → name ≡ (link_of key).name → h ≡ height → 16 ≤ height → IfSome now NeedsIn → IfSome now (λ c. height ≡ height_of (node_of_block c p) root) → IfSome known (λ c. PutsNew c p upper value used key fresh (Err (Deep h)))
+  pub deep_known : (known now : Option Content) (height h : ℕ) → now ≡ known → 17 ≤ length fresh → root_at value ≡ Ok root → is_file_name key.value ≡ true → name ≡ (link_of key).name → h ≡ height → 16 ≤ height → IfSome now NeedsIn → IfSome now (λ c. height ≡ height_of (node_of_block c p) root) → IfSome known (λ c. PlansNew c p upper value used key fresh (Err (Deep h)))
   deep_known None now height h e enough read lawful same is high needs j = tt
   deep_known (Some c) now height h e enough read lawful same is high needs j =
       subst (λ (k : ℕ). PutsNew c p upper value used key fresh (Err (Deep k))) (sym is)

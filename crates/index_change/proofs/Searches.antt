@@ -54,3 +54,25 @@ view_walked (Some c) (Err (Node vcn rule)) f h = absurd h
 view_walked (Some c) (Err Present) f h = absurd h
 view_walked (Some c) (Err Absent) f h = absurd h
 view_walked (Some c) (Err (Deep height)) f h = absurd h
+
+-- ---- what two plans say alike
+
+after_as : (T S : Type 0) {A : Type 0} (e : TreeFault) (found : Result A Broken) → AfterFind {T = T} (Err e) found → AfterFind {T = S} (Err e) found
+after_as T S (Node vcn rule) found h = h
+after_as T S Present found h = h
+after_as T S Absent found h = h
+after_as T S (Deep height) found h = h
+after_as T S (View cause) found h = h
+
+pub search_as : (T S : Type 0) {A : Type 0} (known : Option Content) (e : TreeFault) (f : Content → Result A Broken) → IfSome known (λ c. AfterFind {T = T} (Err e) (f c)) → IfSome known (λ c. AfterFind {T = S} (Err e) (f c))
+search_as T S known e f h = one known (λ c. AfterFind {T = T} (Err e) (f c)) (λ c. AfterFind {T = S} (Err e) (f c)) (λ c p. after_as T S e (f c) p) h
+
+deep_as : (T S : Type 0) {A : Type 0} (e : TreeFault) (walked : Result A Broken) → DeepAfterWalk {T = T} (Err e) walked → DeepAfterWalk {T = S} (Err e) walked
+deep_as T S (Node vcn rule) walked h = h
+deep_as T S Present walked h = h
+deep_as T S Absent walked h = h
+deep_as T S (Deep height) walked h = h
+deep_as T S (View cause) walked h = h
+
+pub walk_as : (T S : Type 0) {A : Type 0} (known : Option Content) (e : TreeFault) (f : Content → Result A Broken) → IfSome known (λ c. DeepAfterWalk {T = T} (Err e) (f c)) → IfSome known (λ c. DeepAfterWalk {T = S} (Err e) (f c))
+walk_as T S known e f h = one known (λ c. DeepAfterWalk {T = T} (Err e) (f c)) (λ c. DeepAfterWalk {T = S} (Err e) (f c)) (λ c p. deep_as T S e (f c) p) h

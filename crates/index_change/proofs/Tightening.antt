@@ -178,17 +178,17 @@ module _ (c : Content) (p : Region) (upper value : List ℕ) (used : ℕ) (fresh
 
   -- ---- blocks that are taken
 
-  pub few_taken : (clusters : ℕ) (key : Key) (r : Rooted) (plan : DirPlan) → TakesFew (node_of_block c p) (goes upper (link_of key).name) key (record { writes = []; fresh = seventeen fresh }) root (root_room used value) r → IsMade p clusters (seventeen fresh) [] r plan
-      → length plan.taken.items ≤ tight_count (way (path_to (goes upper (link_of key).name) t) t) + one_if (needs_level upper (root_room used value) key (seventeen fresh) t)
+  pub few_taken : (key : Key) (r : Rooted) (taken : List ℕ) → TakesFew (node_of_block c p) (goes upper (link_of key).name) key (record { writes = []; fresh = seventeen fresh }) root (root_room used value) r → taken ++ r.plan.fresh ≡ seventeen fresh
+      → length taken ≤ tight_count (way (path_to (goes upper (link_of key).name) t) t) + one_if (needs_level upper (root_room used value) key (seventeen fresh) t)
   unfolding start_of
-  few_taken clusters key r plan takes made =
+  few_taken key r taken takes all =
       let g = goes upper (link_of key).name in
       let to = path_to g t in
       let plan0 : Plan = record { writes = []; fresh = seventeen fresh } in
       let f = subst (λ (rt : List Raw). TakesFew (node_of_block c p) g key plan0 rt (root_room used value) r) (root_raws c p upper value root t read h) takes in
       let n = f (way to t) (read_way (node_of_block c p) g t (as_plan (node_of_block c p) t h.is_index.stands) h.is_index.height) in
       let q = ap (λ (i : ℕ). one_if (overfull (root_room used value) (raws_of t) i (rise (way to t) (start_of key (seventeen fresh))))) (first_place g t) in
-      omega (arith, n, q, ap length made.taken, length-append plan.taken.items r.plan.fresh)
+      omega (arith, n, q, ap length all, length-append taken r.plan.fresh)
 
   -- the place of a key that is found
   few_at : (clusters : ℕ) (l : Link) (gone : List ℕ) (r : Rooted) (plan : DirPlan) (s : Place) (hit : TheHit (stands upper l) t 0 s) → seek_of (node_of_block c p) (stands upper l) (raws_of t) ≡ Ok (Some s)

@@ -6,3 +6,5 @@ pub mod Heights
 pub mod Amounts
 pub mod Plans
 pub mod Removals
+pub mod NodePlans
+pub mod Levels

@@ -2,11 +2,13 @@ ghost use Rattle.std.specs.Prelude.{All, ◌≡◌, ◌≤◌, ◌++◌, IfOk, I
 ghost use Rattle.block_view.specs.Changes.{Fits};
 ghost use Rattle.index_node.specs.Roots.{root_spelling, HaveSpelling};
 ghost use Rattle.index_change.specs.Changing.{AllWereOld};
+ghost use Rattle.index_change.specs.NodePlans.{IsDrawn, LaysOut, TakesFront};
 ghost use Rattle.index_tree.specs.Faults.{FailsAsView};
 ghost use Rattle.index_tree.specs.Places.{place_of};
 ghost use Rattle.index_change.specs.Plans.{clusters_of, seventeen, IsMade};
 
 use crate::changing::changes_of;
+use crate::nodes_plan::NodesPlan;
 use crate::plan::DirPlan;
 use block_view::{View, ViewFault};
 use host_base::Bytes;
@@ -70,6 +72,61 @@ fn reversed(mut numbers: Vec<u64>) -> Vec<u64>
     numbers
 }
 
+/// The plan of nodes that took its blocks from the first seventeen of these VCNs. The error is want
+/// of memory; this comes too where those that are left don't stand at the end, as they do in each
+/// plan.
+pub fn drawn_nodes(alloc: Global, fresh: &[u64], rooted: Rooted) -> Result<NodesPlan, AllocError>
+    requires { 17 ≤ length fresh.now }
+    ensures drawn { IfOk result (IsDrawn (seventeen fresh.now) rooted) }
+    ensures front { IfOk result (TakesFront fresh.now) }
+{
+    let Rooted { root, plan } = rooted;
+    let (writes, left) = plan.into_parts();
+    let left = reversed(left);
+    let taken = taken_of(alloc, fresh, left.as_slice())?;
+    Ok(NodesPlan {
+        root,
+        writes,
+        taken,
+    })
+}
+
+/// Lays a plan of nodes out in the blocks of `dir`, whose root is the one that it was planned for.
+/// The place and the view may be others than those of the plan: the allocation may have got blocks
+/// for the VCNs that are taken, and the content may have changed elsewhere. Nothing is changed: the
+/// new root and the changes are answered, each of the whole body of a block. It reads the body of
+/// each block that changes, and takes time and memory linear in these.
+///
+/// - `Fault`: the view failed.
+/// - `Memory`: there is no memory left. This comes too where a node has no block, or no spelling.
+pub fn lay_out<V: View>(
+    alloc: Global,
+    v: &mut V,
+    dir: &DirPlace,
+    nodes: NodesPlan,
+) -> Result<DirPlan, ViewFault>
+    ensures laid { IfOk result (LaysOut (place_of dir.now) (clusters_of dir.now.root) nodes) }
+    ensures old { IfSome (V.content v.old) (λ c. IfOk result (λ plan. AllWereOld c plan.changes.items)) }
+    ensures fits { IfOk result (λ plan. All Fits plan.changes.items) }
+    ensures same { V.content v.new ≡ V.content v.old }
+    ensures kept { V.kept v.new ≡ V.kept v.old }
+    ensures cause { FailsAsView (V.faults v.old) (V.faults v.new) result }
+{
+    let NodesPlan {
+        root,
+        writes,
+        taken,
+    } = nodes;
+    let changes = changes_of(alloc, v, dir, writes)?;
+    let root = root_value(alloc, dir, root)?;
+    Ok(DirPlan {
+        root,
+        changes,
+        taken,
+        freed: Vec::new(alloc),
+    })
+}
+
 /// What a plan of nodes comes to, with the VCNs of blocks that are gone: the new root, the changes
 /// of blocks, and the VCNs that are taken and freed.
 ///
@@ -91,12 +148,13 @@ pub fn finish<V: View>(
     ensures kept { V.kept v.new ≡ V.kept v.old }
     ensures cause { FailsAsView (V.faults v.old) (V.faults v.new) result }
 {
-    let Rooted { root, plan } = rooted;
-    let (writes, left) = plan.into_parts();
-    let left = reversed(left);
-    let changes = changes_of(alloc, v, dir, writes)?;
-    let root = root_value(alloc, dir, root)?;
-    let taken = taken_of(alloc, fresh, left.as_slice())?;
+    let nodes = drawn_nodes(alloc, fresh, rooted)?;
+    let DirPlan {
+        root,
+        changes,
+        taken,
+        ..
+    } = lay_out(alloc, v, dir, nodes)?;
     Ok(DirPlan {
         root,
         changes,

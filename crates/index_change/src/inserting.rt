@@ -10,20 +10,21 @@ ghost use Rattle.index_plan.specs.Laws.{InsertsInto, LevelFits, NeedsLevel, Take
 ghost use Rattle.index_plan.specs.Lists.{own_key};
 ghost use Rattle.index_plan.specs.Reading.{nodes_of};
 ghost use Rattle.index_change.specs.Changing.{AllWereOld};
-ghost use Rattle.index_change.specs.Faults.{AfterFind, DeepAfterWalk, IsOfView, Planned};
-ghost use Rattle.index_tree.specs.Faults.{FailsByView};
+ghost use Rattle.index_change.specs.Faults.{AfterFind, DeepAfterWalk, Planned};
 ghost use Rattle.index_change.specs.Holding.{HoldsNodesOf};
 ghost use Rattle.index_change.specs.Orders.{goes, names_file, link_of};
 ghost use Rattle.index_tree.specs.Places.{place_of};
-ghost use Rattle.index_change.specs.Plans.{clusters_of, root_room, seventeen, IsMade, InsertGives, PutsNew};
+ghost use Rattle.index_change.specs.NodePlans.{PlansNew, PlansNodes, TakesFront};
+ghost use Rattle.index_change.specs.Plans.{root_room, seventeen, InsertGives};
 ghost use Rattle.std.specs.List.{list_any};
 
 use crate::drafting::{MOST_LEVELS, draft_of, root_entries, root_room};
-use crate::finishing::finish;
+use crate::finishing::{drawn_nodes, lay_out};
 use crate::gathering::gather;
 use crate::height::height_of;
 use crate::holding::{Held, HeldNodes, copy_of};
 use crate::naming::Before;
+use crate::nodes_plan::NodesPlan;
 use crate::plan::DirPlan;
 use block_view::{View, ViewFault};
 use file_tree::Link;
@@ -111,39 +112,17 @@ impl<'a> Insertion<'a> {
         )
     }
 
-    // The plan of a directory.
-    fn finish<V: View>(&self, v: &mut V, rooted: Rooted) -> Result<DirPlan, TreeFault>
-        requires enough { 17 ≤ length self.now.fresh.now }
-        ensures made { IfOk result (IsMade (place_of self.now.dir.now) (clusters_of self.now.dir.now.root) (seventeen self.now.fresh.now) [] rooted) }
-        ensures old { IfSome (V.content v.old) (λ c. IfOk result (λ plan. AllWereOld c plan.changes.items)) }
-        ensures fits { IfOk result (λ plan. All Fits plan.changes.items) }
-        ensures only { IfErr result IsOfView }
-        ensures same { V.content v.new ≡ V.content v.old }
-        ensures kept { V.kept v.new ≡ V.kept v.old }
-        ensures cause { FailsByView (V.faults v.old) (V.faults v.new) result }
-    {
-        Ok(finish(
-            self.alloc,
-            v,
-            self.dir,
-            self.fresh,
-            rooted,
-            Vec::new(self.alloc),
-        )?)
-    }
-
     // The plan where the root has no room: the levels are counted, over an index that is walked
     // first.
-    fn with_level<V: View>(&self, v: &mut V, held: &Held) -> Result<DirPlan, TreeFault>
+    fn with_level<V: View>(&self, v: &mut V, held: &Held) -> Result<NodesPlan, TreeFault>
         requires enough { 17 ≤ length self.now.fresh.now }
         requires held { ForSome (V.content v.old) (λ c. HoldsNodesOf (node_of_block c (place_of self.now.dir.now)) held.now) }
         requires root { root_at self.now.dir.now.root ≡ Ok self.now.root.now }
         requires key { is_file_name self.now.key.now.key ≡ true }
         requires name { self.now.name.now ≡ (link_of (own_key self.now.key.now)).name }
-        ensures value { IfSome (V.content v.old) (λ c. PutsNew c (place_of self.now.dir.now) self.now.up.now self.now.dir.now.root self.now.dir.now.used (own_key self.now.key.now) self.now.fresh.now result) }
+        ensures value { IfSome (V.content v.old) (λ c. PlansNew c (place_of self.now.dir.now) self.now.up.now self.now.dir.now.root self.now.dir.now.used (own_key self.now.key.now) self.now.fresh.now result) }
         ensures walked { IfSome (V.content v.old) (λ c. DeepAfterWalk result (walk_of c (place_of self.now.dir.now) self.now.up.now self.now.dir.now.root)) }
-        ensures old { IfSome (V.content v.old) (λ c. IfOk result (λ plan. AllWereOld c plan.changes.items)) }
-        ensures fits { IfOk result (λ plan. All Fits plan.changes.items) }
+        ensures front { IfOk result (TakesFront self.now.fresh.now) }
         ensures same { V.content v.new ≡ V.content v.old }
         ensures kept { V.kept v.new ≡ V.kept v.old }
         ensures cause { Planned (V.faults v.old) (V.faults v.new) result }
@@ -151,7 +130,7 @@ impl<'a> Insertion<'a> {
         let _ = walk(self.alloc, v, self.dir, self.up)?;
         let height = height_of(self.alloc, v, self.dir, self.root.as_slice())?;
         match self.plan(v, held, height) {
-            Ok(rooted) => self.finish(v, rooted),
+            Ok(rooted) => Ok(drawn_nodes(self.alloc, self.fresh, rooted)?),
             Err(PlanFault::Deep { height }) => Err(TreeFault::Deep { height }),
             Err(PlanFault::Node { .. }) => Err(TreeFault::View(ViewFault::Memory)),
             Err(PlanFault::Absent) => Err(TreeFault::View(ViewFault::Memory)),
@@ -161,22 +140,21 @@ impl<'a> Insertion<'a> {
     }
 
     // The plan of a key that isn't there.
-    fn put_in<V: View>(&self, v: &mut V) -> Result<DirPlan, TreeFault>
+    fn put_in<V: View>(&self, v: &mut V) -> Result<NodesPlan, TreeFault>
         requires enough { 17 ≤ length self.now.fresh.now }
         requires root { root_at self.now.dir.now.root ≡ Ok self.now.root.now }
         requires key { is_file_name self.now.key.now.key ≡ true }
         requires name { self.now.name.now ≡ (link_of (own_key self.now.key.now)).name }
-        ensures value { IfSome (V.content v.old) (λ c. PutsNew c (place_of self.now.dir.now) self.now.up.now self.now.dir.now.root self.now.dir.now.used (own_key self.now.key.now) self.now.fresh.now result) }
+        ensures value { IfSome (V.content v.old) (λ c. PlansNew c (place_of self.now.dir.now) self.now.up.now self.now.dir.now.root self.now.dir.now.used (own_key self.now.key.now) self.now.fresh.now result) }
         ensures walked { IfSome (V.content v.old) (λ c. DeepAfterWalk result (walk_of c (place_of self.now.dir.now) self.now.up.now self.now.dir.now.root)) }
-        ensures old { IfSome (V.content v.old) (λ c. IfOk result (λ plan. AllWereOld c plan.changes.items)) }
-        ensures fits { IfOk result (λ plan. All Fits plan.changes.items) }
+        ensures front { IfOk result (TakesFront self.now.fresh.now) }
         ensures same { V.content v.new ≡ V.content v.old }
         ensures kept { V.kept v.new ≡ V.kept v.old }
         ensures cause { Planned (V.faults v.old) (V.faults v.new) result }
     {
         let held = gather(self.alloc, v, self.dir, self.up, self.name, self.root)?;
         match self.plan(v, &held, MOST_LEVELS) {
-            Ok(rooted) => self.finish(v, rooted),
+            Ok(rooted) => Ok(drawn_nodes(self.alloc, self.fresh, rooted)?),
             Err(PlanFault::Deep { .. }) => self.with_level(v, &held),
             Err(PlanFault::Node { .. }) => Err(TreeFault::View(ViewFault::Memory)),
             Err(PlanFault::Absent) => Err(TreeFault::View(ViewFault::Memory)),
@@ -191,6 +169,62 @@ fn names_file(links: &[Link], file: FileRef) -> bool
     ensures { result ≡ list_any (names_file file) links.now }
 {
     links.iter().any(|l| l.child.number == file.number && l.child.seq == file.seq)
+}
+
+/// The nodes of the plan that puts an entry into a directory's index, whose blocks are those of
+/// `dir`: behind the entries whose names its name doesn't come before, by the table of upper-case
+/// units. The key is a file-name value, and the entry's child isn't looked at. `fresh` has at least
+/// seventeen VCNs that aren't in use, of which the first seventeen may be taken; there need be no
+/// block for them yet. So the plan tells how many blocks it takes, and once the allocation has
+/// these, [`lay_out`] makes the changes of it.
+///
+/// It reads the nodes on the way to the name and those that hold keys of the same name, each twice,
+/// and takes time and memory linear in their bytes, beside a byte for each block of the place.
+/// Where the root has no room, it reads all nodes, to count the levels.
+///
+/// - [`TreeFault::Present`]: an entry of the same name, by the table of upper-case units, and file
+///   is there.
+/// - [`TreeFault::Node`]: a node that it met, and the rule that this node breaks; where the search
+///   for the name meets one, the first of these.
+/// - [`TreeFault::Deep`]: the record that holds the root has no room, and the index has sixteen
+///   levels.
+/// - [`TreeFault::View`]: the view failed and counts it, or there is no memory left.
+pub fn plan_nodes<V: View>(
+    alloc: Global,
+    v: &mut V,
+    dir: &DirPlace,
+    up: &Upcase,
+    key: &Entry,
+    fresh: &[u64],
+) -> Result<NodesPlan, TreeFault>
+    requires name { is_file_name key.now.key ≡ true }
+    requires enough { 17 ≤ length fresh.now }
+    ensures value { IfSome (V.content v.old) (λ c. PlansNodes c (place_of dir.now) up.now dir.now.root dir.now.used (own_key key.now) fresh.now result) }
+    ensures search { IfSome (V.content v.old) (λ c. AfterFind result (find_of c (place_of dir.now) up.now (link_of (own_key key.now)).name dir.now.root)) }
+    ensures walked { IfSome (V.content v.old) (λ c. DeepAfterWalk result (walk_of c (place_of dir.now) up.now dir.now.root)) }
+    ensures front { IfOk result (TakesFront fresh.now) }
+    ensures same { V.content v.new ≡ V.content v.old }
+    ensures kept { V.kept v.new ≡ V.kept v.old }
+    ensures cause { Planned (V.faults v.old) (V.faults v.new) result }
+{
+    let Some(link) = entry_link(alloc, key)? else {
+        return Err(TreeFault::View(ViewFault::Memory));
+    };
+    let links = find(alloc, v, dir, up, &link.name)?;
+    if names_file(links.as_slice(), key.child) {
+        return Err(TreeFault::Present);
+    }
+    let root = root_entries(alloc, dir)?;
+    let over = Insertion {
+        alloc,
+        dir,
+        up,
+        key,
+        name: link.name.units(),
+        fresh,
+        root: &root,
+    };
+    over.put_in(v)
 }
 
 /// The plan that puts an entry into a directory's index, whose blocks are those of `dir`: behind
@@ -232,22 +266,6 @@ pub fn plan_insert<V: View>(
     ensures kept { V.kept v.new ≡ V.kept v.old }
     ensures cause { Planned (V.faults v.old) (V.faults v.new) result }
 {
-    let Some(link) = entry_link(alloc, key)? else {
-        return Err(TreeFault::View(ViewFault::Memory));
-    };
-    let links = find(alloc, v, dir, up, &link.name)?;
-    if names_file(links.as_slice(), key.child) {
-        return Err(TreeFault::Present);
-    }
-    let root = root_entries(alloc, dir)?;
-    let over = Insertion {
-        alloc,
-        dir,
-        up,
-        key,
-        name: link.name.units(),
-        fresh,
-        root: &root,
-    };
-    over.put_in(v)
+    let nodes = plan_nodes(alloc, v, dir, up, key, fresh)?;
+    Ok(lay_out(alloc, v, dir, nodes)?)
 }

@@ -1,11 +1,14 @@
 //! Plans that put a name into an index over a view, or take one out of it.
-ghost use Rattle.std.specs.Prelude.{All, IfOk};
+ghost use Rattle.std.specs.Prelude.{All, IfOk, IfSome};
 ghost use Rattle.block_view.specs.Changes.{Fits};
 
 use crate::few_names::{self, Key, NO, Part, Spot, block, files, put};
 use block_view::{MemoryView, Overlay, View};
 use host_base::{Bytes, FileRef};
-use index_change::{DirPlace, DirPlan, TreeFault, ViewFault, plan_insert, plan_remove};
+use index_change::{
+    DirPlace, DirPlan, NodesPlan, TreeFault, ViewFault, lay_out, plan_insert, plan_level,
+    plan_nodes, plan_remove,
+};
 use index_tree::walk;
 use record_model::Entry;
 use std::alloc::{AllocError, Global};
@@ -29,6 +32,41 @@ static TREE: Row = Row(
 static LOOP: Row = Row(
     Spot(&[], 2),
     &[Part(0, false, Spot(&[], NO)), Part(2, false, Spot(&[], 2))],
+);
+
+// `b` in the root alone, and a torn block that isn't in use.
+static ALONE: Row = Row(
+    Spot(&[Key(25, 0x62, NO)], NO),
+    &[Part(0, true, Spot(&[], NO))],
+);
+
+// A root without a key, over a block with `c`.
+static KEYLESS: Row = Row(
+    Spot(&[], 0),
+    &[Part(0, false, Spot(&[Key(26, 0x63, NO)], NO))],
+);
+
+// `b` in the root, with fifteen blocks below it, each below the one before.
+static DEEP: Row = Row(
+    Spot(&[Key(25, 0x62, 0)], 30),
+    &[
+        Part(0, false, Spot(&[], 2)),
+        Part(2, false, Spot(&[], 4)),
+        Part(4, false, Spot(&[], 6)),
+        Part(6, false, Spot(&[], 8)),
+        Part(8, false, Spot(&[], 10)),
+        Part(10, false, Spot(&[], 12)),
+        Part(12, false, Spot(&[], 14)),
+        Part(14, false, Spot(&[], 16)),
+        Part(16, false, Spot(&[], 18)),
+        Part(18, false, Spot(&[], 20)),
+        Part(20, false, Spot(&[], 22)),
+        Part(22, false, Spot(&[], 24)),
+        Part(24, false, Spot(&[], 26)),
+        Part(26, false, Spot(&[], 28)),
+        Part(28, false, Spot(&[], NO)),
+        Part(30, false, Spot(&[], NO)),
+    ],
 );
 
 // The view of an index whose call with this number fails.
@@ -61,13 +99,18 @@ fn place_with_fresh(alloc: Global, row: &Row) -> Result<DirPlace, AllocError> {
     Ok(dir)
 }
 
-// The VCNs of the blocks behind those in use.
-fn fresh_of(alloc: Global, row: &Row) -> Result<Vec<u64>, AllocError> {
+// The VCNs of seventeen blocks from the one at this place on.
+fn vcns_from(alloc: Global, first: usize) -> Result<Vec<u64>, AllocError> {
     let mut fresh = Vec::new(alloc);
     for i in 0..17u64 {
-        fresh.push((row.1.len() as u64).wrapping_add(i).wrapping_mul(2))?;
+        fresh.push((first as u64).wrapping_add(i).wrapping_mul(2))?;
     }
     Ok(fresh)
+}
+
+// The VCNs of the blocks behind those in use.
+fn fresh_of(alloc: Global, row: &Row) -> Result<Vec<u64>, AllocError> {
+    vcns_from(alloc, row.1.len())
 }
 
 // The files of an index over a view, in its order.
@@ -77,12 +120,12 @@ fn files_over<V: View>(alloc: Global, view: &mut V, dir: &DirPlace) -> Result<Ve
     Ok(files(alloc, &links)?)
 }
 
-// The files of the index of `TREE` after a plan.
-fn files_after(alloc: Global, plan: DirPlan) -> Result<Vec<u64>, Fail>
+// The files of an index after a plan.
+fn files_after(alloc: Global, row: &Row, plan: DirPlan) -> Result<Vec<u64>, Fail>
     requires { All Fits plan.changes.items }
 {
-    let mut view = view_of(alloc, &TREE, 0)?;
-    let DirPlace { blocks, .. } = place_with_fresh(alloc, &TREE)?;
+    let mut view = view_of(alloc, row, 0)?;
+    let DirPlace { blocks, .. } = place_with_fresh(alloc, row)?;
     let DirPlan { root, changes, .. } = plan;
     let after = DirPlace {
         root,
@@ -138,7 +181,7 @@ fn files_planned(
     let key = entry(alloc, number, unit)?;
     let plan = planned(alloc, &TREE, &key, puts)?;
     let counts = (plan.changes.len(), plan.taken.len(), plan.freed.len());
-    Ok((counts, files_after(alloc, plan)?))
+    Ok((counts, files_after(alloc, &TREE, plan)?))
 }
 
 #[test]
@@ -202,6 +245,92 @@ fn tells_that_the_view_failed(rt: HostRuntime) -> Result<(), Fail> {
             let told = planned_failing(rt.alloc(), &TREE, &key, puts, call).err();
             assert_eq!(rt; told, want, "call {call}");
         }
+    }
+    Ok(())
+}
+
+// The place of `ALONE` with so many blocks, in a record without room.
+fn full_place(alloc: Global, count: usize) -> Result<DirPlace, AllocError> {
+    let mut dir = few_names::place_of(alloc, &ALONE.0, count)?;
+    dir.used = 1024;
+    Ok(dir)
+}
+
+// The plan of the nodes that puts `d` into `ALONE`, while no block is there.
+fn nodes_planned(alloc: Global) -> Result<NodesPlan, TreeFault> {
+    let up = Upcase::standard(alloc).map_err(|_| TreeFault::View(ViewFault::Memory))?;
+    let dir = full_place(alloc, 0)?;
+    let key = entry(alloc, 27, 0x64)?;
+    let fresh = vcns_from(alloc, 0)?;
+    let mut view = few_names::view_of(alloc, &[], 0)?;
+    if !is_file_name(key.key.as_slice()) || fresh.len() < 17 {
+        return Err(TreeFault::View(ViewFault::Memory));
+    }
+    plan_nodes(alloc, &mut view, &dir, &up, &key, &fresh)
+}
+
+// The plan of the directory with so many blocks.
+fn laid_out(alloc: Global, nodes: NodesPlan, count: usize) -> Result<DirPlan, ViewFault>
+    ensures { IfOk result (λ plan. All Fits plan.changes.items) }
+{
+    let dir = full_place(alloc, count)?;
+    let mut view = view_of(alloc, &ALONE, 0)?;
+    lay_out(alloc, &mut view, &dir, nodes)
+}
+
+#[test]
+fn lays_out_once_there_is_a_block(rt: HostRuntime) -> Result<(), Fail> {
+    let nodes = nodes_planned(rt.alloc())?;
+    assert_eq!(rt; nodes.taken.as_slice(), [0].as_slice());
+    let plan = laid_out(rt.alloc(), nodes, 1)?;
+    assert_eq!(rt; plan.taken.as_slice(), [0].as_slice());
+    let left = files_after(rt.alloc(), &ALONE, plan)?;
+    assert_eq!(rt; left.as_slice(), [25, 27].as_slice());
+    Ok(())
+}
+
+#[test]
+fn lays_nothing_out_without_a_block(rt: HostRuntime) -> Result<(), Fail> {
+    let nodes = nodes_planned(rt.alloc())?;
+    let fault = laid_out(rt.alloc(), nodes, 0).err();
+    assert_eq!(rt; fault, Some(ViewFault::Memory));
+    Ok(())
+}
+
+// The plan of one level more, into the block behind those in use.
+fn raised(alloc: Global, row: &Row) -> Result<Option<DirPlan>, TreeFault>
+    ensures { IfOk result (λ o. IfSome o (λ plan. All Fits plan.changes.items)) }
+{
+    let up = Upcase::standard(alloc).map_err(|_| TreeFault::View(ViewFault::Memory))?;
+    let dir = place_with_fresh(alloc, row)?;
+    let mut view = view_of(alloc, row, 0)?;
+    let fresh = (row.1.len() as u64).wrapping_mul(2);
+    plan_level(alloc, &mut view, &dir, &up, fresh)
+}
+
+// The files of an index after a level more; none where it gets none.
+fn files_raised(alloc: Global, row: &Row) -> Result<Vec<u64>, Fail> {
+    match raised(alloc, row)? {
+        None => Ok(Vec::new(alloc)),
+        Some(plan) => files_after(alloc, row, plan),
+    }
+}
+
+#[test]
+fn puts_a_level_on(rt: HostRuntime) -> Result<(), Fail> {
+    for (row, want) in [(&TREE, [24, 25, 26].as_slice()), (&KEYLESS, [].as_slice())] {
+        let left = files_raised(rt.alloc(), row)?;
+        assert_eq!(rt; left.as_slice(), want);
+    }
+    Ok(())
+}
+
+#[test]
+fn puts_no_level_on(rt: HostRuntime) -> Result<(), Fail> {
+    let broken = TreeFault::Node { vcn: 2, rule: 7 };
+    for (row, want) in [(&LOOP, broken), (&DEEP, TreeFault::Deep { height: 16 })] {
+        let fault = raised(rt.alloc(), row).err();
+        assert_eq!(rt; fault, Some(want));
     }
     Ok(())
 }
