@@ -1,0 +1,5 @@
+pub mod Leasts
+pub mod Sorting
+pub mod Placing
+pub mod Streaming
+pub mod Holding
