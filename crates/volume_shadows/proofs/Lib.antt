@@ -3,3 +3,4 @@ pub mod Sorting
 pub mod Placing
 pub mod Streaming
 pub mod Holding
+pub mod Listing
