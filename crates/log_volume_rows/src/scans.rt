@@ -36,8 +36,8 @@ fn shows<R: Abort + AllocGlobal>(
     Ok(())
 }
 
-// The body of record 10, and behind it the one with the name `$UpKase`.
-fn bodies<R: Abort + AllocGlobal>(rt: &R, device: &mut MemoryDevice) -> Result<Vec<u8>, Fail>
+/// The body of record 10, and behind it the one with the name `$UpKase`.
+pub fn bodies<R: Abort + AllocGlobal>(rt: &R, device: &mut MemoryDevice) -> Result<Vec<u8>, Fail>
     ensures { IfOk result (λ bytes. length bytes.items ≡ 2048) }
 {
     let raw = sectors_at(rt, device, RECORD, 2)?;

@@ -1,5 +1,6 @@
 -- A volume that was opened and loaded is the mounted one that is meant.
 use Rattle.std.proofs.Common.{◌≡◌, ℕ, Option, Some, None, Result, Ok, Err, refl, sym, ap, ◌∙◌, subst}
+use Rattle.std.proofs.Math.Path.{fun_ext}
 use Rattle.std.specs.Prelude.{IfSome}
 use Rattle.host_base.specs.Answers.{◌>>=◌, ExplainsOrFails, GivesOrFails}
 use Rattle.host_base.proofs.Known.{both, one}
@@ -12,7 +13,9 @@ use Rattle.volume_state.specs.Trees.{tree_of, checked}
 use Rattle.volume_state.proofs.Reports.{reports}
 use Rattle.volume_map.specs.Maps.{volume_in}
 use Rattle.log_page.specs.declared.places.LogPlace.{LogPlace}
-use Rattle.log_recovery.specs.Recovering.{content_with}
+use Rattle.log_recovery.specs.Recovering.{content_with, shadow_lsn}
+use Rattle.volume_shadows.specs.Live.{least_lsn, least_live}
+use Rattle.volume_shadows.proofs.Holding.{least_held}
 use Rattle.volume_lookup.proofs.Asking.{known_where}
 use Rattle.image_open.specs.declared.refusal.Refusal.{Refusal}
 use Rattle.image_open.specs.declared.refusal.MountFault.{MountFault}
@@ -25,7 +28,7 @@ use Rattle.image_read.specs.Errors.{broken_refusal}
 use Rattle.image_read.specs.Checks.{volume_on, has_version, tree_on}
 use Rattle.volume_mount.specs.declared.loading.LoadedVolume.{LoadedVolume}
 use Rattle.volume_mount.specs.declared.mounted.Mounted.{Mounted}
-use Rattle.volume_mount.specs.Mounts.{has_no_journal, has_pages, ruled, paged, unjournaled, tried, loaded_on, MountedVolume, content_behind, mounted_as, mounted_by, mounted_in}
+use Rattle.volume_mount.specs.Mounts.{Said, unless_said, unshadowed, has_no_journal, has_pages, ruled, settled, paged, unjournaled, tried, loaded_on, MountedVolume, content_behind, mounted_as, mounted_by, mounted_in}
 use Rattle.volume_mount.specs.Trees.{content_of_mounted}
 use Rattle.volume_mount.specs.Answers.{IsMounted, IsMountedAs, MountsAs}
 
@@ -45,19 +48,29 @@ ruled_unbroken c w v is =
     let u = reports c w t.0 (unrefused broken_refusal (checked c w) t.0 t.1) in
     subst (λ (x : Volume). first_broken c x ≡ None) (okay_alike w v t.2) u.1.kept
 
-tried_unbroken : (place : LogPlace) (c : Content) (w v : Volume) → tried place c w ≡ Ok v → first_broken c v ≡ None
-unfolding tried unjournaled paged
-tried_unbroken place c w v is =
-    let q = steps_from_ok (has_version w) (λ _. unjournaled (upper_of c w) place c w) v is in
-    let r = steps_from_ok (has_no_journal (upper_of c w) w) (λ _. paged place c w) v q.2 in
-    let s = steps_from_ok (has_pages place) (λ _. ruled c w) v r.2 in
-    ruled_unbroken c w v s.2
+same_unless : (said : Option ℕ) (w v : Volume) → unless_said said w ≡ Ok v → w ≡ v
+same_unless None w v e = okay_alike w v e
+same_unless (Some lsn) w v e = absurd cc
 
-pub unbroken : (place : LogPlace) (c : Content) (g : Geometry) (total : ℕ) (v : Volume) → loaded_on place c g total ≡ Ok v → first_broken c v ≡ None
+settled_unbroken : (said : Said) (c : Content) (w v : Volume) → settled said c w ≡ Ok v → first_broken c v ≡ None
+unfolding settled unshadowed
+settled_unbroken said c w v is =
+    let s = steps_from_ok (ruled c w) (unshadowed said) v is in
+    subst (λ (x : Volume). first_broken c x ≡ None) (same_unless (least_live said s.0) s.0 v s.2) (ruled_unbroken c w s.0 s.1)
+
+tried_unbroken : (said : Said) (place : LogPlace) (c : Content) (w v : Volume) → tried said place c w ≡ Ok v → first_broken c v ≡ None
+unfolding tried unjournaled paged
+tried_unbroken said place c w v is =
+    let q = steps_from_ok (has_version w) (λ _. unjournaled said (upper_of c w) place c w) v is in
+    let r = steps_from_ok (has_no_journal (upper_of c w) w) (λ _. paged said place c w) v q.2 in
+    let s = steps_from_ok (has_pages place) (λ _. settled said c w) v r.2 in
+    settled_unbroken said c w v s.2
+
+pub unbroken : (said : Said) (place : LogPlace) (c : Content) (g : Geometry) (total : ℕ) (v : Volume) → loaded_on said place c g total ≡ Ok v → first_broken c v ≡ None
 unfolding loaded_on
-unbroken place c g total v is =
-    let p = steps_from_ok (volume_on c g total) (tried place c) v is in
-    tried_unbroken place c p.0 v p.2
+unbroken said place c g total v is =
+    let p = steps_from_ok (volume_on c g total) (tried said place c) v is in
+    tried_unbroken said place c p.0 v p.2
 
 -- ---- places that lie alike
 
@@ -65,49 +78,54 @@ pages_alike : (p q : LogPlace) → LieAlike p q → has_pages p ≡ has_pages q
 unfolding has_pages
 pages_alike p q alike = rw (alike.pages, alike.initialised, alike.clusters) refl
 
-tried_alike : (p q : LogPlace) (c : Content) (v : Volume) → LieAlike p q → tried p c v ≡ tried q c v
+tried_alike : (said : Said) (p q : LogPlace) (c : Content) (v : Volume) → LieAlike p q → tried said p c v ≡ tried said q c v
 unfolding tried unjournaled paged
-tried_alike p q c v alike = ap (λ (r : Result (Unit {0}) Refusal). has_version v >>= λ _. has_no_journal (upper_of c v) v >>= λ _. r >>= λ _. ruled c v) (pages_alike p q alike)
+tried_alike said p q c v alike = ap (λ (r : Result (Unit {0}) Refusal). has_version v >>= λ _. has_no_journal (upper_of c v) v >>= λ _. r >>= λ _. settled said c v) (pages_alike p q alike)
 
 then_alike : {A B : Type 0} (first : Result A Refusal) (f g : A → Result B Refusal) → ((x : A) → f x ≡ g x) → (first >>= f) ≡ (first >>= g)
 then_alike (Ok x) f g same = same x
 then_alike (Err e) f g same = refl
 
-loaded_alike : (p q : LogPlace) (c : Content) (g : Geometry) (total : ℕ) → LieAlike p q → loaded_on p c g total ≡ loaded_on q c g total
+loaded_alike : (said : Said) (p q : LogPlace) (c : Content) (g : Geometry) (total : ℕ) → LieAlike p q → loaded_on said p c g total ≡ loaded_on said q c g total
 unfolding loaded_on
-loaded_alike p q c g total alike = then_alike (volume_on c g total) (tried p c) (tried q c) (λ v. tried_alike p q c v alike)
+loaded_alike said p q c g total alike = then_alike (volume_on c g total) (tried said p c) (tried said q c) (λ v. tried_alike said p q c v alike)
 
 -- ---- a volume that was opened
 
+-- what its shadows say is what its log says
+said_as : (c : Content) (meant : OpenedToWrite) (o : OpeningToWrite) → IsOpenedToWrite c meant o → least_lsn o.found.recovered.blocks.shadows.items ≡ shadow_lsn meant.state.log
+said_as c meant o h = fun_ext (λ b. least_held o.found.recovered.blocks.shadows.items h.found.recovered.blocks.shadowed_once b ∙ h.found.recovered.blocks.shadows b)
+
 -- what is loaded of it is what is meant
 loaded_as : (c : Content) (meant : OpenedToWrite) (o : OpeningToWrite) → IsOpenedToWrite c meant o
-    → loaded_on o.place (content_with o.found.recovered.blocks.bodies.items c) o.geometry o.total ≡ loaded_on meant.place (content_behind c meant) meant.geometry meant.total
+    → loaded_on (least_lsn o.found.recovered.blocks.shadows.items) o.place (content_with o.found.recovered.blocks.bodies.items c) o.geometry o.total ≡ loaded_on (shadow_lsn meant.state.log) meant.place (content_behind c meant) meant.geometry meant.total
 loaded_as c meant o h =
     let r : Content = content_with o.found.recovered.blocks.bodies.items c in
-    ap (λ (g : Geometry). loaded_on o.place r g o.total) h.geometry
-    ∙ ap (λ (n : ℕ). loaded_on o.place r meant.geometry n) h.total
-    ∙ ap (λ (x : Content). loaded_on o.place x meant.geometry meant.total) h.found.recovered.blocks.content
-    ∙ loaded_alike o.place meant.place (content_behind c meant) meant.geometry meant.total h.place
+    ap (λ (said : Said). loaded_on said o.place r o.geometry o.total) (said_as c meant o h)
+    ∙ ap (λ (g : Geometry). loaded_on (shadow_lsn meant.state.log) o.place r g o.total) h.geometry
+    ∙ ap (λ (n : ℕ). loaded_on (shadow_lsn meant.state.log) o.place r meant.geometry n) h.total
+    ∙ ap (λ (x : Content). loaded_on (shadow_lsn meant.state.log) o.place x meant.geometry meant.total) h.found.recovered.blocks.content
+    ∙ loaded_alike (shadow_lsn meant.state.log) o.place meant.place (content_behind c meant) meant.geometry meant.total h.place
 
 loading_fails : (c : Content) (meant : OpenedToWrite) (o : OpeningToWrite) (e : MountFault) → IsOpenedToWrite c meant o
-    → ExplainsOrFails (scan_cause e) (loaded_on o.place (content_with o.found.recovered.blocks.bodies.items c) o.geometry o.total) → MountsAs c (mounted_by c meant) (Err e)
+    → ExplainsOrFails (scan_cause e) (loaded_on (least_lsn o.found.recovered.blocks.shadows.items) o.place (content_with o.found.recovered.blocks.bodies.items c) o.geometry o.total) → MountsAs c (mounted_by c meant) (Err e)
 unfolding mounted_by
 loading_fails c meant o e h fails =
-    failed_error e (loaded_on meant.place (content_behind c meant) meant.geometry meant.total) (λ v. Ok (mounted_as c meant v))
+    failed_error e (loaded_on (shadow_lsn meant.state.log) meant.place (content_behind c meant) meant.geometry meant.total) (λ v. Ok (mounted_as c meant v))
     (subst (λ (r : Result Volume Refusal). ExplainsOrFails (scan_cause e) r) (loaded_as c meant o h) fails)
 
 module _ (c : Content) (meant : OpenedToWrite) (m : Mounted) (h : IsOpenedToWrite c meant m.opening) where
   shown : Content
   shown = content_of_mounted m c
 
-  module _ (is : loaded_on m.opening.place (content_of_mounted m c) m.opening.geometry m.opening.total ≡ Ok (volume_in m.map)) (upper : m.upper ≡ upper_of (content_of_mounted m c) (volume_in m.map)) where
+  module _ (is : loaded_on (least_lsn m.opening.found.recovered.blocks.shadows.items) m.opening.place (content_of_mounted m c) m.opening.geometry m.opening.total ≡ Ok (volume_in m.map)) (upper : m.upper ≡ upper_of (content_of_mounted m c) (volume_in m.map)) where
     parts : IsMounted c (mounted_as c meant (volume_in m.map)) m
     parts = record {
       opened = h;
       content = h.found.recovered.blocks.content;
       volume = refl;
       upper = upper ∙ ap (λ (x : Content). upper_of x (volume_in m.map)) h.found.recovered.blocks.content;
-      tree = known_where (Some (content_of_mounted m c)) m.upper (volume_in m.map) (unbroken m.opening.place (content_of_mounted m c) m.opening.geometry m.opening.total (volume_in m.map) is) upper
+      tree = known_where (Some (content_of_mounted m c)) m.upper (volume_in m.map) (unbroken (least_lsn m.opening.found.recovered.blocks.shadows.items) m.opening.place (content_of_mounted m c) m.opening.geometry m.opening.total (volume_in m.map) is) upper
           ∙ ap (λ (x : Content). Some (tree_of x (volume_in m.map))) h.found.recovered.blocks.content;
     }
 
@@ -123,13 +141,13 @@ module _ (c : Content) (meant : OpenedToWrite) (m : Mounted) (h : IsOpenedToWrit
 
 -- an error of the loading is that of the mount
 pub opening_fails : (known : Option Content) (o : OpeningToWrite) (e : MountFault)
-    → IfSome known (λ c. GivesOrFails {X = LoadedVolume} (λ l. volume_in l.map) scan_cause (Err e) (loaded_on o.place (content_with o.found.recovered.blocks.bodies.items c) o.geometry o.total))
+    → IfSome known (λ c. GivesOrFails {X = LoadedVolume} (λ l. volume_in l.map) scan_cause (Err e) (loaded_on (least_lsn o.found.recovered.blocks.shadows.items) o.place (content_with o.found.recovered.blocks.bodies.items c) o.geometry o.total))
     → IfSome known (λ c. (meant : OpenedToWrite) → IsOpenedToWrite c meant o → MountsAs c (mounted_by c meant) (Err e))
 opening_fails known o e h = one known _ (λ c. (meant : OpenedToWrite) → IsOpenedToWrite c meant o → MountsAs c (mounted_by c meant) (Err e)) (λ c p meant is. loading_fails c meant o e is p) h
 
 -- and what was loaded is mounted
 pub opening_is : (known : Option Content) (m : Mounted)
-    → IfSome known (λ c. loaded_on m.opening.place (content_of_mounted m c) m.opening.geometry m.opening.total ≡ Ok (volume_in m.map))
+    → IfSome known (λ c. loaded_on (least_lsn m.opening.found.recovered.blocks.shadows.items) m.opening.place (content_of_mounted m c) m.opening.geometry m.opening.total ≡ Ok (volume_in m.map))
     → IfSome known (λ c. m.upper ≡ upper_of (content_of_mounted m c) (volume_in m.map))
     → IfSome known (λ c. (meant : OpenedToWrite) → IsOpenedToWrite c meant m.opening → MountsAs c (mounted_by c meant) (Ok m))
 opening_is known m first second =

@@ -1,7 +1,8 @@
 -- A volume that is mounted: opened by its log, loaded, and refused by nothing; or the first refusal that applies.
-use Rattle.std.specs.Prelude.{ℕ, ◌+◌, ◌/◌, max, nat_le, not, List, is_some, Option, Result, Ok}
+use Rattle.std.specs.Prelude.{ℕ, ◌+◌, ◌/◌, max, nat_le, not, List, is_some, Option, Some, None, Result, Ok, Err}
 use Rattle.std.specs.Int.{div_ceil}
 use Rattle.host_base.specs.Answers.{◌>>=◌, needs}
+use Rattle.disk_model.specs.declared.block.Block.{Block}
 use Rattle.disk_model.specs.Content.{Content}
 use Rattle.file_tree.specs.declared.tree.Tree.{Tree}
 use Rattle.file_tree.specs.Walks.{child_in}
@@ -11,13 +12,15 @@ use Rattle.volume_model.specs.Volumes.{Volume, files_by_number, count_of, upper_
 use Rattle.volume_state.specs.Journals.{extend_file, journal_name}
 use Rattle.volume_state.specs.Trees.{tree_of}
 use Rattle.log_model.specs.Logs.{recovered}
+use Rattle.log_recovery.specs.Recovering.{shadow_lsn}
 use Rattle.log_page.specs.declared.places.LogPlace.{LogPlace}
 use Rattle.log_page.specs.Places.{page_bytes}
 use Rattle.image_open.specs.declared.refusal.Refusal.{Refusal}
-use Rattle.image_open.specs.declared.refusal.Refusal.TheVariants.{LogSmall, Unbuilt}
+use Rattle.image_open.specs.declared.refusal.Refusal.TheVariants.{LogSmall, Unbuilt, ForeignLog}
 use Rattle.image_open.specs.Volumes.{on_disk}
 use Rattle.image_open.specs.Writing.{OpenedToWrite, opened_to_write_in}
 use Rattle.image_read.specs.Checks.{volume_on, has_version, tree_on}
+use Rattle.volume_shadows.specs.Live.{least_live}
 
 -- ---- what a loaded volume is tried by
 
@@ -45,27 +48,44 @@ whole_pages place = place.initialised / page_bytes
 unfoldable pub has_pages : LogPlace → Result (Unit {0}) Refusal
 has_pages place = needs (nat_le (pages_needed place) (whole_pages place)) (LogSmall (whole_pages place) (pages_needed place))
 
+-- what the entries of a log say of a block: the LSN of the first update of a rival, where they shadow it
+abbrev pub Said : Type 0
+Said = Block → Option ℕ
+
+abbrev pub unless_said : Option ℕ → Volume → Result Volume Refusal
+unless_said None v = Ok v
+unless_said (Some lsn) v = Err (ForeignLog lsn)
+
+-- No live block is shadowed; else the log is refused with the LSN of the first update of a rival of such a block, of several the least.
+unfoldable pub unshadowed : Said → Volume → Result Volume Refusal
+unshadowed said v = unless_said (least_live said v) v
+
 -- ---- in their order
 
 -- the nine rules
 unfoldable pub ruled : Content → Volume → Result Volume Refusal
 ruled c v = tree_on c v >>= λ _. Ok v
 
--- the pages of the log, at this place, come before them
-unfoldable pub paged : LogPlace → Content → Volume → Result Volume Refusal
-paged place c v = has_pages place >>= λ _. ruled c v
+-- and behind them the live blocks
+unfoldable pub settled : Said → Content → Volume → Result Volume Refusal
+settled said c v = ruled c v >>= unshadowed said
 
--- a journal before these, by this table of upper-case units
-unfoldable pub unjournaled : List ℕ → LogPlace → Content → Volume → Result Volume Refusal
-unjournaled upper place c v = has_no_journal upper v >>= λ _. paged place c v
+-- the pages of the log, at this place, come before these
+unfoldable pub paged : Said → LogPlace → Content → Volume → Result Volume Refusal
+paged said place c v = has_pages place >>= λ _. settled said c v
+
+-- a journal before the pages, by this table of upper-case units
+unfoldable pub unjournaled : Said → List ℕ → LogPlace → Content → Volume → Result Volume Refusal
+unjournaled said upper place c v = has_no_journal upper v >>= λ _. paged said place c v
 
 -- and the version before all
-unfoldable pub tried : LogPlace → Content → Volume → Result Volume Refusal
-tried place c v = has_version v >>= λ _. unjournaled (upper_of c v) place c v
+unfoldable pub tried : Said → LogPlace → Content → Volume → Result Volume Refusal
+tried said place c v = has_version v >>= λ _. unjournaled said (upper_of c v) place c v
 
--- the volume that is loaded from a recovered content, of this geometry and so many clusters, whose log lies at this place
-unfoldable pub loaded_on : LogPlace → Content → Geometry → ℕ → Result Volume Refusal
-loaded_on place c g total = volume_on c g total >>= tried place c
+-- The volume that is loaded from a recovered content, of this geometry and so many clusters, whose log lies at this place and says
+-- this of its blocks.
+unfoldable pub loaded_on : Said → LogPlace → Content → Geometry → ℕ → Result Volume Refusal
+loaded_on said place c g total = volume_on c g total >>= tried said place c
 
 -- ---- what is mounted
 
@@ -92,7 +112,7 @@ mounted_as c o v = record { opened = o; content = content_behind c o; volume = v
 
 -- a volume that was opened
 unfoldable pub mounted_by : Content → OpenedToWrite → Result MountedVolume Refusal
-mounted_by c o = loaded_on o.place (content_behind c o) o.geometry o.total >>= λ v. Ok (mounted_as c o v)
+mounted_by c o = loaded_on (shadow_lsn o.state.log) o.place (content_behind c o) o.geometry o.total >>= λ v. Ok (mounted_as c o v)
 
 -- the mounted volume of a content on a device of so many sectors
 unfoldable pub mounted_in : Content → ℕ → Result MountedVolume Refusal
@@ -100,6 +120,6 @@ mounted_in c sectors = opened_to_write_in c sectors >>= mounted_by c
 
 -- The mounted volume on these sectors; or the first refusal that applies: a device of no sectors; the sectors of a cluster, the boot sector,
 -- the device's length, record 2, and the log, as a mount that writes opens a volume; the records of the file table; the version; a change
--- journal; the pages of the log; and the nine rules of a volume.
+-- journal; the pages of the log; the nine rules of a volume; and the log, by which a live block is shadowed.
 unfoldable pub mounted_of : List (List ℕ) → Result MountedVolume Refusal
 mounted_of disk = on_disk mounted_in disk

@@ -1,27 +1,29 @@
 //! A volume that is loaded, and what refuses it.
 ghost use Rattle.std.specs.Prelude.{◌≡◌, ◌*◌, ◌^◌, ◌<◌, Ok, All, IfOk, IfSome};
-ghost use Rattle.host_base.specs.Answers.{GivesOrFails};
+ghost use Rattle.host_base.specs.Answers.{Gives, GivesOrFails};
 ghost use Rattle.block_view.specs.Views.{AsksView};
 ghost use Rattle.volume_model.specs.Volumes.{upper_of};
 ghost use Rattle.volume_map.specs.Maps.{IsMapOf, volume_in};
 ghost use Rattle.log_recovery.specs.Recovering.{content_with, IsSized};
 ghost use Rattle.log_recovery.specs.Places.{HasPlaces};
 ghost use Rattle.image_open.specs.Errors.{scan_cause};
-ghost use Rattle.volume_mount.specs.Mounts.{ruled, paged, unjournaled, tried, loaded_on};
+ghost use Rattle.volume_shadows.specs.Live.{least_lsn};
+ghost use Rattle.volume_mount.specs.Mounts.{ruled, unshadowed, settled, paged, unjournaled, tried, loaded_on};
 
 use crate::journal::has_no_journal;
 use crate::pages::has_pages;
 use block_view::View;
 use disk_model::Body;
-use image_open::{MountFault, OpeningToWrite};
+use image_open::{MountFault, OpeningToWrite, Refusal};
 use image_read::{check_version, tree_on, volume_on};
 use log_page::LogPlace;
-use log_recovery::{Places, RecoveredView};
+use log_recovery::{Places, RecoveredView, Shadow};
 use state_model::Geometry;
 use std::alloc::Global;
 use system_files::upper_table;
 use upcase_order::Upcase;
 use volume_map::VolumeMap;
+use volume_shadows::least_live;
 
 /// A volume as it is loaded, and its table of upper-case units.
 #[derive(Drop)]
@@ -40,35 +42,63 @@ fn ruled<V: View>(alloc: Global, view: &mut V, map: &VolumeMap) -> Result<(), Mo
     Ok(())
 }
 
+// The same, of whose live blocks no log says anything by these shadows.
+#[tactic(auto, unfolding(crate::specs::Mounts::unshadowed, volume_shadows::specs::Live::least_live))]
+fn unshadowed(alloc: Global, map: &VolumeMap, shadows: &[Shadow]) -> Result<(), MountFault>
+    ensures { Gives (λ _. volume_in map.now) scan_cause result (unshadowed (least_lsn shadows.now) (volume_in map.now)) }
+{
+    match least_live(alloc, map.per_cluster, &map.files, shadows)? {
+        Some(lsn) => Err(MountFault::Refused(Refusal::ForeignLog { lsn })),
+        None => Ok(()),
+    }
+}
+
+// The same behind the nine rules.
+fn settled<V: View>(
+    alloc: Global,
+    view: &mut V,
+    shadows: &[Shadow],
+    map: &VolumeMap,
+) -> Result<(), MountFault>
+    requires parts { IfSome (V.content view.old) (λ c. IsMapOf c map.now) }
+    ensures answer { IfSome (V.content view.old) (λ c. GivesOrFails (λ _. volume_in map.now) scan_cause result (settled (least_lsn shadows.now) c (volume_in map.now))) }
+    ensures kept { AsksView V.content V.kept V.faults scan_cause view.old view.new result }
+{
+    ruled(alloc, view, map)?;
+    unshadowed(alloc, map, shadows)
+}
+
 // The same, whose log has the pages that it needs.
 fn paged<V: View>(
     alloc: Global,
     view: &mut V,
+    shadows: &[Shadow],
     place: &LogPlace,
     map: &VolumeMap,
 ) -> Result<(), MountFault>
     requires parts { IfSome (V.content view.old) (λ c. IsMapOf c map.now) }
-    ensures answer { IfSome (V.content view.old) (λ c. GivesOrFails (λ _. volume_in map.now) scan_cause result (paged place.now c (volume_in map.now))) }
+    ensures answer { IfSome (V.content view.old) (λ c. GivesOrFails (λ _. volume_in map.now) scan_cause result (paged (least_lsn shadows.now) place.now c (volume_in map.now))) }
     ensures kept { AsksView V.content V.kept V.faults scan_cause view.old view.new result }
 {
     has_pages(place)?;
-    ruled(alloc, view, map)
+    settled(alloc, view, shadows, map)
 }
 
 // The same, without a change journal by this table of upper-case units.
 fn unjournaled<V: View>(
     alloc: Global,
     view: &mut V,
+    shadows: &[Shadow],
     up: &Upcase,
     place: &LogPlace,
     map: &VolumeMap,
 ) -> Result<(), MountFault>
     requires parts { IfSome (V.content view.old) (λ c. IsMapOf c map.now) }
-    ensures answer { IfSome (V.content view.old) (λ c. GivesOrFails (λ _. volume_in map.now) scan_cause result (unjournaled up.now place.now c (volume_in map.now))) }
+    ensures answer { IfSome (V.content view.old) (λ c. GivesOrFails (λ _. volume_in map.now) scan_cause result (unjournaled (least_lsn shadows.now) up.now place.now c (volume_in map.now))) }
     ensures kept { AsksView V.content V.kept V.faults scan_cause view.old view.new result }
 {
     has_no_journal(alloc, map, up)?;
-    paged(alloc, view, place, map)
+    paged(alloc, view, shadows, place, map)
 }
 
 // The table of upper-case units of a loaded volume.
@@ -84,16 +114,17 @@ fn upper_on<V: View>(alloc: Global, view: &mut V, map: &VolumeMap) -> Result<Upc
 fn tried_upper<V: View>(
     alloc: Global,
     view: &mut V,
+    shadows: &[Shadow],
     place: &LogPlace,
     map: &VolumeMap,
 ) -> Result<Upcase, MountFault>
     requires parts { IfSome (V.content view.old) (λ c. IsMapOf c map.now) }
-    ensures answer { IfSome (V.content view.old) (λ c. GivesOrFails (λ _. volume_in map.now) scan_cause result (unjournaled (upper_of c (volume_in map.now)) place.now c (volume_in map.now))) }
+    ensures answer { IfSome (V.content view.old) (λ c. GivesOrFails (λ _. volume_in map.now) scan_cause result (unjournaled (least_lsn shadows.now) (upper_of c (volume_in map.now)) place.now c (volume_in map.now))) }
     ensures upper { IfSome (V.content view.old) (λ c. IfOk result (λ upper. upper ≡ upper_of c (volume_in map.now))) }
     ensures kept { AsksView V.content V.kept V.faults scan_cause view.old view.new result }
 {
     let upper = upper_on(alloc, view, map)?;
-    unjournaled(alloc, view, &upper, place, map)?;
+    unjournaled(alloc, view, shadows, &upper, place, map)?;
     Ok(upper)
 }
 
@@ -101,33 +132,35 @@ fn tried_upper<V: View>(
 fn tried<V: View>(
     alloc: Global,
     view: &mut V,
+    shadows: &[Shadow],
     place: &LogPlace,
     map: &VolumeMap,
 ) -> Result<Upcase, MountFault>
     requires parts { IfSome (V.content view.old) (λ c. IsMapOf c map.now) }
-    ensures answer { IfSome (V.content view.old) (λ c. GivesOrFails (λ _. volume_in map.now) scan_cause result (tried place.now c (volume_in map.now))) }
+    ensures answer { IfSome (V.content view.old) (λ c. GivesOrFails (λ _. volume_in map.now) scan_cause result (tried (least_lsn shadows.now) place.now c (volume_in map.now))) }
     ensures upper { IfSome (V.content view.old) (λ c. IfOk result (λ upper. upper ≡ upper_of c (volume_in map.now))) }
     ensures kept { AsksView V.content V.kept V.faults scan_cause view.old view.new result }
 {
     check_version(map)?;
-    tried_upper(alloc, view, place, map)
+    tried_upper(alloc, view, shadows, place, map)
 }
 
 // The volume of a content, of this geometry and so many clusters.
 fn loaded_on<V: View>(
     alloc: Global,
     view: &mut V,
+    shadows: &[Shadow],
     place: &LogPlace,
     geometry: &Geometry,
     total: u64,
 ) -> Result<LoadedVolume, MountFault>
     requires table { geometry.now.mft * geometry.now.per_cluster < 2 ^ 62 }
-    ensures answer { IfSome (V.content view.old) (λ c. GivesOrFails (λ l. volume_in l.map) scan_cause result (loaded_on place.now c geometry.now total)) }
+    ensures answer { IfSome (V.content view.old) (λ c. GivesOrFails (λ l. volume_in l.map) scan_cause result (loaded_on (least_lsn shadows.now) place.now c geometry.now total)) }
     ensures upper { IfSome (V.content view.old) (λ c. IfOk result (λ l. l.upper ≡ upper_of c (volume_in l.map))) }
     ensures kept { AsksView V.content V.kept V.faults scan_cause view.old view.new result }
 {
     let map = volume_on(alloc, view, geometry, total)?;
-    let upper = tried(alloc, view, place, &map)?;
+    let upper = tried(alloc, view, shadows, place, &map)?;
     Ok(LoadedVolume { map, upper })
 }
 
@@ -135,7 +168,9 @@ fn loaded_on<V: View>(
 /// bodies that recovery found, which stand at these places. It costs what a check does.
 ///
 /// - [`MountFault::Refused`]: the first refusal of the file table's records; then of the version;
-///   then of a change journal; then of the log's pages; then of the nine rules.
+///   then of a change journal; then of the log's pages; then of the nine rules; then
+///   [`Refusal::ForeignLog`] where the log shadows a live block, with the LSN of the first update of
+///   a rival, of several the least.
 /// - [`MountFault::Device`]: the view failed.
 /// - [`MountFault::Memory`]: want of memory.
 pub fn load_recovered<V: View>(
@@ -147,7 +182,7 @@ pub fn load_recovered<V: View>(
     requires table { opening.now.geometry.mft * opening.now.geometry.per_cluster < 2 ^ 62 }
     requires sized { All IsSized opening.now.found.recovered.blocks.bodies.items }
     requires right { HasPlaces opening.now.found.recovered.blocks.bodies.items places.now }
-    ensures answer { IfSome (V.content view.old) (λ c. GivesOrFails (λ l. volume_in l.map) scan_cause result (loaded_on opening.now.place (content_with opening.now.found.recovered.blocks.bodies.items c) opening.now.geometry opening.now.total)) }
+    ensures answer { IfSome (V.content view.old) (λ c. GivesOrFails (λ l. volume_in l.map) scan_cause result (loaded_on (least_lsn opening.now.found.recovered.blocks.shadows.items) opening.now.place (content_with opening.now.found.recovered.blocks.bodies.items c) opening.now.geometry opening.now.total)) }
     ensures upper { IfSome (V.content view.old) (λ c. IfOk result (λ l. l.upper ≡ upper_of (content_with opening.now.found.recovered.blocks.bodies.items c) (volume_in l.map))) }
     ensures kept { AsksView V.content V.kept V.faults scan_cause view.old view.new result }
 {
@@ -156,6 +191,7 @@ pub fn load_recovered<V: View>(
     loaded_on(
         alloc,
         &mut recovered,
+        &opening.found.recovered.blocks.shadows,
         &opening.place,
         &opening.geometry,
         opening.total,

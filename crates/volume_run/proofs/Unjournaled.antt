@@ -9,12 +9,14 @@ use Rattle.state_model.specs.declared.geometry.Geometry.{Geometry}
 use Rattle.volume_model.specs.Volumes.{Volume, upper_of}
 use Rattle.volume_state.specs.Journals.{journal_file, journal_of, some_journal, file_or_none, journal_of_file}
 use Rattle.volume_state.specs.Trees.{volume_journal, tree_with, tree_of}
+use Rattle.log_recovery.specs.Recovering.{shadow_lsn}
+use Rattle.volume_shadows.specs.Live.{least_live}
 use Rattle.log_page.specs.declared.places.LogPlace.{LogPlace}
 use Rattle.image_open.specs.declared.refusal.Refusal.{Refusal}
 use Rattle.image_open.specs.declared.refusal.Refusal.TheVariants.{Short, Unbuilt}
 use Rattle.image_open.specs.Writing.{OpenedToWrite, opened_to_write_in}
 use Rattle.image_read.specs.Checks.{volume_on, has_version, tree_on}
-use Rattle.volume_mount.specs.Mounts.{MountedVolume, journal_number, has_no_journal, has_pages, ruled, paged, unjournaled, tried, loaded_on, content_behind, mounted_as, mounted_by, mounted_in, mounted_of, tree_in}
+use Rattle.volume_mount.specs.Mounts.{MountedVolume, Said, unless_said, unshadowed, journal_number, has_no_journal, has_pages, ruled, settled, paged, unjournaled, tried, loaded_on, content_behind, mounted_as, mounted_by, mounted_in, mounted_of, tree_in}
 
 none_of : {X : Type 0} (o : Option X) → not (is_some o) ≡ true → o ≡ None
 none_of None e = refl
@@ -46,28 +48,33 @@ number_none upper v e = by_test (is_some (journal_number upper v)) refl e
 same_unit : (x : Unit {0}) → x ≡ tt
 same_unit tt = refl
 
--- what is tried and isn't refused has none, and is given back as it is
-tried_is : (place : LogPlace) (c : Content) (v w : Volume) → tried place c v ≡ Ok w → (tree_of c v).journal ≡ None × (v ≡ w)
-unfolding tried unjournaled paged ruled
-tried_is place c v w e =
-    let version = steps_from_ok (has_version v) (λ _. unjournaled (upper_of c v) place c v) w e in
-    let journal = steps_from_ok (has_no_journal (upper_of c v) v) (λ _. paged place c v) w version.2 in
-    let pages = steps_from_ok (has_pages place) (λ _. ruled c v) w journal.2 in
-    let rules = steps_from_ok (tree_on c v) (λ _. Ok v) w pages.2 in
-    (journal_none c v (number_none (upper_of c v) v (journal.1 ∙ ap (λ (x : Unit {0}). Ok x) (same_unit journal.0))), ok_same v w rules.2)
+unless_is : (said : Option ℕ) (v w : Volume) → unless_said said v ≡ Ok w → v ≡ w
+unless_is None v w e = ok_same v w e
+unless_is (Some lsn) v w e = absurd cc
 
-loaded_is : (place : LogPlace) (c : Content) (g : Geometry) (total : ℕ) (w : Volume) → loaded_on place c g total ≡ Ok w → (tree_of c w).journal ≡ None
+-- what is tried and isn't refused has none, and is given back as it is
+tried_is : (said : Said) (place : LogPlace) (c : Content) (v w : Volume) → tried said place c v ≡ Ok w → (tree_of c v).journal ≡ None × (v ≡ w)
+unfolding tried unjournaled paged settled unshadowed ruled
+tried_is said place c v w e =
+    let version = steps_from_ok (has_version v) (λ _. unjournaled said (upper_of c v) place c v) w e in
+    let journal = steps_from_ok (has_no_journal (upper_of c v) v) (λ _. paged said place c v) w version.2 in
+    let pages = steps_from_ok (has_pages place) (λ _. settled said c v) w journal.2 in
+    let blocks = steps_from_ok (ruled c v) (unshadowed said) w pages.2 in
+    let rules = steps_from_ok (tree_on c v) (λ _. Ok v) blocks.0 blocks.1 in
+    (journal_none c v (number_none (upper_of c v) v (journal.1 ∙ ap (λ (x : Unit {0}). Ok x) (same_unit journal.0))), ok_same v blocks.0 rules.2 ∙ unless_is (least_live said blocks.0) blocks.0 w blocks.2)
+
+loaded_is : (said : Said) (place : LogPlace) (c : Content) (g : Geometry) (total : ℕ) (w : Volume) → loaded_on said place c g total ≡ Ok w → (tree_of c w).journal ≡ None
 unfolding loaded_on
-loaded_is place c g total w e =
-    let volume = steps_from_ok (volume_on c g total) (tried place c) w e in
-    let found = tried_is place c volume.0 w volume.2 in
+loaded_is said place c g total w e =
+    let volume = steps_from_ok (volume_on c g total) (tried said place c) w e in
+    let found = tried_is said place c volume.0 w volume.2 in
     subst (λ (v : Volume). (tree_of c v).journal ≡ None) found.1 found.0
 
 by_opening : (c : Content) (o : OpenedToWrite) (m : MountedVolume) → mounted_by c o ≡ Ok m → (tree_in m).journal ≡ None
 unfolding mounted_by
 by_opening c o m e =
-    let loaded = steps_from_ok (loaded_on o.place (content_behind c o) o.geometry o.total) (λ v. Ok (mounted_as c o v)) m e in
-    subst (λ (x : MountedVolume). (tree_in x).journal ≡ None) (ok_same (mounted_as c o loaded.0) m loaded.2) (loaded_is o.place (content_behind c o) o.geometry o.total loaded.0 loaded.1)
+    let loaded = steps_from_ok (loaded_on (shadow_lsn o.state.log) o.place (content_behind c o) o.geometry o.total) (λ v. Ok (mounted_as c o v)) m e in
+    subst (λ (x : MountedVolume). (tree_in x).journal ≡ None) (ok_same (mounted_as c o loaded.0) m loaded.2) (loaded_is (shadow_lsn o.state.log) o.place (content_behind c o) o.geometry o.total loaded.0 loaded.1)
 
 pub no_journal : (disk : List (List ℕ)) (m : MountedVolume) → mounted_of disk ≡ Ok m → (tree_in m).journal ≡ None
 unfolding mounted_of mounted_in

@@ -1,0 +1,6 @@
+pub mod Leasts
+pub mod Sorting
+pub mod Placing
+pub mod Streaming
+pub mod Holding
+pub mod Listing

@@ -1,0 +1,4 @@
+pub mod Least
+pub mod Live
+pub mod Tries
+pub mod Laws
