@@ -22,7 +22,7 @@ use Rattle.draft_streams.specs.Parts.{touch_bytes, first_sector, sector_count}
 use Rattle.draft_streams.specs.Effects.{HasOwnSectors, byte_put, BytesArePut}
 use Rattle.draft_streams.proofs.Effecting.{effects}
 use Rattle.draft_bits.specs.Filling.{FillsBytes, byte_count, bytes_from, first_past, PutsBits}
-use Rattle.draft_bits.specs.Effects.{stream_bit, IsKept, BitsArePut}
+use Rattle.draft_bits.specs.Effects.{stream_bit, IsKept, IsNoSector, BitsArePut}
 
 -- ---- bytes of the stream
 
@@ -30,7 +30,7 @@ when_so : (t : Bool) (x : ℕ) → t ≡ true → cond t x 0 ≡ x
 when_so true x is = refl
 when_so false x is = absurd cc
 
-byte_of : (c : Content) (per : ℕ) (e : Extents) (k : ℕ) (o : Option Block) → k < e.initialised → block_at per e.runs Plain (k / 512) ≡ o → byte_at c per e k ≡ slice_index (sector_bytes c o) (k % 512)
+pub byte_of : (c : Content) (per : ℕ) (e : Extents) (k : ℕ) (o : Option Block) → k < e.initialised → block_at per e.runs Plain (k / 512) ≡ o → byte_at c per e k ≡ slice_index (sector_bytes c o) (k % 512)
 unfolding byte_at
 byte_of c per e k o below lies =
     when_so _ (slice_index (sector_bytes c (block_at per e.runs Plain (k / 512))) (k % 512)) (lt-ltb k e.initialised below)
@@ -39,14 +39,14 @@ byte_of c per e k o below lies =
 are_of : (touched : List Touched) → IsKept touched → AreBodies (bodies_of touched)
 are_of touched is = are_bodies touched is.rises is.whole
 
-drafted_body : (c : Content) (touched : List Touched) (b : Block) (bytes : List ℕ) → HasSizes c → IsKept touched → body_in (bodies_of touched) b ≡ Some bytes → (drafted touched c b).bytes ≡ bytes
+pub drafted_body : (c : Content) (touched : List Touched) (b : Block) (bytes : List ℕ) → HasSizes c → IsKept touched → body_in (bodies_of touched) b ≡ Some bytes → (drafted touched c b).bytes ≡ bytes
 drafted_body c touched b bytes sized is put = ap (λ (x : BodyOf). x.bytes) (body_put c (bodies_of touched) b sized (are_of touched is) ∙ ap (body_or (c b)) put)
 
-drafted_same : (c : Content) (old new : List Touched) (b : Block) → HasSizes c → IsKept old → IsKept new → body_in (bodies_of new) b ≡ body_in (bodies_of old) b → drafted new c b ≡ drafted old c b
+pub drafted_same : (c : Content) (old new : List Touched) (b : Block) → HasSizes c → IsKept old → IsKept new → body_in (bodies_of new) b ≡ body_in (bodies_of old) b → drafted new c b ≡ drafted old c b
 drafted_same c old new b sized old_is new_is same = body_put c (bodies_of new) b sized (are_of new new_is) ∙ ap (body_or (c b)) same ∙ sym (body_put c (bodies_of old) b sized (are_of old old_is))
 
 -- a byte that is put
-byte_there : (c : Content) (per : ℕ) (e : Extents) (new : List Touched) (b : Block) (k value : ℕ) → HasSizes c → IsKept new → k < e.initialised → block_at per e.runs Plain (k / 512) ≡ Some b → byte_put new b k value → byte_at (drafted new c) per e k ≡ value
+pub byte_there : (c : Content) (per : ℕ) (e : Extents) (new : List Touched) (b : Block) (k value : ℕ) → HasSizes c → IsKept new → k < e.initialised → block_at per e.runs Plain (k / 512) ≡ Some b → byte_put new b k value → byte_at (drafted new c) per e k ≡ value
 byte_there c per e new b k value sized is below lies put =
     byte_of (drafted new c) per e k (Some b) below lies
     ∙ ap (λ (l : List ℕ). slice_index l (k % 512)) (drafted_body c new b put.0 sized is put.1.0)
@@ -153,8 +153,37 @@ module _ (c : Content) (per : ℕ) (e : Extents) (first len i : ℕ) (value : Bo
   anywhere None lies out = ap (λ (x : ℕ). is_one x (i % 8)) (byte_of (drafted new c) per e k None below lies ∙ sym (byte_of (drafted old c) per e k None below lies))
   anywhere (Some b) lies out = at_block b lies out
 
+-- ---- what else is touched
+
+same_at : (c : Content) (per : ℕ) (e : Extents) (i : ℕ) (old new : List Touched) (o : Option Block) → HasSizes c → IsKept old → IsKept new → i / 8 < e.initialised → block_at per e.runs Plain (i / 8 / 512) ≡ o
+    → ((b : Block) → o ≡ Some b → body_in (bodies_of new) b ≡ body_in (bodies_of old) b) → stream_bit (drafted new c) per e i ≡ stream_bit (drafted old c) per e i
+same_at c per e i old new None sized old_is new_is below lies same =
+    ap (λ (x : ℕ). is_one x (i % 8)) (byte_of (drafted new c) per e (i / 8) None below lies ∙ sym (byte_of (drafted old c) per e (i / 8) None below lies))
+same_at c per e i old new (Some b) sized old_is new_is below lies same =
+    ap (λ (x : ℕ). is_one x (i % 8))
+    (byte_of (drafted new c) per e (i / 8) (Some b) below lies
+    ∙ ap (λ (x : BodyOf). slice_index x.bytes (i / 8 % 512)) (drafted_same c old new b sized old_is new_is (same b refl))
+    ∙ sym (byte_of (drafted old c) per e (i / 8) (Some b) below lies))
+
+-- a bit whose sector has the same body is the same
+pub same_bit : (c : Content) (per : ℕ) (e : Extents) (i : ℕ) (old new : List Touched) → HasSizes c → IsKept old → IsKept new → i / 8 < e.initialised
+    → ((b : Block) → block_at per e.runs Plain (i / 8 / 512) ≡ Some b → body_in (bodies_of new) b ≡ body_in (bodies_of old) b) → stream_bit (drafted new c) per e i ≡ stream_bit (drafted old c) per e i
+same_bit c per e i old new sized old_is new_is below same = same_at c per e i old new (block_at per e.runs Plain (i / 8 / 512)) sized old_is new_is below refl same
+
+are_elsewhere : (c : Content) (per : ℕ) (e : Extents) (first len : ℕ) (value : Bool) (old new : List Touched) (b : Block) → PutsBits c per e first len value old new → IsNoSector per e.runs b → body_in (bodies_of new) b ≡ body_in (bodies_of old) b
+are_elsewhere c per e first len value old new b put apart =
+    ap (λ (t : List Touched). body_in (bodies_of t) b) put.1.1 ∙ effects.others c per e.runs (first_past e) (first / 8) put.0 old b (λ s a low high there. apart s a there)
+
+stay_kept : (c : Content) (per : ℕ) (e : Extents) (first len : ℕ) (value : Bool) (old new : List Touched) → HasSizes c → IsKept old → PutsBits c per e first len value old new → IsKept new
+stay_kept c per e first len value old new sized is put = subst IsKept (sym put.1.1) (record {
+  rises = effects.order c per e.runs (first_past e) (first / 8) put.0 old sized is.rises is.whole;
+  whole = effects.sizes c per e.runs (first_past e) (first / 8) put.0 old sized is.rises is.whole;
+})
+
 pub bits_put : BitsArePut
 bits_put = record {
   inside = λ c per e first len i value old new b sized old_is new_is own put below lies low high. is_inside c per e first len i value old new sized old_is new_is own put below b lies low high;
   others = λ c per e first len i value old new sized old_is new_is own put below out. anywhere c per e first len i value old new sized old_is new_is own put below (block_at per e.runs Plain (i / 8 / 512)) refl out;
+  elsewhere = are_elsewhere;
+  kept = stay_kept;
 }

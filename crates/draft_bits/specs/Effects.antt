@@ -1,13 +1,16 @@
 -- What bits that are put into a bitmap in clusters make of it.
-use Rattle.std.specs.Prelude.{◌≡◌, ◌⊎◌, ℕ, ◌+◌, ◌/◌, ◌%◌, ◌<◌, ◌≤◌, true, Bool, All, List, Some}
+use Rattle.std.specs.Prelude.{◌≡◌, ◌⊎◌, ℕ, ◌+◌, ◌/◌, ◌%◌, ◌<◌, ◌≤◌, true, false, Bool, All, List, Some}
 use Rattle.disk_model.specs.declared.block.Block.{Block}
 use Rattle.disk_model.specs.declared.block.BlockKind.TheVariants.{Plain}
 use Rattle.disk_model.specs.Content.{Content, HasSizes}
+use Rattle.disk_model.specs.Sectors.{same_block}
+use Rattle.record_model.specs.declared.runs.Run.{Run}
 use Rattle.bit_set.specs.Words.{is_one}
 use Rattle.state_model.specs.declared.stream.Extents.{Extents}
 use Rattle.state_model.specs.Streams.{block_at, byte_at}
+use Rattle.plan_bodies.specs.Bodies.{body_in}
 use Rattle.plan_draft.specs.declared.touched.Touched.{Touched}
-use Rattle.plan_draft.specs.Touching.{rises, keys_of, IsWhole}
+use Rattle.plan_draft.specs.Touching.{bodies_of, rises, keys_of, IsWhole}
 use Rattle.plan_draft.specs.Drafts.{drafted}
 use Rattle.draft_streams.specs.Effects.{HasOwnSectors}
 use Rattle.draft_bits.specs.Filling.{PutsBits}
@@ -21,10 +24,17 @@ pub record IsKept (touched : List Touched) : Type 0 where
   pub rises : rises 0 (keys_of touched) ≡ true
   pub whole : All IsWhole touched
 
+-- the block isn't a sector of the stream
+abbrev pub IsNoSector : ℕ → List Run → Block → Type 0
+IsNoSector per runs b = (s : ℕ) (a : Block) → block_at per runs Plain s ≡ Some a → same_block b a ≡ false
+
 -- Where the sectors of the stream lie apart, the bits that are put have the value, if their sectors lie in runs, and each other bit
--- is as before, as far as bytes lie below the initialised size.
+-- is as before, as far as bytes lie below the initialised size. No block is touched but the stream's sectors, and what is touched are
+-- whole bodies in order.
 pub record BitsArePut : Type 0 where
   pub inside : (c : Content) (per : ℕ) (e : Extents) (first len i : ℕ) (value : Bool) (old new : List Touched) (b : Block) → HasSizes c → IsKept old → IsKept new → HasOwnSectors per e.runs → PutsBits c per e first len value old new
       → i / 8 < e.initialised → block_at per e.runs Plain (i / 8 / 512) ≡ Some b → first ≤ i → i < first + len → stream_bit (drafted new c) per e i ≡ value
   pub others : (c : Content) (per : ℕ) (e : Extents) (first len i : ℕ) (value : Bool) (old new : List Touched) → HasSizes c → IsKept old → IsKept new → HasOwnSectors per e.runs → PutsBits c per e first len value old new
       → i / 8 < e.initialised → (i < first) ⊎ (first + len ≤ i) → stream_bit (drafted new c) per e i ≡ stream_bit (drafted old c) per e i
+  pub elsewhere : (c : Content) (per : ℕ) (e : Extents) (first len : ℕ) (value : Bool) (old new : List Touched) (b : Block) → PutsBits c per e first len value old new → IsNoSector per e.runs b → body_in (bodies_of new) b ≡ body_in (bodies_of old) b
+  pub kept : (c : Content) (per : ℕ) (e : Extents) (first len : ℕ) (value : Bool) (old new : List Touched) → HasSizes c → IsKept old → PutsBits c per e first len value old new → IsKept new

@@ -33,8 +33,9 @@ fn filled(byte: u8, from: u64, len: u64, value: bool) -> u8
     if value { byte | mask } else { byte & !mask }
 }
 
-// Sets or clears the bits from `first` on, below `end`.
-pub fn fill(bytes: &mut [u8], first: u64, end: u64, value: bool)
+/// Sets or clears the bits of bytes from the number `first` on, below `end`, and leaves the others;
+/// they count from the low bit of the first byte. It takes time linear in the bytes that have them.
+pub fn fill_bits(bytes: &mut [u8], first: u64, end: u64, value: bool)
     requires order { first ≤ end }
     requires within { end ≤ 8 * length bytes.old }
     ensures { FillsBytes bytes.old bytes.new first end value }

@@ -7,6 +7,7 @@ mod laws;
 mod putting;
 
 pub use block_view::{View, ViewFault};
+pub use bytes::fill_bits;
 pub use laws::bits_are_put;
 pub use plan_draft::Draft;
 pub use putting::put_bits;

@@ -5,7 +5,7 @@ ghost use Rattle.plan_draft.specs.Drafts.{drafted};
 ghost use Rattle.plan_draft.specs.Faults.{fault_cause};
 ghost use Rattle.draft_bits.specs.Filling.{byte_count, bytes_from, first_past, AreFilled, PutsBits, PutsFront};
 
-use crate::bytes::fill as fill_bits;
+use crate::bytes::fill_bits;
 use block_view::{View, ViewFault};
 use disk_model::Body;
 use draft_streams::put_bytes;

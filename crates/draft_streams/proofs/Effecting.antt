@@ -204,4 +204,6 @@ effects = record {
         ),
       ));
   others = λ c per runs fresh at bytes touched b apart. elsewhere c per runs fresh at bytes (first_sector at) touched (sector_count at (length bytes)) b apart;
+  order = λ c per runs fresh at bytes touched sized up whole. (draft_after c per runs fresh at bytes (first_sector at) touched (sector_count at (length bytes)) sized (record { up = up; whole = whole })).up;
+  sizes = λ c per runs fresh at bytes touched sized up whole. (draft_after c per runs fresh at bytes (first_sector at) touched (sector_count at (length bytes)) sized (record { up = up; whole = whole })).whole;
 }

@@ -21,7 +21,7 @@ abbrev pub byte_put : List Touched → Block → ℕ → ℕ → Type 0
 byte_put touched b i value = (bytes : List ℕ) × ((body_in (bodies_of touched) b ≡ Some bytes) × (slice_index bytes (i % 512) ≡ value))
 
 -- Each byte stands at its place; in the same sectors the others are those of before, or zeros in a fresh one that wasn't put; and
--- no other block is touched.
+-- no other block is touched. What is touched stays whole bodies in order.
 pub record BytesArePut : Type 0 where
   pub inside : (c : Content) (per : ℕ) (runs : List Run) (fresh at i : ℕ) (bytes : List ℕ) (touched : List Touched) (b : Block) → HasSizes c → rises 0 (keys_of touched) ≡ true → All IsWhole touched → HasOwnSectors per runs
       → block_at per runs Plain (i / 512) ≡ Some b → at ≤ i → i < at + length bytes → byte_put (touch_bytes c per runs fresh at bytes touched) b i (slice_index bytes (i - at))
@@ -31,3 +31,5 @@ pub record BytesArePut : Type 0 where
   pub others : (c : Content) (per : ℕ) (runs : List Run) (fresh at : ℕ) (bytes : List ℕ) (touched : List Touched) (b : Block)
       → ((s : ℕ) (a : Block) → first_sector at ≤ s → s < first_sector at + sector_count at (length bytes) → block_at per runs Plain s ≡ Some a → same_block b a ≡ false)
       → body_in (bodies_of (touch_bytes c per runs fresh at bytes touched)) b ≡ body_in (bodies_of touched) b
+  pub order : (c : Content) (per : ℕ) (runs : List Run) (fresh at : ℕ) (bytes : List ℕ) (touched : List Touched) → HasSizes c → rises 0 (keys_of touched) ≡ true → All IsWhole touched → rises 0 (keys_of (touch_bytes c per runs fresh at bytes touched)) ≡ true
+  pub sizes : (c : Content) (per : ℕ) (runs : List Run) (fresh at : ℕ) (bytes : List ℕ) (touched : List Touched) → HasSizes c → rises 0 (keys_of touched) ≡ true → All IsWhole touched → All IsWhole (touch_bytes c per runs fresh at bytes touched)

@@ -1,15 +1,15 @@
 -- Steps of a choice of clusters.
-use Rattle.std.proofs.Common.{◌≡◌, ℕ, zero, suc, ◌+◌, ◌-◌, ◌<◌, ◌≤◌, Bool, true, false, not, List, [], ◌∷◌, ◌++◌, length, refl, sym, ap, ap₂, subst, ◌∙◌, inl, inr, arith}
-use Rattle.std.specs.Prelude.{◌==◌, count_by, MatchOption, Option, Some, None}
+use Rattle.std.proofs.Common.{◌≡◌, ℕ, zero, suc, ◌+◌, ◌-◌, ◌<◌, ◌≤◌, Bool, true, false, not, List, [], ◌∷◌, ◌++◌, length, take, refl, sym, ap, ap₂, subst, ◌∙◌, inl, inr, arith}
+use Rattle.std.specs.Prelude.{◌==◌, count_by, MatchOption, Option, Some, None, Result, Ok, Err, OnErr}
 use Rattle.std.proofs.lemmas.Bool.{cases_lt, false≢true}
-use Rattle.std.proofs.lemmas.List.{append_assoc, append-nil}
+use Rattle.std.proofs.lemmas.List.{append_assoc, append-nil, take_all}
 use Rattle.std.proofs.lemmas.Bool.Decides.{nat_tests}
 use Rattle.record_model.specs.declared.runs.Run.{Run}
 use Rattle.bit_set.specs.Bits.{bit, IsClearRun, IsFirstRun, IsLongestRun}
 use Rattle.space_model.specs.Choosing.{with_run, with_runs, run_at, behind, chosen_anywhere, chosen}
 use Rattle.space_model.proofs.Fitting.{counted_after}
 use Rattle.space_model.proofs.Searching.{first_is_fit, first_at_once, longest_is_fit, longest_at_once, all_set, enough, step_is, behind_is}
-use Rattle.plan_space.specs.Choices.{IsNextRun, TakesRun, TakesBehind}
+use Rattle.plan_space.specs.Choices.{IsNextRun, TakesFirst, TakesRun, TakesBehind}
 
 pub next_first : (bits : List Bool) (wanted first : ℕ) → 0 < wanted → IsFirstRun bits wanted first → IsNextRun bits wanted first wanted
 next_first bits wanted first some found = record { some = some; once = first_at_once bits wanted first found; fit = first_is_fit bits wanted first found; few = omega arith; clear = found.run }
@@ -28,9 +28,44 @@ next_longest bits wanted (Some run) some room none found = record {
   clear = found.run;
 }
 
+pub none_left : (bits : List Bool) (vcn n : ℕ) → n ≡ 0 → chosen_anywhere n bits vcn n ≡ []
+unfolding chosen_anywhere
+none_left bits vcn zero e = refl
+none_left bits vcn (suc n) e = absurd (omega (arith, e))
+
+pub with_none : (runs : List Run) (bits : List Bool) → runs ≡ [] → with_runs runs bits ≡ bits
+unfolding with_runs
+with_none [] bits e = refl
+with_none (r ∷ runs) bits e = ap (λ (rs : List Run). with_runs rs bits) e
+
 with_first : (vcn first len : ℕ) (runs : List Run) (bits : List Bool) → with_runs (run_at vcn first len ∷ runs) bits ≡ with_runs runs (with_run first len bits)
 unfolding with_runs
 with_first vcn first len runs bits = refl
+
+-- ---- the first of the runs
+
+pub on_err : {T E : Type 0} (r : Result T E) (P : Type 0) → P → OnErr r P
+on_err (Ok x) P holds = tt
+on_err (Err e) P holds = holds
+
+pub takes_none_yet : (runs : List Run) (old new : List Bool) → new ≡ old → TakesFirst runs old new
+takes_none_yet runs old new same = (0, same ∙ sym (with_none [] old refl))
+
+-- with a run in front of the others
+takes_further : (vcn first len : ℕ) (runs : List Run) (old new end : List Bool) → new ≡ with_run first len old → TakesFirst runs new end → TakesFirst (run_at vcn first len ∷ runs) old end
+takes_further vcn first len runs old new end is front = (suc front.0, front.1 ∙ ap (with_runs (take front.0 runs)) is ∙ sym (with_first vcn first len (take front.0 runs) old))
+
+takes_one : (vcn first len : ℕ) (runs : List Run) (old new : List Bool) → new ≡ with_run first len old → TakesFirst (run_at vcn first len ∷ runs) old new
+takes_one vcn first len runs old new is = takes_further vcn first len runs old new new is (takes_none_yet runs new new refl)
+
+pub takes_all : (runs : List Run) (old new : List Bool) → new ≡ with_runs runs old → TakesFirst runs old new
+takes_all runs old new is = (length runs, is ∙ ap (λ (l : List Run). with_runs l old) (sym (take_all (length runs) runs (omega arith))))
+
+-- the run that is taken next is the first of what is chosen
+pub takes_next : (old new : List Bool) (vcn wanted first len : ℕ) → IsNextRun old wanted first len → new ≡ with_run first len old → TakesFirst (chosen_anywhere wanted old vcn wanted) old new
+takes_next old new vcn wanted first len next is =
+    subst (λ (l : List Run). TakesFirst l old new) (sym (step_is old vcn wanted len first next.some next.once next.fit))
+    (takes_one vcn first len (chosen_anywhere (wanted - len) (with_run first len old) (vcn + len) (wanted - len)) old new is)
 
 pub taken_run : (old new : List Bool) (runs more : List Run) (vcn wanted first len : ℕ) → IsNextRun old wanted first len → new ≡ with_run first len old → more ≡ runs ++ run_at vcn first len ∷ [] → TakesRun old new runs more vcn wanted len
 taken_run old new runs more vcn wanted first len next is added =
@@ -47,17 +82,10 @@ taken_run old new runs more vcn wanted first len next is added =
       bits =
           ap (λ (b : List Bool). with_runs (chosen_anywhere (wanted - len) b (vcn + len) (wanted - len)) b) is
           ∙ sym (ap (λ (a : List Run). with_runs a old) step ∙ with_first vcn first len (chosen_anywhere (wanted - len) (with_run first len old) (vcn + len) (wanted - len)) old);
+      first = λ last front. subst (λ (l : List Run). TakesFirst l old last) (sym step)
+          (takes_further vcn first len (chosen_anywhere (wanted - len) (with_run first len old) (vcn + len) (wanted - len)) old new last is
+          (subst (λ (b : List Bool). TakesFirst (chosen_anywhere (wanted - len) b (vcn + len) (wanted - len)) new last) is front));
     })
-
-pub none_left : (bits : List Bool) (vcn n : ℕ) → n ≡ 0 → chosen_anywhere n bits vcn n ≡ []
-unfolding chosen_anywhere
-none_left bits vcn zero e = refl
-none_left bits vcn (suc n) e = absurd (omega (arith, e))
-
-pub with_none : (runs : List Run) (bits : List Bool) → runs ≡ [] → with_runs runs bits ≡ bits
-unfolding with_runs
-with_none [] bits e = refl
-with_none (r ∷ runs) bits e = ap (λ (rs : List Run). with_runs rs bits) e
 
 less_left : (wanted taken len : ℕ) → wanted - (taken + len) ≡ wanted - taken - len
 less_left wanted taken len = omega arith
@@ -79,6 +107,13 @@ pub bits_more : (old mid new : List Bool) (more most : List Run) (vcn wanted tak
     → with_runs (chosen_anywhere (wanted - (taken + len)) new (vcn + (taken + len)) (wanted - (taken + len))) new ≡ with_runs (chosen_anywhere wanted old vcn wanted) old
 bits_more old mid new more most vcn wanted taken len few before takes =
     ap₂ (λ (n : ℕ) (v : ℕ). with_runs (chosen_anywhere n new v n) new) (less_left wanted taken len) (further vcn taken len) ∙ takes.bits ∙ before
+
+pub first_more : (old mid new : List Bool) (more most : List Run) (vcn wanted taken len : ℕ)
+    → ((last : List Bool) → TakesFirst (chosen_anywhere (wanted - taken) mid (vcn + taken) (wanted - taken)) mid last → TakesFirst (chosen_anywhere wanted old vcn wanted) old last)
+    → TakesRun mid new more most (vcn + taken) (wanted - taken) len
+    → (last : List Bool) → TakesFirst (chosen_anywhere (wanted - (taken + len)) new (vcn + (taken + len)) (wanted - (taken + len))) new last → TakesFirst (chosen_anywhere wanted old vcn wanted) old last
+first_more old mid new more most vcn wanted taken len before takes =
+    λ last front. before last (takes.first last (subst (λ (l : List Run). TakesFirst l new last) (ap₂ (λ (n : ℕ) (v : ℕ). chosen_anywhere n new v n) (less_left wanted taken len) (further vcn taken len)) front))
 
 -- nothing taken yet
 pub untaken : (n : ℕ) → n - 0 ≡ n
@@ -120,6 +155,7 @@ takes_none bits last n runs none is = record {
   room = λ room. omega arith;
   runs = ap₂ (λ (a : List Run) (m : ℕ). a ++ chosen_anywhere m bits 0 m) none (untaken n) ∙ sym is;
   bits = ap (λ (m : ℕ). with_runs (chosen_anywhere m bits 0 m) bits) (untaken n) ∙ ap (λ (a : List Run). with_runs a bits) (sym is);
+  first = λ end front. subst (λ (l : List Run). TakesFirst l bits end) (ap (λ (m : ℕ). chosen_anywhere m bits 0 m) (untaken n) ∙ sym is) front;
 }
 
 pub takes_some : (old new : List Bool) (last n len : ℕ) (runs : List Run) → behind last n old ≡ len → 0 < len → len ≤ n → IsClearRun old (suc last) len → new ≡ with_run (suc last) len old
@@ -132,7 +168,16 @@ takes_some old new last n len runs is some few clear news added =
       room = λ room. (let e : count_by not new + len ≡ count_by not old = ap (λ (bits : List Bool). count_by not bits + len) news ∙ counted_after (suc last) len old clear in omega (arith, e));
       runs = ap₂ (λ (a : List Run) (b : List Bool). a ++ chosen_anywhere (n - len) b len (n - len)) added news ∙ sym step;
       bits = ap (λ (b : List Bool). with_runs (chosen_anywhere (n - len) b len (n - len)) b) news ∙ sym (ap (λ (a : List Run). with_runs a old) step ∙ with_first 0 (suc last) len (chosen_anywhere (n - len) (with_run (suc last) len old) len (n - len)) old);
+      first = λ end front. subst (λ (l : List Run). TakesFirst l old end) (sym step)
+          (takes_further 0 (suc last) len (chosen_anywhere (n - len) (with_run (suc last) len old) len (n - len)) old new end news
+          (subst (λ (b : List Bool). TakesFirst (chosen_anywhere (n - len) b len (n - len)) new end) news front));
     })
+
+-- those behind the last one are the first of what is chosen
+takes_suc : (old new : List Bool) (last n len : ℕ) → behind last n old ≡ len → 0 < len → len ≤ n → new ≡ with_run (suc last) len old → TakesFirst (chosen old (Some last) n) old new
+takes_suc old new last n len is some few news =
+    subst (λ (l : List Run). TakesFirst l old new) (sym (behind_some old last n len is some few))
+    (takes_one 0 (suc last) len (chosen_anywhere (n - len) (with_run (suc last) len old) len (n - len)) old new news)
 
 -- ---- the clear bits behind a cluster, counted one by one
 
@@ -186,3 +231,6 @@ all_taken bits runs all vcn n e are = sym (append-nil runs) ∙ ap (λ (rest : L
 
 pub all_set_now : (bits all : List Bool) (vcn n : ℕ) → n ≡ 0 → with_runs (chosen_anywhere n bits vcn n) bits ≡ all → bits ≡ all
 all_set_now bits all vcn n e are = sym (with_none (chosen_anywhere n bits vcn n) bits (none_left bits vcn n e)) ∙ are
+
+pub takes_there : (old new : List Bool) (last n len : ℕ) → behind last n old ≡ len → 0 < len → len ≤ n → new ≡ with_run (last + 1) len old → TakesFirst (chosen old (Some last) n) old new
+takes_there old new last n len is some few news = takes_suc old new last n len is some few (subst (λ (k : ℕ). new ≡ with_run k len old) (next last) news)

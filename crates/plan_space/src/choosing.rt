@@ -1,8 +1,8 @@
 //! The choice of clusters.
-ghost use Rattle.std.specs.Prelude.{◌≡◌, ◌+◌, ◌-◌, ◌^◌, ◌<◌, ◌≤◌, ◌++◌, [], ◌∷◌, ℕ, Err, IfOk, IfErr, IfSome, OnOk, MatchOption, length, not, count_by};
+ghost use Rattle.std.specs.Prelude.{◌≡◌, ◌+◌, ◌-◌, ◌^◌, ◌<◌, ◌≤◌, ◌++◌, [], ◌∷◌, ℕ, Err, IfOk, IfErr, IfSome, OnOk, OnErr, MatchOption, length, not, count_by};
 ghost use Rattle.bit_set.specs.Bits.{IsClearRun};
 ghost use Rattle.space_model.specs.Choosing.{behind, chosen_anywhere, chosen, with_runs};
-ghost use Rattle.plan_space.specs.Choices.{IsNextRun, TakesRun, TakesBehind};
+ghost use Rattle.plan_space.specs.Choices.{IsNextRun, TakesFirst, TakesRun, TakesBehind};
 ghost use Rattle.plan_space.specs.declared.fault.SpaceFault.TheVariants.{Short, Memory as no_memory};
 
 use crate::fault::SpaceFault;
@@ -56,7 +56,8 @@ fn take_run<B: FreeBits>(
 ) -> Result<u64, Memory>
     requires some { 0 < wanted }
     requires room { wanted ≤ count_by not (B.bits bits.old) }
-    ensures { IfOk result (λ len. TakesRun (B.bits bits.old) (B.bits bits.new) runs.old.items runs.new.items vcn wanted len) }
+    ensures taken { IfOk result (λ len. TakesRun (B.bits bits.old) (B.bits bits.new) runs.old.items runs.new.items vcn wanted len) }
+    ensures first { OnErr result (TakesFirst (chosen_anywhere wanted (B.bits bits.old) vcn wanted) (B.bits bits.old) (B.bits bits.new)) }
 {
     let Some((first, len)) = next_run(bits, wanted) else {
         return Err(Memory);
@@ -82,6 +83,7 @@ fn take_anywhere<B: FreeBits>(
     requires small { vcn + wanted < 2 ^ 64 }
     ensures runs { OnOk result (runs.new.items ≡ runs.old.items ++ chosen_anywhere wanted (B.bits bits.old) vcn wanted) }
     ensures bits { OnOk result (B.bits bits.new ≡ with_runs (chosen_anywhere wanted (B.bits bits.old) vcn wanted) (B.bits bits.old)) }
+    ensures first { OnErr result (TakesFirst (chosen_anywhere wanted (B.bits bits.old) vcn wanted) (B.bits bits.old) (B.bits bits.new)) }
 {
     let mut taken = 0;
     while taken < wanted {
@@ -100,7 +102,8 @@ fn take_behind<B: FreeBits>(
 ) -> Result<u64, Memory>
     requires none { runs.old.items ≡ [] }
     requires last { IfSome last (λ at. at < length (B.bits bits.old)) }
-    ensures { IfOk result (λ len. TakesBehind (B.bits bits.old) (B.bits bits.new) runs.new.items last wanted len) }
+    ensures taken { IfOk result (λ len. TakesBehind (B.bits bits.old) (B.bits bits.new) runs.new.items last wanted len) }
+    ensures first { OnErr result (TakesFirst (chosen (B.bits bits.old) last wanted) (B.bits bits.old) (B.bits bits.new)) }
 {
     let Some(last) = last else {
         return Ok(0);
@@ -124,7 +127,7 @@ fn take_behind<B: FreeBits>(
 /// documentation, "Data runs", "File - $Bitmap"). The runs' VCNs count from the first new cluster.
 ///
 /// - [`SpaceFault::Short`]: fewer bits are clear, so many. All stay as they were.
-/// - [`SpaceFault::Memory`]: some runs may have been taken.
+/// - [`SpaceFault::Memory`]: the first of these runs are taken, none of them or all.
 ///
 /// It takes time linear in the clusters that lie directly behind the last one, and a search of the
 /// bits for each run.
@@ -140,6 +143,7 @@ pub fn choose<B: FreeBits>(
     ensures short { count_by not (B.bits bits.old) < wanted → result ≡ Err (Short (count_by not (B.bits bits.old))) }
     ensures unchanged { count_by not (B.bits bits.old) < wanted → B.bits bits.new ≡ B.bits bits.old }
     ensures enough { wanted ≤ count_by not (B.bits bits.old) → IfErr result (λ e. e ≡ no_memory) }
+    ensures first { OnErr result (TakesFirst (chosen (B.bits bits.old) last wanted) (B.bits bits.old) (B.bits bits.new)) }
 {
     let room = bits.room();
     if room < wanted {

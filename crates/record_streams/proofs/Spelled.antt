@@ -79,7 +79,7 @@ bytes_small held per few size =
 
 -- ---- the attribute
 
-lawful_by : (a : Attr) → IsPlaceable a.head.kind → IsTrue (has_lawful_value a)
+pub lawful_by : (a : Attr) → IsPlaceable a.head.kind → IsTrue (has_lawful_value a)
 unfolding has_lawful_value
 lawful_by a may = rw (may.not_info, may.not_name) refl
 

@@ -83,7 +83,7 @@ without_own kind name (a ∷ attrs) =
       | inr is ↦ ap (filter p) (filter_yes q a attrs (ap not is)) ∙ filter_no p a (without_stream kind name attrs) is ∙ without_own kind name attrs
     ]
 
-own_with : (kind : ℕ) (name : List ℕ) (new : Attr) (attrs : List Attr) (b : Attr) (rest : List Attr) → is_attribute_of kind name new ≡ true → filter (is_attribute_of kind name) attrs ≡ b ∷ rest → filter (is_attribute_of kind name) (with_stream kind name new attrs) ≡ new ∷ []
+pub own_with : (kind : ℕ) (name : List ℕ) (new : Attr) (attrs : List Attr) (b : Attr) (rest : List Attr) → is_attribute_of kind name new ≡ true → filter (is_attribute_of kind name) attrs ≡ b ∷ rest → filter (is_attribute_of kind name) (with_stream kind name new attrs) ≡ new ∷ []
 own_with kind name new [] b rest own some = absurd cc
 own_with kind name new (a ∷ attrs) b rest own some =
     let p = is_attribute_of kind name in
@@ -114,7 +114,7 @@ others_with q kind name new (a ∷ attrs) spares none = elim (cases_Bool (is_att
 
 -- ---- the stream itself
 
-some_by : (attrs : List Attr) (a : Attr) (others : List Attr) → sorted_into [] attrs ≡ a ∷ others → (b : Attr) × (rest : List Attr) × (attrs ≡ b ∷ rest)
+pub some_by : (attrs : List Attr) (a : Attr) (others : List Attr) → sorted_into [] attrs ≡ a ∷ others → (b : Attr) × (rest : List Attr) × (attrs ≡ b ∷ rest)
 some_by [] a others is = absurd cc
 some_by (b ∷ rest) a others is = (b, rest, refl)
 

@@ -9,5 +9,5 @@ mod records;
 pub use attribute::placed_attr;
 pub use file_record::FileRec;
 pub use laws::{placed_fits, streams_are_placed};
-pub use records::placed_record;
+pub use records::{copied, placed_record, with_stream};
 pub use state_model::{ClusterSize, Extents};

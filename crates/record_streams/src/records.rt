@@ -49,8 +49,11 @@ fn push_copy(attr: &Attr, to: &mut FileRec) -> Result<(), AllocError>
     Ok(())
 }
 
-// The record with this attribute in the place of the first one of a stream, whose others go.
-fn with_stream(
+/// The record with this attribute in the place of the one that stands first of the stream of this
+/// type and name (in UTF-16 units), whose others go (Linux-NTFS documentation, "Attribute Header"); a
+/// record without that stream is copied. It may use more than 1,024 bytes. The error is want of
+/// memory. It takes time and memory linear in the record.
+pub fn with_stream(
     alloc: Global,
     kind: u32,
     name: &[u16],
@@ -73,8 +76,8 @@ fn with_stream(
     Ok(out)
 }
 
-// A copy of the record.
-fn copied(alloc: Global, file: &FileRec) -> Result<FileRec, AllocError>
+/// A copy of the record. The error is want of memory. It takes time and memory linear in the record.
+pub fn copied(alloc: Global, file: &FileRec) -> Result<FileRec, AllocError>
     ensures { IfOk result (λ r. r ≡ file.now) }
 {
     let mut out = FileRec::empty(alloc, file.head());

@@ -1,9 +1,10 @@
 -- Chosen runs behind those of a stream.
-use Rattle.std.proofs.Common.{◌≡◌, ℕ, ◌+◌, ◌*◌, ◌^◌, ◌%◌, ◌-◌, ◌<◌, ◌≤◌, Bool, true, false, cond, eqb, List, [], ◌∷◌, ◌++◌, length, map, inl, inr, Option, Some, None, refl, sym, ap, ◌∙◌, subst, arith}
+use Rattle.std.proofs.Common.{◌≡◌, ℕ, ◌+◌, ◌*◌, ◌^◌, ◌%◌, ◌/◌, ◌-◌, ◌<◌, ◌≤◌, Bool, true, false, cond, eqb, List, [], ◌∷◌, ◌++◌, length, map, inl, inr, Option, Some, None, refl, sym, ap, ◌∙◌, subst, arith}
 use Rattle.std.specs.Prelude.{not, count_by, IfSome, min, Result, Ok, Err}
 use Rattle.std.proofs.lemmas.List.{length-append, length-map}
 use Rattle.record_model.specs.declared.runs.Run.{Run}
 use Rattle.record_model.specs.Pairs.{cluster_limit, Follow, HasSpelling}
+use Rattle.state_model.specs.Clusters.{IsClusterSize}
 use Rattle.state_model.specs.Loads.{total_clusters}
 use Rattle.space_model.specs.Choosing.{with_run, chosen}
 use Rattle.space_model.specs.Laws.{AreFree, clusters_of}
@@ -98,3 +99,11 @@ follow_shortened clusters runs spelled = follow-merged 0 0 (front clusters runs)
 
 pub shortened_count : (clusters : ℕ) (runs : List Run) → length (merged (front clusters runs)) ≤ length runs
 shortened_count clusters runs = omega (arith, merged_count (front clusters runs), shorter_count clusters runs)
+
+-- ---- how many clusters a size needs
+
+pub few_for : (per size : ℕ) → IsClusterSize per → (size + (512 * per - 1)) / (512 * per) ≤ size / 512 + 1
+few_for per size (inl one) = subst (λ (p : ℕ). (size + (512 * p - 1)) / (512 * p) ≤ size / 512 + 1) (sym one) (omega arith)
+few_for per size (inr (inl two)) = subst (λ (p : ℕ). (size + (512 * p - 1)) / (512 * p) ≤ size / 512 + 1) (sym two) (omega arith)
+few_for per size (inr (inr (inl four))) = subst (λ (p : ℕ). (size + (512 * p - 1)) / (512 * p) ≤ size / 512 + 1) (sym four) (omega arith)
+few_for per size (inr (inr (inr eight))) = subst (λ (p : ℕ). (size + (512 * p - 1)) / (512 * p) ≤ size / 512 + 1) (sym eight) (omega arith)

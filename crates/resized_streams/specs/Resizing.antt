@@ -30,6 +30,14 @@ clusters_for per size = (size + (cluster_bytes per - 1)) / cluster_bytes per
 abbrev pub shortened : ℕ → ℕ → Extents → Extents
 shortened per size e = allocated_in per (merged (front (clusters_for per size) e.runs)) size (min e.initialised size)
 
+-- with these sizes, in the same clusters
+abbrev pub with_sizes : ℕ → ℕ → Extents → Extents
+with_sizes real initialised e = record { runs = e.runs; allocated = e.allocated; real = real; initialised = initialised }
+
+-- a value of so many bytes as a stream that has no clusters yet
+abbrev pub unplaced : ℕ → Extents
+unplaced size = record { runs = []; allocated = 0; real = size; initialised = size }
+
 -- ---- what comes of it
 
 -- the stream takes these runs: its record has it with them, and none of its clusters is given back
@@ -45,3 +53,10 @@ pub record IsCut (per kind : ℕ) (name : List ℕ) (e : Extents) (r : Record) (
   pub file : z.file ≡ placed_record per kind name (shortened per size e) r
   pub taken : z.taken.items ≡ []
   pub freed : z.freed.items ≡ back (clusters_for per size) e.runs
+
+-- the stream has these sizes: it takes no cluster, and gives none back
+pub record IsSized (per kind : ℕ) (name : List ℕ) (e : Extents) (r : Record) (real initialised : ℕ) (z : Resized) : Type 0 where
+  pub extents : z.extents ≡ with_sizes real initialised e
+  pub file : z.file ≡ placed_record per kind name (with_sizes real initialised e) r
+  pub taken : z.taken.items ≡ []
+  pub freed : z.freed.items ≡ []

@@ -1,8 +1,9 @@
 //! A stream that takes more clusters, or gives back those past a size.
-ghost use Rattle.std.specs.Prelude.{◌≡◌, ◌+◌, ◌<◌, ◌≤◌, ◌^◌, Err, All, IfOk, IfErr, IfSome, not, count_by, length};
+ghost use Rattle.std.specs.Prelude.{◌≡◌, ◌+◌, ◌/◌, ◌<◌, ◌≤◌, ◌^◌, Err, All, IfOk, IfErr, IfSome, OnErr, not, count_by, length};
 ghost use Rattle.record_model.specs.Pairs.{cluster_limit, HasSpelling};
 ghost use Rattle.record_streams.specs.Fitting.{FitsButRoom, IsPlaceable};
 ghost use Rattle.space_model.specs.Choosing.{chosen, with_runs};
+ghost use Rattle.plan_space.specs.Choices.{TakesFirst};
 ghost use Rattle.plan_space.specs.declared.fault.SpaceFault.TheVariants.{Short, Memory as no_memory};
 ghost use Rattle.state_model.specs.Loads.{total_clusters};
 ghost use Rattle.stream_runs.specs.Runs.{last_cluster, IsNear};
@@ -55,7 +56,7 @@ fn lengthened(
 /// than 1,024 bytes then.
 ///
 /// - [`SpaceFault::Short`]: fewer bits are clear, so many. All stay as they were.
-/// - [`SpaceFault::Memory`]: some runs may have been taken.
+/// - [`SpaceFault::Memory`]: the first runs that it would take are taken, none of them or all.
 ///
 /// It takes a `choose`, and time and memory linear in the record and the stream's runs.
 pub fn grow<B: FreeBits>(
@@ -82,6 +83,10 @@ pub fn grow<B: FreeBits>(
     ensures enough { wanted ≤ count_by not (B.bits bits.old) → IfErr result (λ e. e ≡ no_memory) }
     ensures near { IfOk result (λ z. All IsNear z.taken.items) }
     ensures fits { IfOk result (λ z. FitsButRoom z.file) }
+    ensures spelled { IfOk result (λ z. HasSpelling 0 z.extents.runs) }
+    ensures total { IfOk result (λ z. total_clusters z.extents.runs ≡ total_clusters extents.now.runs + wanted) }
+    ensures count { IfOk result (λ z. length z.extents.runs ≤ length extents.now.runs + wanted) }
+    ensures first { OnErr result (TakesFirst (chosen (B.bits bits.old) (last_cluster extents.now.runs) wanted) (B.bits bits.old) (B.bits bits.new)) }
 {
     let taken = choose(alloc, bits, last_cluster(&extents.runs), wanted)?;
     let longer = lengthened(alloc, per, extents, &taken)?;
@@ -95,9 +100,10 @@ pub fn grow<B: FreeBits>(
 }
 
 // How many clusters have so many bytes.
-fn clusters_for(per: ClusterSize, size: u64) -> u64
+pub fn clusters_for(per: ClusterSize, size: u64) -> u64
     requires { size < 2 ^ 63 }
-    ensures { result ≡ clusters_for per size }
+    ensures value { result ≡ clusters_for per size }
+    ensures few { result ≤ size / 512 + 1 }
 {
     let bytes = 512 * per.sectors();
     (size + (bytes - 1)) / bytes
@@ -141,6 +147,8 @@ pub fn cut(
     ensures value { IfOk result (λ z. IsCut per kind name.now extents.now file.now size z) }
     ensures near { IfOk result (λ z. All IsNear z.freed.items) }
     ensures fits { IfOk result (λ z. FitsButRoom z.file) }
+    ensures spelled { IfOk result (λ z. HasSpelling 0 z.extents.runs) }
+    ensures count { IfOk result (λ z. length z.extents.runs ≤ length extents.now.runs) }
 {
     let shorter = shortened(alloc, per, extents, size)?;
     let new = placed_record(alloc, per, kind, name, &shorter, file)?;

@@ -1,6 +1,6 @@
 use Rattle.std.proofs.Common.{◌-◌, ◌≤◌}
 use Rattle.draft_bits.specs.Filling.{FillsBytes}
-use Rattle.draft_bits.proofs.bytes.fill.Given as goal
+use Rattle.draft_bits.proofs.bytes.fill_bits.Given as goal
 
 abbrev pub invariant-loop-at : goal.invariant-loop-at
 invariant-loop-at l = record {
