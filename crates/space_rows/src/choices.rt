@@ -72,27 +72,37 @@ fn are_anywhere(bits: &mut [bool], wanted: u8, runs: &[Run]) -> bool {
     left == 0
 }
 
-// Whether the runs are those of the plain program for a stream with this last cluster.
-fn are_plain(pattern: u16, last: Option<u8>, wanted: u8, runs: &[Run]) -> bool {
-    let mut bits = low_bits(pattern);
+// Whether the runs are those of the plain program for a stream with this last cluster, if it has
+// one. The bits of its runs are set.
+fn are_plain(bits: &mut [bool], last: Option<u8>, wanted: u8, runs: &[Run]) -> bool {
     let Some(last) = last else {
-        return are_anywhere(&mut bits, wanted, runs);
+        return are_anywhere(bits, wanted, runs);
     };
     let first = usize::from(last) + 1;
-    let front = plain_front(&bits, first, wanted);
+    let front = plain_front(bits, first, wanted);
     if front == 0 {
-        return are_anywhere(&mut bits, wanted, runs);
+        return are_anywhere(bits, wanted, runs);
     }
-    set_all(&mut bits, first, usize::from(front));
+    set_all(bits, first, usize::from(front));
     is_run(runs.first(), first, usize::from(front))
         && are_anywhere(
-            &mut bits,
+            bits,
             wanted.saturating_sub(front),
             runs.get(1..).unwrap_or(&[]),
         )
 }
 
-static LASTS: [Option<u8>; 5] = [None, Some(0), Some(3), Some(7), Some(11)];
+// Whether the bits are these, and the room is their clear ones.
+fn has_bits<B: FreeBits>(bits: &B, plain: &[bool]) -> bool {
+    let mut room = 0u64;
+    for (number, bit) in plain.iter().enumerate() {
+        if bits.test(number as u64) != *bit {
+            return false;
+        }
+        room = room.saturating_add(if *bit { 0 } else { 1 });
+    }
+    bits.room() == room && bits.len() == plain.len() as u64
+}
 
 // Whether a stream with this last cluster may grow among the bits.
 fn may_grow<B: FreeBits>(bits: &B, last: Option<u64>) -> bool
@@ -111,42 +121,73 @@ fn wide(last: Option<u8>) -> Option<u64> {
     }
 }
 
-// Whether so many clusters are chosen as the plain program chooses them, or refused.
-fn is_chosen(alloc: Global, pattern: u16, last: Option<u8>, wanted: u8) -> Result<bool, Memory> {
-    let mut set = BitSet::from_bytes(alloc, pattern.to_le_bytes().as_slice(), 12)?;
-    let room = set.count_clear();
+// Whether so many clusters are chosen as the plain program chooses them, or refused with all bits
+// as they were.
+fn is_chosen<B: FreeBits>(
+    alloc: Global,
+    bits: &mut B,
+    plain: &mut [bool],
+    last: Option<u8>,
+    wanted: u8,
+) -> Result<bool, Memory> {
+    let room = bits.room();
     let cluster = wide(last);
-    if !may_grow(&set, cluster) {
+    if !may_grow(bits, cluster) {
         return Ok(false);
     }
-    match choose(alloc, &mut set, cluster, u64::from(wanted)) {
-        Ok(runs) => Ok(
-            are_plain(pattern, last, wanted, runs.as_slice())
-                && room.saturating_sub(set.count_clear()) == u64::from(wanted),
-        ),
-        Err(SpaceFault::Short { room: told }) => Ok(told == room && room < u64::from(wanted)),
+    match choose(alloc, bits, cluster, u64::from(wanted)) {
+        Ok(runs) => Ok(are_plain(plain, last, wanted, runs.as_slice()) && has_bits(bits, plain)),
+        Err(SpaceFault::Short { room: told }) => {
+            Ok(told == room && room < u64::from(wanted) && has_bits(bits, plain))
+        }
         Err(SpaceFault::Memory) => Err(Memory),
     }
 }
 
-// The first number of clusters for which it isn't.
+// Whether the clusters of a bitmap that stays are so chosen, two of which were taken before.
+fn are_taken(alloc: Global, pattern: u16, last: Option<u8>, wanted: u8) -> Result<bool, Memory> {
+    let base = BitSet::from_bytes(alloc, pattern.to_le_bytes().as_slice(), 12)?;
+    let mut plain = low_bits(pattern);
+    let mut taken = Taken::new(alloc, &base);
+    if !is_chosen(alloc, &mut taken, &mut plain, None, 2)? {
+        return Ok(false);
+    }
+    is_chosen(alloc, &mut taken, &mut plain, last, wanted)
+}
+
+// Whether a set's clusters are so chosen, and those of a bitmap that stays.
+fn are_chosen(alloc: Global, pattern: u16, last: Option<u8>, wanted: u8) -> Result<bool, Memory> {
+    let mut set = BitSet::from_bytes(alloc, pattern.to_le_bytes().as_slice(), 12)?;
+    let mut plain = low_bits(pattern);
+    if !is_chosen(alloc, &mut set, &mut plain, last, wanted)? {
+        return Ok(false);
+    }
+    are_taken(alloc, pattern, last, wanted)
+}
+
+// The first number of clusters for which they aren't.
 fn first_other(alloc: Global, pattern: u16, last: Option<u8>) -> Result<Option<u8>, Memory> {
     for wanted in 0..13u8 {
-        if !is_chosen(alloc, pattern, last, wanted)? {
+        if !are_chosen(alloc, pattern, last, wanted)? {
             return Ok(Some(wanted));
         }
     }
     Ok(None)
 }
 
+// Each cluster as the last one, and none.
+fn last_of(number: u8) -> Option<u8> {
+    if number < 12 { Some(number) } else { None }
+}
+
 #[test]
 fn choices_among_twelve_bits(rt: HostRuntime) -> Result<(), Fail> {
     for pattern in 0..4096u16 {
-        for last in LASTS {
+        for last in 0..13u8 {
             assert_eq!(rt;
-                first_other(rt.alloc(), pattern, last)?,
+                first_other(rt.alloc(), pattern, last_of(last))?,
                 None,
-                "{pattern} {last:?}"
+                "{pattern} {last}"
             );
         }
     }
@@ -163,14 +204,6 @@ static GROWTHS: [Growths; 4] = [
     Growths(0b1111_0000_1111, (3, 2), (5, 2), (12, 1)),
 ];
 
-fn last_cluster(number: u8) -> Option<u64> {
-    if number < 12 {
-        Some(u64::from(number))
-    } else {
-        None
-    }
-}
-
 // Whether what is taken over the bits is what is taken out of a set of them, growth by growth.
 fn are_alike(alloc: Global, row: &Growths) -> Result<bool, Memory> {
     let bytes = row.0.to_le_bytes();
@@ -178,7 +211,7 @@ fn are_alike(alloc: Global, row: &Growths) -> Result<bool, Memory> {
     let mut set = BitSet::from_bytes(alloc, bytes.as_slice(), 12)?;
     let mut taken = Taken::new(alloc, &base);
     for (number, wanted) in [row.1, row.2, row.3] {
-        let last = last_cluster(number);
+        let last = wide(last_of(number));
         if !may_grow(&set, last) || !may_grow(&taken, last) {
             return Ok(false);
         }
