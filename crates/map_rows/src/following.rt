@@ -176,8 +176,8 @@ struct Row(u8, bool, u64, (u32, u32, u32));
 static ROWS: [Row; 4] = [
     Row(1, false, 1, (500, 100, 100)),
     Row(8, false, 2, (500, 100, 100)),
-    Row(1, true, 3, (20, 500, 100)),
-    Row(8, true, 4, (20, 500, 100)),
+    Row(1, true, 3, (500, 100, 100)),
+    Row(8, true, 4, (500, 100, 100)),
 ];
 
 // Whether all steps came to what a load gives, and enough of them to each kind.
