@@ -1,0 +1,202 @@
+//! A map that follows, beside a load of the volume.
+ghost use Rattle.std.specs.Prelude.{◌≡◌};
+
+use crate::disks::Disk;
+use crate::layouts::Layout;
+use crate::seeds::Seed;
+use crate::steps::{Step, any_block, any_step, first_step};
+use bit_set::BitSet;
+use file_record::FileRec;
+use map_change::{LiveMap, MapChange, MapFault, MapRefusal, VolumeMap, apply, load_live, prepare};
+use std::alloc::Global;
+use std::test::Fail;
+
+// How many steps came to changes of parts of the map, to a load, and to a refusal; and how many to
+// anything else than a load of the volume gives.
+#[derive(Clone, Copy, Debug, PartialEq)]
+struct Counts {
+    parts: u32,
+    loads: u32,
+    refused: u32,
+    other: u32,
+}
+
+fn same_file(one: &Option<FileRec>, other: &Option<FileRec>) -> bool {
+    match (one, other) {
+        (Some(one), Some(other)) => {
+            one.head() == other.head() && one.attrs().as_slice() == other.attrs().as_slice()
+        }
+        (None, None) => true,
+        _ => false,
+    }
+}
+
+fn same_files(some: &[Option<FileRec>], others: &[Option<FileRec>]) -> bool {
+    for (one, other) in some.iter().zip(others.iter()) {
+        if !same_file(one, other) {
+            return false;
+        }
+    }
+    some.len() == others.len()
+}
+
+fn same_bits(some: &BitSet, others: &BitSet) -> bool {
+    for number in 0..some.bits() {
+        if some.test(number) != others.test(number) {
+            return false;
+        }
+    }
+    some.bits() == others.bits() && some.count_clear() == others.count_clear()
+}
+
+fn same_table(one: &VolumeMap, other: &VolumeMap) -> bool {
+    one.table.runs.as_slice() == other.table.runs.as_slice()
+        && one.table.allocated == other.table.allocated
+        && one.table.real == other.table.real
+        && one.table.initialised == other.table.initialised
+}
+
+fn same_map(one: &VolumeMap, other: &VolumeMap) -> bool {
+    one.per_cluster == other.per_cluster
+        && one.clusters == other.clusters
+        && one.mft == other.mft
+        && same_table(one, other)
+        && same_files(&one.files, &other.files)
+        && one.heads.as_slice() == other.heads.as_slice()
+        && same_bits(&one.record_bits, &other.record_bits)
+        && same_bits(&one.cluster_bits, &other.cluster_bits)
+}
+
+// A volume in memory, its map, and what came of its steps.
+#[derive(Drop)]
+struct Followed {
+    layout: Layout,
+    disk: Disk,
+    live: LiveMap,
+    counts: Counts,
+}
+
+fn begin(alloc: Global, layout: Layout) -> Result<Followed, Fail> {
+    let mut disk = Disk::empty(alloc);
+    let first = first_step(alloc, layout)?;
+    disk.put_all(alloc, &first.changes)?;
+    let live = load_live(alloc, &mut disk, &layout.geometry(), layout.count())?;
+    Ok(Followed {
+        layout,
+        disk,
+        live,
+        counts: Counts {
+            parts: 0,
+            loads: 0,
+            refused: 0,
+            other: 0,
+        },
+    })
+}
+
+// What refuses a load.
+fn refusal_of(loaded: &Result<LiveMap, MapFault>) -> Option<MapRefusal> {
+    match loaded {
+        Err(MapFault::Refused(refusal)) => Some(*refusal),
+        _ => None,
+    }
+}
+
+fn count(counter: &mut u32) {
+    *counter = counter.saturating_add(1);
+}
+
+impl Followed {
+    // A block is torn, where the map stays as it is.
+    fn tear(&mut self, alloc: Global, seed: &mut Seed) -> Result<(), Fail> {
+        let mut torn = self.disk.copy(alloc)?;
+        torn.tear(alloc, any_block(seed))?;
+        let layout = self.layout;
+        let loaded = load_live(alloc, &mut torn, &layout.geometry(), layout.count());
+        if let Ok(loaded) = loaded {
+            if same_map(&loaded.map, &self.live.map) {
+                self.disk = torn;
+            }
+        }
+        Ok(())
+    }
+
+    // What was prepared is put in place.
+    fn put(&mut self, change: MapChange, after: Disk, fresh: &LiveMap) {
+        match change {
+            MapChange::Parts(_) => count(&mut self.counts.parts),
+            MapChange::Anew(_) => count(&mut self.counts.loads),
+        }
+        apply(&mut self.live, change);
+        self.disk = after;
+        if !same_map(&self.live.map, &fresh.map) {
+            count(&mut self.counts.other);
+        }
+    }
+
+    // The changes are followed, or refused as a load refuses the volume after them.
+    fn follow(&mut self, alloc: Global, step: &Step) -> Result<(), Fail> {
+        let mut after = self.disk.copy(alloc)?;
+        after.put_all(alloc, &step.changes)?;
+        let layout = self.layout;
+        let prepared = prepare(alloc, &self.live, &mut self.disk, &step.changes);
+        let fresh = load_live(alloc, &mut after, &layout.geometry(), layout.count());
+        let refusal = refusal_of(&fresh);
+        match prepared {
+            Ok(change) => match fresh {
+                Ok(fresh) => self.put(change, after, &fresh),
+                Err(_) => count(&mut self.counts.other),
+            },
+            Err(MapFault::Refused(fault)) if refusal == Some(fault) => {
+                count(&mut self.counts.refused);
+            }
+            Err(_) => count(&mut self.counts.other),
+        }
+        Ok(())
+    }
+}
+
+fn counts_of(alloc: Global, layout: Layout, state: u64, steps: u16) -> Result<Counts, Fail> {
+    let mut seed = Seed { state };
+    let mut followed = begin(alloc, layout)?;
+    for _ in 0..steps {
+        if seed.is_one_of(8) {
+            followed.tear(alloc, &mut seed)?;
+        }
+        let step = any_step(alloc, layout, &mut seed)?;
+        followed.follow(alloc, &step)?;
+    }
+    Ok(followed.counts)
+}
+
+// The sectors of a cluster, whether files may get attribute lists, a seed, and how many of 2,000
+// steps come at least to changes of parts, to loads and to refusals.
+struct Row(u8, bool, u64, (u32, u32, u32));
+
+static ROWS: [Row; 4] = [
+    Row(1, false, 1, (500, 100, 100)),
+    Row(8, false, 2, (500, 100, 100)),
+    Row(1, true, 3, (500, 100, 100)),
+    Row(8, true, 4, (500, 100, 100)),
+];
+
+// Whether all steps came to what a load gives, and enough of them to each kind.
+fn are_followed(counts: Counts, least: (u32, u32, u32)) -> bool {
+    counts.other == 0
+        && least.0 <= counts.parts
+        && least.1 <= counts.loads
+        && least.2 <= counts.refused
+}
+
+#[test]
+fn a_map_follows_its_volume(rt: HostRuntime) -> Result<(), Fail> {
+    for row in &ROWS {
+        let layout = Layout {
+            per: row.0,
+            lists: row.1,
+        };
+        let counts = counts_of(rt.alloc(), layout, row.2, 2000)?;
+        assert!(rt; are_followed(counts, row.3), "seed {}: {counts:?}", row.2);
+    }
+    Ok(())
+}
