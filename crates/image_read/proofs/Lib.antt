@@ -1,7 +1,6 @@
 mod Begins
 mod Entries
 mod Links
-mod MountSteps
 mod Rules
 mod States
 mod Whole

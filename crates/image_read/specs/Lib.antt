@@ -1,6 +1,5 @@
 pub mod Errors
 pub mod Scans
 pub mod Checks
-pub mod Mounts
 pub mod States
 pub mod Records

@@ -3,6 +3,7 @@ ghost use Rattle.std.specs.Prelude.{◌≡◌, true, IfOk};
 ghost use Rattle.tree_model.specs.Steps.{is_look};
 
 use crate::volume::{fail_behind, volume};
+use device_view::piece_room;
 use run_model::Turn;
 use sector_device::{Device, MemoryDevice};
 use std::alloc::{AllocError, Global};
@@ -72,7 +73,8 @@ fn turn(
 ) -> Result<Turn, Fail> {
     let op = op(alloc, ask, parts)?;
     let faults_before = device.faults();
-    let reply = tree.answer(alloc, device, &op);
+    let mut room = piece_room(alloc)?;
+    let reply = tree.answer(alloc, &mut room, device, &op);
     Ok(Turn {
         client: 1,
         number: 1,

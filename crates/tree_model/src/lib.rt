@@ -9,7 +9,6 @@ mod file_effects;
 mod file_rows;
 mod filing;
 mod laws;
-mod looking;
 mod making;
 mod needs;
 mod path;
@@ -24,10 +23,9 @@ pub use file_tree::{
     Units, Usn, UsnList, WIN32, Why, chosen, compare_names, is_same_name, sort_links,
 };
 pub use laws::{worked_bytes, worked_changes, worked_names, worked_reads};
-pub use looking::Lookup;
 pub use path::Path;
 pub use plain::names_of;
 pub use reading::{count_read, front_into, read_refusal};
 pub use reply::{Hit, HitList, NameList, Reply};
 pub use script::{Command, Op, Script, What};
-pub use stepping::{answer, step};
+pub use stepping::step;

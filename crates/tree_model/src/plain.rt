@@ -1,9 +1,9 @@
 ghost use Rattle.std.specs.Prelude.{◌≡◌, IfOk, map};
 ghost use Rattle.std.specs.Option.{option_copied};
 ghost use Rattle.file_tree.specs.declared.link.Link.{Link as the_link};
-ghost use Rattle.file_tree.specs.Trees.{same_links, long_links_in, node_at};
+ghost use Rattle.file_tree.specs.Trees.{same_links, long_links_in, long_names_of, node_at, IsListing};
+ghost use Rattle.file_tree.specs.Walks.{child_in};
 
-use crate::looking::Lookup;
 use crate::reply::NameList;
 use file_tree::{Link, Node, SHORT, Tree, chosen, is_same_name, sort_links};
 use std::alloc::{AllocError, Global};
@@ -68,31 +68,34 @@ pub fn names_of(alloc: Global, links: &[Link]) -> Result<NameList, AllocError>
     Ok(names)
 }
 
-impl Lookup for Plain<'_> {
-    ghost upper = { λ p. p.upper.now };
-
-    ghost nodes = { λ p. p.tree.now.nodes };
-
-    ghost links = { λ p. p.tree.now.links };
-
-    fn node(&self, number: u64) -> Option<&Node> {
+impl<'a> Plain<'a> {
+    // The node with this number, if there is one.
+    pub fn node(&self, number: u64) -> Option<&'a Node>
+        ensures { option_copied result ≡ node_at self.now.tree.now.nodes number }
+    {
         node_at(self.tree.nodes.as_slice(), number)
     }
 
+    // The number of the file that this part names in this directory, if there is one.
     #[tactic(auto, unfolding(file_tree::specs::Walks::child_in, file_tree::specs::Trees::look_up))]
-    fn child(
+    pub fn child(
         &self,
         alloc: Global,
         directory: u64,
         part: &[u16],
-    ) -> Result<Option<u64>, AllocError> {
+    ) -> Result<Option<u64>, AllocError>
+        ensures { IfOk result (λ child. child ≡ child_in self.now.upper.now self.now.tree.now.links directory part.now) }
+    {
         let links = self.tree.links.as_slice();
         let same = same_links(alloc, self.upper, links, directory, part)?;
         Ok(chosen(self.upper, &same, part))
     }
 
+    // How many long names the file has.
     #[tactic(auto, unfolding(file_tree::specs::Trees::long_names_of))]
-    fn long_names_of(&self, number: u64) -> u64 {
+    pub fn long_names_of(&self, number: u64) -> u64
+        ensures { result ≡ long_names_of self.now.tree.now.links number }
+    {
         let links = self.tree.links.as_slice();
         let long = links
             .iter()
@@ -100,7 +103,10 @@ impl Lookup for Plain<'_> {
         long.count() as u64
     }
 
-    fn listing(&self, alloc: Global, directory: u64) -> Result<NameList, AllocError> {
+    // The long names of this directory, in order.
+    pub fn listing(&self, alloc: Global, directory: u64) -> Result<NameList, AllocError>
+        ensures { IfOk result (λ names. IsListing self.now.upper.now self.now.tree.now.links directory names) }
+    {
         let mut links = long_links_in(alloc, self.tree.links.as_slice(), directory)?;
         sort_links(self.upper, &mut links)?;
         names_of(alloc, &links)

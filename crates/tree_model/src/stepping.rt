@@ -10,7 +10,6 @@ ghost use Rattle.file_tree.specs.Walks.{has_bad_part};
 ghost use Rattle.tree_model.specs.Steps.{is_look, stat_of, reply_cause, Lists, Replies, RepliesBy, IsWithinBounds, HasStep, IsStep};
 
 use crate::filing::change;
-use crate::looking::Lookup;
 use crate::making::create;
 use crate::path::Path;
 use crate::plain::Plain;
@@ -41,8 +40,8 @@ pub fn is_directory_kind(kind: Kind) -> bool
 }
 
 #[tactic(auto, unfolding(file_tree::specs::Trees::is_directory))]
-fn is_directory<L: Lookup>(tree: &L, number: u64) -> bool
-    ensures { result ≡ is_directory (L.nodes tree.now) number }
+fn is_directory(tree: &Plain, number: u64) -> bool
+    ensures { result ≡ is_directory tree.now.tree.now.nodes number }
 {
     match tree.node(number) {
         Some(node) => is_directory_kind(node.kind),
@@ -52,15 +51,9 @@ fn is_directory<L: Lookup>(tree: &L, number: u64) -> bool
 
 // The number that a part leads to.
 #[tactic(auto, unfolding(crate::specs::Walks::entered))]
-fn entered<L: Lookup>(
-    alloc: Global,
-    tree: &L,
-    at: u64,
-    number: u64,
-    part: &[u16],
-) -> Result<u64, Reply>
+fn entered(alloc: Global, tree: &Plain, at: u64, number: u64, part: &[u16]) -> Result<u64, Reply>
     requires { at + 1 < 2 ^ 64 }
-    ensures { Gives (λ child. child) reply_cause result (entered (L.upper tree.now) (L.nodes tree.now) (L.links tree.now) at number part.now) }
+    ensures { Gives (λ child. child) reply_cause result (entered tree.now.upper.now tree.now.tree.now.nodes tree.now.tree.now.links at number part.now) }
 {
     if !is_directory(tree, number) {
         return Err(Reply::NotDirectory { part: at });
@@ -73,8 +66,8 @@ fn entered<L: Lookup>(
 
 /// The node that a path names, or what ends the walk.
 #[tactic(auto, unfolding(crate::specs::Walks::reached, crate::specs::Walks::walk))]
-pub fn reached<'a, L: Lookup>(alloc: Global, tree: &'a L, path: &[Units]) -> Result<&'a Node, Reply>
-    ensures { Gives (λ node. node.now) reply_cause result (reached (L.upper tree.now) (L.nodes tree.now) (L.links tree.now) path.now) }
+pub fn reached<'a>(alloc: Global, tree: &Plain<'a>, path: &[Units]) -> Result<&'a Node, Reply>
+    ensures { Gives (λ node. node.now) reply_cause result (reached tree.now.upper.now tree.now.tree.now.nodes tree.now.tree.now.links path.now) }
 {
     let mut number = ROOT;
     for (at, part) in path.iter().enumerate() {
@@ -90,12 +83,12 @@ pub fn reached<'a, L: Lookup>(alloc: Global, tree: &'a L, path: &[Units]) -> Res
 
 /// The directory that a path names, or what ends the walk.
 #[tactic(auto, unfolding(crate::specs::Walks::reached_directory))]
-pub fn reached_directory<'a, L: Lookup>(
+pub fn reached_directory<'a>(
     alloc: Global,
-    tree: &'a L,
+    tree: &Plain<'a>,
     path: &[Units],
 ) -> Result<&'a Node, Reply>
-    ensures { Gives (λ node. node.now) reply_cause result (reached_directory (L.upper tree.now) (L.nodes tree.now) (L.links tree.now) path.now) }
+    ensures { Gives (λ node. node.now) reply_cause result (reached_directory tree.now.upper.now tree.now.tree.now.nodes tree.now.tree.now.links path.now) }
 {
     let node = reached(alloc, tree, path)?;
     if !is_directory_kind(node.kind) {
@@ -115,8 +108,8 @@ pub fn has_bad_part(path: &[Units]) -> bool
 }
 
 #[tactic(auto, unfolding(crate::specs::Steps::stat_of))]
-fn stat_of<L: Lookup>(tree: &L, node: &Node) -> Reply
-    ensures { result ≡ stat_of (L.links tree.now) node.now }
+fn stat_of(tree: &Plain, node: &Node) -> Reply
+    ensures { result ≡ stat_of tree.now.tree.now.links node.now }
 {
     Reply::Stat {
         number: node.number,
@@ -133,8 +126,8 @@ fn stat_of<L: Lookup>(tree: &L, node: &Node) -> Reply
 }
 
 #[tactic(auto, using(crate::proofs::Refusing::refused_by_cause), unfolding(crate::specs::Steps::refusal, crate::specs::Steps::stat_of))]
-fn stat<L: Lookup>(alloc: Global, tree: &L, path: &Path) -> Reply
-    ensures value { result ≢ Reply.Memory → Replies (L.upper tree.now) (L.nodes tree.now) (L.links tree.now) (Op.Stat path.now) result }
+fn stat(alloc: Global, tree: &Plain, path: &Path) -> Reply
+    ensures value { result ≢ Reply.Memory → Replies tree.now.upper.now tree.now.tree.now.nodes tree.now.tree.now.links (Op.Stat path.now) result }
     ensures fault { result ≢ Reply.Fault }
 {
     if has_bad_part(path.as_slice()) {
@@ -147,8 +140,8 @@ fn stat<L: Lookup>(alloc: Global, tree: &L, path: &Path) -> Reply
 }
 
 // The long names of a directory, as a reply.
-fn names_in<L: Lookup>(alloc: Global, tree: &L, directory: u64) -> Reply
-    ensures value { result ≢ Reply.Memory → Lists (L.upper tree.now) (L.links tree.now) directory result }
+fn names_in(alloc: Global, tree: &Plain, directory: u64) -> Reply
+    ensures value { result ≢ Reply.Memory → Lists tree.now.upper.now tree.now.tree.now.links directory result }
     ensures fault { result ≢ Reply.Fault }
 {
     match tree.listing(alloc, directory) {
@@ -158,8 +151,8 @@ fn names_in<L: Lookup>(alloc: Global, tree: &L, directory: u64) -> Reply
 }
 
 #[tactic(auto, using(crate::proofs::Refusing::refused_by_cause), unfolding(crate::specs::Steps::refusal))]
-fn list<L: Lookup>(alloc: Global, tree: &L, path: &Path) -> Reply
-    ensures value { result ≢ Reply.Memory → Replies (L.upper tree.now) (L.nodes tree.now) (L.links tree.now) (Op.List path.now) result }
+fn list(alloc: Global, tree: &Plain, path: &Path) -> Reply
+    ensures value { result ≢ Reply.Memory → Replies tree.now.upper.now tree.now.tree.now.nodes tree.now.tree.now.links (Op.List path.now) result }
     ensures fault { result ≢ Reply.Fault }
 {
     if has_bad_part(path.as_slice()) {
@@ -187,8 +180,8 @@ fn read_there(alloc: Global, node: &Node, offset: u64, count: u64) -> Reply
 }
 
 #[tactic(auto, using(crate::proofs::Refusing::walk_ends), unfolding(crate::specs::Steps::refusal))]
-fn read<L: Lookup>(alloc: Global, tree: &L, path: &Path, offset: u64, count: u64) -> Reply
-    ensures value { result ≢ Reply.Memory → Replies (L.upper tree.now) (L.nodes tree.now) (L.links tree.now) (Op.Read path.now offset count) result }
+fn read(alloc: Global, tree: &Plain, path: &Path, offset: u64, count: u64) -> Reply
+    ensures value { result ≢ Reply.Memory → Replies tree.now.upper.now tree.now.tree.now.nodes tree.now.tree.now.links (Op.Read path.now offset count) result }
     ensures fault { result ≢ Reply.Fault }
 {
     if has_bad_part(path.as_slice()) {
@@ -200,12 +193,11 @@ fn read<L: Lookup>(alloc: Global, tree: &L, path: &Path, offset: u64, count: u64
     }
 }
 
-/// What is answered to an operation that changes nothing: the first refusal that applies, else
-/// what it asks for; or `Memory` for want of memory. It asks the tree two questions for each
-/// part of the path, and one or two more.
-pub fn answer<L: Lookup>(alloc: Global, tree: &L, op: &Op) -> Reply
+// What is answered to an operation that changes nothing: the first refusal that applies, else what
+// it asks for; or `Memory` for want of memory.
+fn answer(alloc: Global, tree: &Plain, op: &Op) -> Reply
     requires looks { is_look op.now ≡ true }
-    ensures value { result ≢ Reply.Memory → Replies (L.upper tree.now) (L.nodes tree.now) (L.links tree.now) op.now result }
+    ensures value { result ≢ Reply.Memory → Replies tree.now.upper.now tree.now.tree.now.nodes tree.now.tree.now.links op.now result }
     ensures fault { result ≢ Reply.Fault }
 {
     match op {

@@ -4,3 +4,4 @@ pub mod Chained
 pub mod Opened
 pub mod Sectors
 pub mod Replying
+mod Fronting

@@ -1,12 +1,14 @@
 -- A volume that was opened and loaded is the mounted one that is meant.
 use Rattle.std.proofs.Common.{◌≡◌, ℕ, Option, Some, None, Result, Ok, Err, refl, sym, ap, ◌∙◌, subst}
 use Rattle.std.proofs.Math.Path.{fun_ext}
-use Rattle.std.specs.Prelude.{IfSome}
+use Rattle.std.specs.Prelude.{Bool, is_some, IfSome}
+use Rattle.std.specs.Int.{div_ceil}
 use Rattle.host_base.specs.Answers.{◌>>=◌, ExplainsOrFails, GivesOrFails}
 use Rattle.host_base.proofs.Known.{both, one}
 use Rattle.disk_model.specs.Content.{Content}
 use Rattle.record_model.proofs.Answering.{steps_from_ok}
 use Rattle.state_model.specs.declared.geometry.Geometry.{Geometry}
+use Rattle.state_model.specs.Rules.{first_failing}
 use Rattle.volume_model.specs.Volumes.{Volume, upper_of}
 use Rattle.volume_state.specs.Rules.{first_broken}
 use Rattle.volume_state.specs.Trees.{tree_of, checked}
@@ -28,7 +30,7 @@ use Rattle.image_read.specs.Errors.{broken_refusal}
 use Rattle.image_read.specs.Checks.{volume_on, has_version, tree_on}
 use Rattle.volume_mount.specs.declared.loading.LoadedVolume.{LoadedVolume}
 use Rattle.volume_mount.specs.declared.mounted.Mounted.{Mounted}
-use Rattle.volume_mount.specs.Mounts.{Said, unless_said, unshadowed, has_no_journal, has_pages, ruled, settled, paged, unjournaled, tried, loaded_on, MountedVolume, content_behind, mounted_as, mounted_by, mounted_in}
+use Rattle.volume_mount.specs.Mounts.{Said, unless_said, unshadowed, placed, has_no_journal, is_there, begun_sectors, or_all, front_sectors, has_pages, lies_whole, ruled, settled, paged, unjournaled, tried, loaded_on, MountedVolume, content_behind, mounted_as, mounted_by, mounted_in}
 use Rattle.volume_mount.specs.Trees.{content_of_mounted}
 use Rattle.volume_mount.specs.Answers.{IsMounted, IsMountedAs, MountsAs}
 
@@ -52,19 +54,20 @@ same_unless : (said : Option ℕ) (w v : Volume) → unless_said said w ≡ Ok v
 same_unless None w v e = okay_alike w v e
 same_unless (Some lsn) w v e = absurd cc
 
-settled_unbroken : (said : Said) (c : Content) (w v : Volume) → settled said c w ≡ Ok v → first_broken c v ≡ None
-unfolding settled unshadowed
-settled_unbroken said c w v is =
-    let s = steps_from_ok (ruled c w) (unshadowed said) v is in
-    subst (λ (x : Volume). first_broken c x ≡ None) (same_unless (least_live said s.0) s.0 v s.2) (ruled_unbroken c w s.0 s.1)
+settled_unbroken : (said : Said) (place : LogPlace) (c : Content) (w v : Volume) → settled said place c w ≡ Ok v → first_broken c v ≡ None
+unfolding settled placed unshadowed
+settled_unbroken said place c w v is =
+    let s = steps_from_ok (ruled c w) (placed said place) v is in
+    let l = steps_from_ok (lies_whole place) (λ _. unshadowed said s.0) v s.2 in
+    subst (λ (x : Volume). first_broken c x ≡ None) (same_unless (least_live said s.0) s.0 v l.2) (ruled_unbroken c w s.0 s.1)
 
 tried_unbroken : (said : Said) (place : LogPlace) (c : Content) (w v : Volume) → tried said place c w ≡ Ok v → first_broken c v ≡ None
 unfolding tried unjournaled paged
 tried_unbroken said place c w v is =
     let q = steps_from_ok (has_version w) (λ _. unjournaled said (upper_of c w) place c w) v is in
     let r = steps_from_ok (has_no_journal (upper_of c w) w) (λ _. paged said place c w) v q.2 in
-    let s = steps_from_ok (has_pages place) (λ _. settled said c w) v r.2 in
-    settled_unbroken said c w v s.2
+    let s = steps_from_ok (has_pages place) (λ _. settled said place c w) v r.2 in
+    settled_unbroken said place c w v s.2
 
 pub unbroken : (said : Said) (place : LogPlace) (c : Content) (g : Geometry) (total : ℕ) (v : Volume) → loaded_on said place c g total ≡ Ok v → first_broken c v ≡ None
 unfolding loaded_on
@@ -74,17 +77,35 @@ unbroken said place c g total v is =
 
 -- ---- places that lie alike
 
+front_alike : (p q : LogPlace) → LieAlike p q → front_sectors p ≡ front_sectors q
+unfolding front_sectors
+front_alike p q alike =
+    let there : is_there p ≡ is_there q = fun_ext (λ (n : ℕ). ap (λ (o : Option ℕ). is_some o) (alike.sectors n)) in
+    ap (λ (f : ℕ → Bool). or_all (begun_sectors p) (first_failing f (begun_sectors p))) there
+    ∙ ap (λ (size : ℕ). or_all (div_ceil size 512) (first_failing (is_there q) (div_ceil size 512))) alike.initialised
+
 pages_alike : (p q : LogPlace) → LieAlike p q → has_pages p ≡ has_pages q
 unfolding has_pages
 pages_alike p q alike = rw (alike.pages, alike.initialised, alike.clusters) refl
 
-tried_alike : (said : Said) (p q : LogPlace) (c : Content) (v : Volume) → LieAlike p q → tried said p c v ≡ tried said q c v
-unfolding tried unjournaled paged
-tried_alike said p q c v alike = ap (λ (r : Result (Unit {0}) Refusal). has_version v >>= λ _. has_no_journal (upper_of c v) v >>= λ _. r >>= λ _. settled said c v) (pages_alike p q alike)
+whole_alike : (p q : LogPlace) → LieAlike p q → lies_whole p ≡ lies_whole q
+unfolding lies_whole
+whole_alike p q alike = rw (alike.pages, alike.clusters, front_alike p q alike) refl
 
 then_alike : {A B : Type 0} (first : Result A Refusal) (f g : A → Result B Refusal) → ((x : A) → f x ≡ g x) → (first >>= f) ≡ (first >>= g)
 then_alike (Ok x) f g same = same x
 then_alike (Err e) f g same = refl
+
+settled_alike : (said : Said) (p q : LogPlace) (c : Content) (v : Volume) → LieAlike p q → settled said p c v ≡ settled said q c v
+unfolding settled placed
+settled_alike said p q c v alike =
+    then_alike (ruled c v) (λ w. lies_whole p >>= λ _. unshadowed said w) (λ w. lies_whole q >>= λ _. unshadowed said w) (λ w. ap (λ (r : Result (Unit {0}) Refusal). r >>= λ _. unshadowed said w) (whole_alike p q alike))
+
+tried_alike : (said : Said) (p q : LogPlace) (c : Content) (v : Volume) → LieAlike p q → tried said p c v ≡ tried said q c v
+unfolding tried unjournaled paged
+tried_alike said p q c v alike =
+    ap (λ (r : Result (Unit {0}) Refusal). has_version v >>= λ _. has_no_journal (upper_of c v) v >>= λ _. r >>= λ _. settled said p c v) (pages_alike p q alike)
+    ∙ ap (λ (r : Result Volume Refusal). has_version v >>= λ _. has_no_journal (upper_of c v) v >>= λ _. has_pages q >>= λ _. r) (settled_alike said p q c v alike)
 
 loaded_alike : (said : Said) (p q : LogPlace) (c : Content) (g : Geometry) (total : ℕ) → LieAlike p q → loaded_on said p c g total ≡ loaded_on said q c g total
 unfolding loaded_on

@@ -1,3 +1,4 @@
 pub mod Mounts
 pub mod Answers
 pub mod Trees
+pub mod Fronts

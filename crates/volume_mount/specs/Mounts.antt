@@ -1,5 +1,5 @@
 -- A volume that is mounted: opened by its log, loaded, and refused by nothing; or the first refusal that applies.
-use Rattle.std.specs.Prelude.{ℕ, ◌+◌, ◌/◌, max, nat_le, not, List, is_some, Option, Some, None, Result, Ok, Err}
+use Rattle.std.specs.Prelude.{ℕ, ◌+◌, ◌/◌, max, nat_le, not, Bool, List, is_some, Option, Some, None, Result, Ok, Err}
 use Rattle.std.specs.Int.{div_ceil}
 use Rattle.host_base.specs.Answers.{◌>>=◌, needs}
 use Rattle.disk_model.specs.declared.block.Block.{Block}
@@ -7,6 +7,7 @@ use Rattle.disk_model.specs.Content.{Content}
 use Rattle.file_tree.specs.declared.tree.Tree.{Tree}
 use Rattle.file_tree.specs.Walks.{child_in}
 use Rattle.state_model.specs.declared.geometry.Geometry.{Geometry}
+use Rattle.state_model.specs.Rules.{first_failing}
 use Rattle.state_model.specs.Trees.{all_links}
 use Rattle.volume_model.specs.Volumes.{Volume, files_by_number, count_of, upper_of}
 use Rattle.volume_state.specs.Journals.{extend_file, journal_name}
@@ -15,6 +16,7 @@ use Rattle.log_model.specs.Logs.{recovered}
 use Rattle.log_recovery.specs.Recovering.{shadow_lsn}
 use Rattle.log_page.specs.declared.places.LogPlace.{LogPlace}
 use Rattle.log_page.specs.Places.{page_bytes}
+use Rattle.log_reading.specs.LogPages.{log_sector}
 use Rattle.image_open.specs.declared.refusal.Refusal.{Refusal}
 use Rattle.image_open.specs.declared.refusal.Refusal.TheVariants.{LogSmall, Unbuilt, ForeignLog}
 use Rattle.image_open.specs.Volumes.{on_disk}
@@ -48,6 +50,30 @@ whole_pages place = place.initialised / page_bytes
 unfoldable pub has_pages : LogPlace → Result (Unit {0}) Refusal
 has_pages place = needs (nat_le (pages_needed place) (whole_pages place)) (LogSmall (whole_pages place) (pages_needed place))
 
+-- the sector of the log with this number lies on the device, and begins below the initialised size
+abbrev pub is_there : LogPlace → ℕ → Bool
+is_there place n = is_some (log_sector place n)
+
+-- so many of them begin below it
+abbrev pub begun_sectors : LogPlace → ℕ
+begun_sectors place = div_ceil place.initialised 512
+
+-- the number of the first of so many that isn't there; that many where each is
+abbrev pub or_all : ℕ → Option ℕ → ℕ
+or_all count None = count
+or_all count (Some n) = n
+
+unfoldable pub front_sectors : LogPlace → ℕ
+front_sectors place = or_all (begun_sectors place) (first_failing (is_there place) (begun_sectors place))
+
+-- the log's pages from its first one on that lie on the device
+abbrev pub lying_pages : LogPlace → ℕ
+lying_pages place = front_sectors place / 8
+
+-- each page of a log lies on the device
+unfoldable pub lies_whole : LogPlace → Result (Unit {0}) Refusal
+lies_whole place = needs (nat_le place.pages (lying_pages place)) (LogSmall (lying_pages place) (pages_needed place))
+
 -- what the entries of a log say of a block: the LSN of the first update of a rival, where they shadow it
 abbrev pub Said : Type 0
 Said = Block → Option ℕ
@@ -66,13 +92,17 @@ unshadowed said v = unless_said (least_live said v) v
 unfoldable pub ruled : Content → Volume → Result Volume Refusal
 ruled c v = tree_on c v >>= λ _. Ok v
 
--- and behind them the live blocks
-unfoldable pub settled : Said → Content → Volume → Result Volume Refusal
-settled said c v = ruled c v >>= unshadowed said
+-- the log's own pages, at this place, and then the live blocks
+unfoldable pub placed : Said → LogPlace → Volume → Result Volume Refusal
+placed said place v = lies_whole place >>= λ _. unshadowed said v
 
--- the pages of the log, at this place, come before these
+-- these come behind the rules
+unfoldable pub settled : Said → LogPlace → Content → Volume → Result Volume Refusal
+settled said place c v = ruled c v >>= placed said place
+
+-- how many pages the log has comes before them
 unfoldable pub paged : Said → LogPlace → Content → Volume → Result Volume Refusal
-paged said place c v = has_pages place >>= λ _. settled said c v
+paged said place c v = has_pages place >>= λ _. settled said place c v
 
 -- a journal before the pages, by this table of upper-case units
 unfoldable pub unjournaled : Said → List ℕ → LogPlace → Content → Volume → Result Volume Refusal
@@ -120,6 +150,6 @@ mounted_in c sectors = opened_to_write_in c sectors >>= mounted_by c
 
 -- The mounted volume on these sectors; or the first refusal that applies: a device of no sectors; the sectors of a cluster, the boot sector,
 -- the device's length, record 2, and the log, as a mount that writes opens a volume; the records of the file table; the version; a change
--- journal; the pages of the log; the nine rules of a volume; and the log, by which a live block is shadowed.
+-- journal; the pages of the log; the nine rules of a volume; a page of the log that lies nowhere; and the log, by which a live block is shadowed.
 unfoldable pub mounted_of : List (List ℕ) → Result MountedVolume Refusal
 mounted_of disk = on_disk mounted_in disk

@@ -1,4 +1,4 @@
-ghost use Rattle.std.specs.Prelude.{◌≡◌, ℕ, ◌<◌, true, false, IfOk, IfSome};
+ghost use Rattle.std.specs.Prelude.{◌≡◌, ℕ, ◌<◌, true, false, length, IfOk, IfSome};
 ghost use Rattle.host_base.specs.Causes.{HasFailed, last_moment};
 ghost use Rattle.block_view.specs.Views.{KeepsView};
 ghost use Rattle.device_view.specs.Devices.{KeepsDevice};
@@ -12,7 +12,7 @@ ghost use Rattle.volume_mount.specs.Answers.{CountsReplyOnDevice};
 use crate::lent::LentView;
 use crate::mounted::Mounted;
 use block_view::View;
-use device_view::{DeviceView, piece_room};
+use device_view::{DeviceView, PIECE_BYTES};
 use host_base::Memory;
 use log_recovery::RecoveredView;
 use sector_device::Device;
@@ -74,10 +74,18 @@ impl<'a> MountedTree<'a> {
     /// What is answered to an operation that only looks, over the device on which the volume was
     /// mounted: the first refusal that applies, else what it asks for. It reads the index blocks on
     /// its path, of a listing those of the directory, and the sectors of the bytes that it asks for,
-    /// ahead in pieces of 64 KiB; it takes room for one piece.
+    /// ahead in pieces of 64 KiB; `room` is room for one piece
+    /// ([`piece_room`](device_view::piece_room)).
     ///
     /// `Reply::Fault`: the device failed; `Reply::Memory`: want of memory.
-    pub fn answer<D: Device>(&self, alloc: Global, device: &mut D, op: &Op) -> Reply
+    pub fn answer<D: Device>(
+        &self,
+        alloc: Global,
+        room: &mut [u8],
+        device: &mut D,
+        op: &Op,
+    ) -> Reply
+        requires room { length room.old ≡ PIECE_BYTES }
         requires looks { is_look op.now ≡ true }
         ensures value { IfSome (tree_shown self.now.mounted.now (D.gives device.old)) (λ t. is_given_up result ≡ false → Replies self.now.mounted.now.upper t.nodes t.links op.now result) }
         ensures step { IfSome (tree_shown self.now.mounted.now (D.gives device.old)) (λ t. (stamp : ℕ) → IsStep self.now.mounted.now.upper op.now stamp result t t) }
@@ -85,10 +93,7 @@ impl<'a> MountedTree<'a> {
         ensures fault { result ≡ Reply.Fault → IfSome (tree_shown self.now.mounted.now (D.gives device.old)) (λ _. HasFailed (D.fault_count device.old) (D.fault_count device.new) (D.moment_of device.new)) }
         ensures counted { D.moment_of device.old < last_moment → CountsReplyOnDevice (tree_shown self.now.mounted.now (D.gives device.old)) (D.fault_count device.old) (D.fault_count device.new) (D.moment_of device.new) result }
     {
-        let Ok(mut room) = piece_room(alloc) else {
-            return Reply::Memory;
-        };
-        let mut view = DeviceView::new(&mut room, device);
+        let mut view = DeviceView::new(room, device);
         self.reply_on(alloc, &mut view, op)
     }
 }

@@ -8,10 +8,10 @@ ghost use Rattle.log_recovery.specs.Recovering.{content_with, IsSized};
 ghost use Rattle.log_recovery.specs.Places.{HasPlaces};
 ghost use Rattle.image_open.specs.Errors.{scan_cause};
 ghost use Rattle.volume_shadows.specs.Live.{least_lsn};
-ghost use Rattle.volume_mount.specs.Mounts.{ruled, unshadowed, settled, paged, unjournaled, tried, loaded_on};
+ghost use Rattle.volume_mount.specs.Mounts.{ruled, unshadowed, placed, settled, paged, unjournaled, tried, loaded_on};
 
 use crate::journal::has_no_journal;
-use crate::pages::has_pages;
+use crate::pages::{has_pages, lies_whole};
 use block_view::View;
 use disk_model::Body;
 use image_open::{MountFault, OpeningToWrite, Refusal};
@@ -53,19 +53,34 @@ fn unshadowed(alloc: Global, map: &VolumeMap, shadows: &[Shadow]) -> Result<(), 
     }
 }
 
+// The same, whose log lies on the device.
+#[tactic(auto, unfolding(crate::specs::Mounts::placed))]
+fn placed(
+    alloc: Global,
+    shadows: &[Shadow],
+    place: &LogPlace,
+    map: &VolumeMap,
+) -> Result<(), MountFault>
+    ensures { Gives (λ _. volume_in map.now) scan_cause result (placed (least_lsn shadows.now) place.now (volume_in map.now)) }
+{
+    lies_whole(place)?;
+    unshadowed(alloc, map, shadows)
+}
+
 // The same behind the nine rules.
 fn settled<V: View>(
     alloc: Global,
     view: &mut V,
     shadows: &[Shadow],
+    place: &LogPlace,
     map: &VolumeMap,
 ) -> Result<(), MountFault>
     requires parts { IfSome (V.content view.old) (λ c. IsMapOf c map.now) }
-    ensures answer { IfSome (V.content view.old) (λ c. GivesOrFails (λ _. volume_in map.now) scan_cause result (settled (least_lsn shadows.now) c (volume_in map.now))) }
+    ensures answer { IfSome (V.content view.old) (λ c. GivesOrFails (λ _. volume_in map.now) scan_cause result (settled (least_lsn shadows.now) place.now c (volume_in map.now))) }
     ensures kept { AsksView V.content V.kept V.faults scan_cause view.old view.new result }
 {
     ruled(alloc, view, map)?;
-    unshadowed(alloc, map, shadows)
+    placed(alloc, shadows, place, map)
 }
 
 // The same, whose log has the pages that it needs.
@@ -81,7 +96,7 @@ fn paged<V: View>(
     ensures kept { AsksView V.content V.kept V.faults scan_cause view.old view.new result }
 {
     has_pages(place)?;
-    settled(alloc, view, shadows, map)
+    settled(alloc, view, shadows, place, map)
 }
 
 // The same, without a change journal by this table of upper-case units.
@@ -169,8 +184,8 @@ fn loaded_on<V: View>(
 ///
 /// - [`MountFault::Refused`]: the first refusal of the file table's records; then of the version;
 ///   then of a change journal; then of the log's pages; then of the nine rules; then
-///   [`Refusal::ForeignLog`] where the log shadows a live block, with the LSN of the first update of
-///   a rival, of several the least.
+///   [`Refusal::LogSmall`] where a page of the log lies nowhere; then [`Refusal::ForeignLog`] where
+///   the log shadows a live block, with the LSN of the first update of a rival, of several the least.
 /// - [`MountFault::Device`]: the view failed.
 /// - [`MountFault::Memory`]: want of memory.
 pub fn load_recovered<V: View>(

@@ -1,11 +1,12 @@
 //! The pages that a log needs.
-ghost use Rattle.std.specs.Prelude.{◌≡◌};
+ghost use Rattle.std.specs.Prelude.{◌≡◌, ◌-◌, min};
 ghost use Rattle.host_base.specs.Answers.{Gives};
 ghost use Rattle.image_open.specs.Errors.{scan_cause};
-ghost use Rattle.volume_mount.specs.Mounts.{pages_for, pages_needed, whole_pages, has_pages};
+ghost use Rattle.volume_mount.specs.Fronts.{LieInFront};
+ghost use Rattle.volume_mount.specs.Mounts.{pages_for, pages_needed, whole_pages, has_pages, front_sectors, lies_whole};
 
 use image_open::{MountFault, Refusal};
-use log_page::LogPlace;
+use log_page::{Extent, LogPlace};
 
 // The clusters whose bits lie in one sector of `$Bitmap`.
 const SECTOR_BITS: u64 = 4096;
@@ -44,4 +45,58 @@ pub fn has_pages(place: &LogPlace) -> Result<(), MountFault>
         return Ok(());
     }
     Err(MountFault::Refused(Refusal::LogSmall { pages, needed }))
+}
+
+// How many sectors of a run lie on a device of so many.
+fn on_device(run: &Extent, device: u64) -> u64
+    ensures { result ≡ min (device - run.now.first) run.now.sectors }
+{
+    device.saturating_sub(run.first).min(run.sectors)
+}
+
+// How many of the sectors of these runs lie on a device of so many, from the first one on, of `all`
+// at most. It ends at the first that doesn't, and passes once over the runs.
+fn lying_in_front(runs: &[Extent], device: u64, all: u64) -> u64
+    ensures { LieInFront device all runs.now result }
+{
+    let mut count = 0;
+    for run in runs {
+        let more = on_device(run, device);
+        if all - count <= more {
+            return all;
+        }
+        count += more;
+        if more < run.sectors {
+            return count;
+        }
+    }
+    count
+}
+
+// How many of the log's sectors are there, from its first one on.
+fn front_sectors(place: &LogPlace) -> u64
+    ensures { result ≡ front_sectors place.now }
+{
+    let begun = place.initialised.div_ceil(512);
+    lying_in_front(place.runs.as_slice(), place.device, begun)
+}
+
+/// Refuses a log at this place of which a page lies nowhere on the device: where record 2 has only the
+/// first pieces of its data, as one with an attribute list may, those in other records don't count. It
+/// passes once over the runs.
+///
+/// - [`MountFault::Refused`]: [`Refusal::LogSmall`] with the pages that lie there from the first one
+///   on, and those that a session that writes needs.
+#[tactic(auto, unfolding(crate::specs::Mounts::lies_whole))]
+pub fn lies_whole(place: &LogPlace) -> Result<(), MountFault>
+    ensures { Gives (λ x. x) scan_cause result (lies_whole place.now) }
+{
+    let pages = front_sectors(place) / 8;
+    if place.pages <= pages {
+        return Ok(());
+    }
+    Err(MountFault::Refused(Refusal::LogSmall {
+        pages,
+        needed: pages_needed(place),
+    }))
 }

@@ -16,7 +16,7 @@ use Rattle.image_open.specs.declared.refusal.Refusal.{Refusal}
 use Rattle.image_open.specs.declared.refusal.Refusal.TheVariants.{Short, Unbuilt}
 use Rattle.image_open.specs.Writing.{OpenedToWrite, opened_to_write_in}
 use Rattle.image_read.specs.Checks.{volume_on, has_version, tree_on}
-use Rattle.volume_mount.specs.Mounts.{MountedVolume, Said, unless_said, unshadowed, journal_number, has_no_journal, has_pages, ruled, settled, paged, unjournaled, tried, loaded_on, content_behind, mounted_as, mounted_by, mounted_in, mounted_of, tree_in}
+use Rattle.volume_mount.specs.Mounts.{MountedVolume, Said, unless_said, unshadowed, placed, journal_number, has_no_journal, has_pages, lies_whole, ruled, settled, paged, unjournaled, tried, loaded_on, content_behind, mounted_as, mounted_by, mounted_in, mounted_of, tree_in}
 
 none_of : {X : Type 0} (o : Option X) → not (is_some o) ≡ true → o ≡ None
 none_of None e = refl
@@ -54,14 +54,15 @@ unless_is (Some lsn) v w e = absurd cc
 
 -- what is tried and isn't refused has none, and is given back as it is
 tried_is : (said : Said) (place : LogPlace) (c : Content) (v w : Volume) → tried said place c v ≡ Ok w → (tree_of c v).journal ≡ None × (v ≡ w)
-unfolding tried unjournaled paged settled unshadowed ruled
+unfolding tried unjournaled paged settled placed unshadowed ruled
 tried_is said place c v w e =
     let version = steps_from_ok (has_version v) (λ _. unjournaled said (upper_of c v) place c v) w e in
     let journal = steps_from_ok (has_no_journal (upper_of c v) v) (λ _. paged said place c v) w version.2 in
-    let pages = steps_from_ok (has_pages place) (λ _. settled said c v) w journal.2 in
-    let blocks = steps_from_ok (ruled c v) (unshadowed said) w pages.2 in
+    let pages = steps_from_ok (has_pages place) (λ _. settled said place c v) w journal.2 in
+    let blocks = steps_from_ok (ruled c v) (placed said place) w pages.2 in
+    let lying = steps_from_ok (lies_whole place) (λ _. unshadowed said blocks.0) w blocks.2 in
     let rules = steps_from_ok (tree_on c v) (λ _. Ok v) blocks.0 blocks.1 in
-    (journal_none c v (number_none (upper_of c v) v (journal.1 ∙ ap (λ (x : Unit {0}). Ok x) (same_unit journal.0))), ok_same v blocks.0 rules.2 ∙ unless_is (least_live said blocks.0) blocks.0 w blocks.2)
+    (journal_none c v (number_none (upper_of c v) v (journal.1 ∙ ap (λ (x : Unit {0}). Ok x) (same_unit journal.0))), ok_same v blocks.0 rules.2 ∙ unless_is (least_live said blocks.0) blocks.0 w lying.2)
 
 loaded_is : (said : Said) (place : LogPlace) (c : Content) (g : Geometry) (total : ℕ) (w : Volume) → loaded_on said place c g total ≡ Ok w → (tree_of c w).journal ≡ None
 unfolding loaded_on

@@ -11,6 +11,7 @@ ghost use Rattle.volume_mount.specs.Mounts.{mounted_of};
 ghost use Rattle.volume_run.specs.Prints.{IsPrintedRun, RunsAs, counted_by};
 
 use crate::volume::RunVolume;
+use device_view::piece_room;
 use host_base::{Gate, Memory};
 use run_model::Turn;
 use sector_device::Device;
@@ -46,7 +47,8 @@ fn turns_on<R: Threads + Wait, D: Device, G: Gate>(
     ensures kept { KeepsDevice D.gives D.sector_count D.changes_of D.fault_count device.old device.new }
 {
     let tree = MountedTree::new(alloc, mounted)?;
-    let mut volume = RunVolume::new(&tree, device);
+    let mut room = piece_room(alloc)?;
+    let mut volume = RunVolume::new(&tree, device, &mut room);
     serial_run(rt, alloc, &mut volume, 0, script, time, gate)
 }
 
@@ -55,7 +57,8 @@ fn turns_on<R: Threads + Wait, D: Device, G: Gate>(
 /// each of which asks the volume's own indexes. `gate.pass` is called before each command. The
 /// device is only read. A command in which it fails is replied `fault`, and the run goes on.
 ///
-/// Mounting costs what a check does; each command costs what [`MountedTree::answer`] does.
+/// Mounting costs what a check does; each command costs what [`MountedTree::answer`] does, in one
+/// room of 64 KiB for all of them.
 ///
 /// - [`MountFault::Refused`]: what [`mount`] refuses.
 /// - [`MountFault::Device`]: the device failed while it was mounted.

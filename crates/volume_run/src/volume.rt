@@ -1,7 +1,8 @@
-ghost use Rattle.std.specs.Prelude.{◌≡◌, ◌≤◌, max};
+ghost use Rattle.std.specs.Prelude.{◌≡◌, ◌≤◌, length, max};
 ghost use Rattle.device_view.specs.Devices.{BorrowedDevice, borrowed};
 ghost use Rattle.volume_mount.specs.Trees.{tree_shown};
 
+use device_view::PIECE_BYTES;
 use sector_device::Device;
 use serial_run::{AskedVolume, Op, Reply};
 use std::alloc::Global;
@@ -12,16 +13,21 @@ use volume_mount::MountedTree;
 pub struct RunVolume<'a, D: Device> {
     tree: &'a MountedTree<'a>,
     device: &'a mut D,
+    // Room for what is read ahead, one command after the other.
+    room: &'a mut [u8],
     // The device's faults when this was made.
     faults_before: u64,
     // The latest moment of the device that was seen before the last command.
     seen: u64,
+    ghost sized: { length room.now ≡ 65536 },
     pub ghost later: { faults_before ≤ D.fault_count device.now },
 }
 
 impl<'a, D: Device> RunVolume<'a, D> {
-    /// The mounted volume on this device.
-    pub fn new(tree: &'a MountedTree<'a>, device: &'a mut D) -> Self
+    /// The mounted volume on this device, whose blocks are read through `room`, for a piece of 64 KiB
+    /// ([`piece_room`](device_view::piece_room)).
+    pub fn new(tree: &'a MountedTree<'a>, device: &'a mut D, room: &'a mut [u8]) -> Self
+        requires room { length room.old ≡ PIECE_BYTES }
         ensures tree { ⟦<RunVolume<'a, D> as AskedVolume>⟧.tree result ≡ tree_shown tree.now.mounted.now (D.gives device.entry.now) }
         ensures upper { ⟦<RunVolume<'a, D> as AskedVolume>⟧.upper result ≡ tree.now.mounted.now.upper }
         ensures faults { ⟦<RunVolume<'a, D> as AskedVolume>⟧.fault_count result ≡ D.fault_count device.entry.now }
@@ -32,6 +38,7 @@ impl<'a, D: Device> RunVolume<'a, D> {
         RunVolume {
             tree,
             device,
+            room,
             faults_before,
             seen,
         }
@@ -53,7 +60,7 @@ impl<'a, D: Device> AskedVolume for RunVolume<'a, D> {
 
     fn answer(&mut self, alloc: Global, op: &Op) -> Reply {
         self.seen = self.moment();
-        self.tree.answer(alloc, self.device, op)
+        self.tree.answer(alloc, self.room, self.device, op)
     }
 
     fn faults(&self) -> u64 {

@@ -20,18 +20,6 @@ use record_model::Run;
 use state_model::{ClusterSize, Stream};
 use stream_map::block_at;
 
-fn sectors(kind: BlockKind) -> u64
-    ensures value { result ≡ sectors kind }
-    ensures some { 0 < result }
-    ensures most { result ≤ 8 }
-{
-    match kind {
-        BlockKind::Plain => 1,
-        BlockKind::FileRec => 2,
-        BlockKind::Index => 8,
-    }
-}
-
 // How many blocks of this kind begin below an initialised size.
 fn begun(kind: BlockKind, initialised: u64) -> u64
     ensures value { result ≡ begun (512 * sectors kind) initialised }
@@ -78,7 +66,7 @@ fn number_of(per: ClusterSize, kind: BlockKind, run: &Run, first: u64) -> Option
     let begin = run_first(per, run);
     if begin <= first && first < run_end(per, run) {
         let place = u128::from(run.vcn) * u128::from(per.sectors()) + u128::from(first - begin);
-        return Some(place / u128::from(sectors(kind)));
+        return Some(place / kind.sectors() as u128);
     }
     None
 }

@@ -9,9 +9,9 @@ pub returns-in_err-has_pages-clause-answer : goal.returns-in_err-has_pages-claus
 unfolding paged
 returns-in_err-has_pages-clause-answer g c =
     let p = err_from_is_err_and c.from_residual.result c.from_residual.ensures.1 in
-    rw (p.1, p.2) (fails_at_once _ (λ (x : Unit {0}). x) (λ (_ : Unit {0}). volume_in c.args.map.now) _ (has_pages c.args.place.now) (λ content _. settled (least_lsn c.args.shadows.now) content (volume_in c.args.map.now)) c.in_err-has_pages.ensures)
+    rw (p.1, p.2) (fails_at_once _ (λ (x : Unit {0}). x) (λ (_ : Unit {0}). volume_in c.args.map.now) _ (has_pages c.args.place.now) (λ content _. settled (least_lsn c.args.shadows.now) c.args.place.now content (volume_in c.args.map.now)) c.in_err-has_pages.ensures)
 
 pub returns-clause-answer : goal.returns-clause-answer
 unfolding paged
 returns-clause-answer g c =
-    goes_on_at_once _ (λ (_ : Unit {0}). volume_in c.args.map.now) c.in_ok-has_pages.field-0 c.settled.result (has_pages c.args.place.now) (λ content _. settled (least_lsn c.args.shadows.now) content (volume_in c.args.map.now)) c.in_ok-has_pages.ensures c.settled.ensures.answer
+    goes_on_at_once _ (λ (_ : Unit {0}). volume_in c.args.map.now) c.in_ok-has_pages.field-0 c.settled.result (has_pages c.args.place.now) (λ content _. settled (least_lsn c.args.shadows.now) c.args.place.now content (volume_in c.args.map.now)) c.in_ok-has_pages.ensures c.settled.ensures.answer
