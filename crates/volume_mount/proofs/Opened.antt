@@ -58,7 +58,7 @@ settled_unbroken : (said : Said) (place : LogPlace) (c : Content) (w v : Volume)
 unfolding settled placed unshadowed
 settled_unbroken said place c w v is =
     let s = steps_from_ok (ruled c w) (placed said place) v is in
-    let l = steps_from_ok (lies_whole place) (λ _. unshadowed said s.0) v s.2 in
+    let l = steps_from_ok (lies_whole place s.0) (λ _. unshadowed said s.0) v s.2 in
     subst (λ (x : Volume). first_broken c x ≡ None) (same_unless (least_live said s.0) s.0 v l.2) (ruled_unbroken c w s.0 s.1)
 
 tried_unbroken : (said : Said) (place : LogPlace) (c : Content) (w v : Volume) → tried said place c w ≡ Ok v → first_broken c v ≡ None
@@ -88,9 +88,9 @@ pages_alike : (p q : LogPlace) → LieAlike p q → has_pages p ≡ has_pages q
 unfolding has_pages
 pages_alike p q alike = rw (alike.pages, alike.initialised, alike.clusters) refl
 
-whole_alike : (p q : LogPlace) → LieAlike p q → lies_whole p ≡ lies_whole q
+whole_alike : (p q : LogPlace) (v : Volume) → LieAlike p q → lies_whole p v ≡ lies_whole q v
 unfolding lies_whole
-whole_alike p q alike = rw (alike.pages, alike.clusters, front_alike p q alike) refl
+whole_alike p q v alike = rw (alike.pages, alike.clusters, front_alike p q alike) refl
 
 then_alike : {A B : Type 0} (first : Result A Refusal) (f g : A → Result B Refusal) → ((x : A) → f x ≡ g x) → (first >>= f) ≡ (first >>= g)
 then_alike (Ok x) f g same = same x
@@ -99,7 +99,7 @@ then_alike (Err e) f g same = refl
 settled_alike : (said : Said) (p q : LogPlace) (c : Content) (v : Volume) → LieAlike p q → settled said p c v ≡ settled said q c v
 unfolding settled placed
 settled_alike said p q c v alike =
-    then_alike (ruled c v) (λ w. lies_whole p >>= λ _. unshadowed said w) (λ w. lies_whole q >>= λ _. unshadowed said w) (λ w. ap (λ (r : Result (Unit {0}) Refusal). r >>= λ _. unshadowed said w) (whole_alike p q alike))
+    then_alike (ruled c v) (λ w. lies_whole p w >>= λ _. unshadowed said w) (λ w. lies_whole q w >>= λ _. unshadowed said w) (λ w. ap (λ (r : Result (Unit {0}) Refusal). r >>= λ _. unshadowed said w) (whole_alike p q w alike))
 
 tried_alike : (said : Said) (p q : LogPlace) (c : Content) (v : Volume) → LieAlike p q → tried said p c v ≡ tried said q c v
 unfolding tried unjournaled paged

@@ -1,5 +1,5 @@
 -- A volume that is mounted: opened by its log, loaded, and refused by nothing; or the first refusal that applies.
-use Rattle.std.specs.Prelude.{ℕ, ◌+◌, ◌/◌, max, nat_le, not, Bool, List, is_some, Option, Some, None, Result, Ok, Err}
+use Rattle.std.specs.Prelude.{ℕ, ◌+◌, ◌/◌, max, nat_le, not, Bool, if◌then◌else◌, List, is_some, Option, Some, None, Result, Ok, Err}
 use Rattle.std.specs.Int.{div_ceil}
 use Rattle.host_base.specs.Answers.{◌>>=◌, needs}
 use Rattle.disk_model.specs.declared.block.Block.{Block}
@@ -9,7 +9,7 @@ use Rattle.file_tree.specs.Walks.{child_in}
 use Rattle.state_model.specs.declared.geometry.Geometry.{Geometry}
 use Rattle.state_model.specs.Rules.{first_failing}
 use Rattle.state_model.specs.Trees.{all_links}
-use Rattle.volume_model.specs.Volumes.{Volume, files_by_number, count_of, upper_of}
+use Rattle.volume_model.specs.Volumes.{Volume, files_by_number, file_in, count_of, log_file, upper_of}
 use Rattle.volume_state.specs.Journals.{extend_file, journal_name}
 use Rattle.volume_state.specs.Trees.{tree_of}
 use Rattle.log_model.specs.Logs.{recovered}
@@ -66,13 +66,13 @@ or_all count (Some n) = n
 unfoldable pub front_sectors : LogPlace → ℕ
 front_sectors place = or_all (begun_sectors place) (first_failing (is_there place) (begun_sectors place))
 
--- the log's pages from its first one on that lie on the device
-abbrev pub lying_pages : LogPlace → ℕ
-lying_pages place = front_sectors place / 8
+-- the log's pages from its first one on that lie on the device; record 2 that is no file's has none
+abbrev pub lying_pages : LogPlace → Volume → ℕ
+lying_pages place v = if is_some (file_in v log_file) then front_sectors place / 8 else 0
 
 -- each page of a log lies on the device
-unfoldable pub lies_whole : LogPlace → Result (Unit {0}) Refusal
-lies_whole place = needs (nat_le place.pages (lying_pages place)) (LogSmall (lying_pages place) (pages_needed place))
+unfoldable pub lies_whole : LogPlace → Volume → Result (Unit {0}) Refusal
+lies_whole place v = needs (nat_le place.pages (lying_pages place v)) (LogSmall (lying_pages place v) (pages_needed place))
 
 -- what the entries of a log say of a block: the LSN of the first update of a rival, where they shadow it
 abbrev pub Said : Type 0
@@ -94,7 +94,7 @@ ruled c v = tree_on c v >>= λ _. Ok v
 
 -- the log's own pages, at this place, and then the live blocks
 unfoldable pub placed : Said → LogPlace → Volume → Result Volume Refusal
-placed said place v = lies_whole place >>= λ _. unshadowed said v
+placed said place v = lies_whole place v >>= λ _. unshadowed said v
 
 -- these come behind the rules
 unfoldable pub settled : Said → LogPlace → Content → Volume → Result Volume Refusal

@@ -63,7 +63,7 @@ fn placed(
 ) -> Result<(), MountFault>
     ensures { Gives (λ _. volume_in map.now) scan_cause result (placed (least_lsn shadows.now) place.now (volume_in map.now)) }
 {
-    lies_whole(place)?;
+    lies_whole(place, map)?;
     unshadowed(alloc, map, shadows)
 }
 

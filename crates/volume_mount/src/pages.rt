@@ -1,15 +1,22 @@
 //! The pages that a log needs.
-ghost use Rattle.std.specs.Prelude.{◌≡◌, ◌-◌, min};
+ghost use Rattle.std.specs.Prelude.{◌≡◌, ◌-◌, min, is_some};
 ghost use Rattle.host_base.specs.Answers.{Gives};
 ghost use Rattle.image_open.specs.Errors.{scan_cause};
 ghost use Rattle.volume_mount.specs.Fronts.{LieInFront};
-ghost use Rattle.volume_mount.specs.Mounts.{pages_for, pages_needed, whole_pages, has_pages, front_sectors, lies_whole};
+ghost use Rattle.volume_mount.specs.Mounts.{pages_for, pages_needed, whole_pages, has_pages, front_sectors, lying_pages, lies_whole};
+ghost use Rattle.volume_map.specs.Maps.{volume_in};
+ghost use Rattle.volume_model.specs.Volumes.{file_in, log_file};
 
+use file_record::file_at;
 use image_open::{MountFault, Refusal};
 use log_page::{Extent, LogPlace};
+use volume_map::VolumeMap;
 
 // The clusters whose bits lie in one sector of `$Bitmap`.
 const SECTOR_BITS: u64 = 4096;
+
+// The number of `$LogFile`.
+const LOG_FILE: u64 = 2;
 
 fn pages_for(clusters: u64) -> u64
     ensures { result ≡ pages_for clusters }
@@ -81,17 +88,35 @@ fn front_sectors(place: &LogPlace) -> u64
     lying_in_front(place.runs.as_slice(), place.device, begun)
 }
 
+// Whether record 2 is that of a file.
+fn has_log_file(map: &VolumeMap) -> bool
+    ensures { result ≡ is_some (file_in (volume_in map.now) log_file) }
+{
+    file_at(&map.files, LOG_FILE).is_some()
+}
+
+// The log's pages, from its first one on, that lie on the device.
+fn lying_pages(place: &LogPlace, map: &VolumeMap) -> u64
+    ensures { result ≡ lying_pages place.now (volume_in map.now) }
+{
+    if has_log_file(map) {
+        front_sectors(place) / 8
+    } else {
+        0
+    }
+}
+
 /// Refuses a log at this place of which a page lies nowhere on the device: where record 2 has only the
-/// first pieces of its data, as one with an attribute list may, those in other records don't count. It
-/// passes once over the runs.
+/// first pieces of its data, as one with an attribute list may, those in other records don't count. Nor
+/// does any of a record 2 that only holds attributes of another. It passes once over the runs.
 ///
 /// - [`MountFault::Refused`]: [`Refusal::LogSmall`] with the pages that lie there from the first one
 ///   on, and those that a session that writes needs.
 #[tactic(auto, unfolding(crate::specs::Mounts::lies_whole))]
-pub fn lies_whole(place: &LogPlace) -> Result<(), MountFault>
-    ensures { Gives (λ x. x) scan_cause result (lies_whole place.now) }
+pub fn lies_whole(place: &LogPlace, map: &VolumeMap) -> Result<(), MountFault>
+    ensures { Gives (λ x. x) scan_cause result (lies_whole place.now (volume_in map.now)) }
 {
-    let pages = front_sectors(place) / 8;
+    let pages = lying_pages(place, map);
     if place.pages <= pages {
         return Ok(());
     }

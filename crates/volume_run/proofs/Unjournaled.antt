@@ -60,7 +60,7 @@ tried_is said place c v w e =
     let journal = steps_from_ok (has_no_journal (upper_of c v) v) (λ _. paged said place c v) w version.2 in
     let pages = steps_from_ok (has_pages place) (λ _. settled said place c v) w journal.2 in
     let blocks = steps_from_ok (ruled c v) (placed said place) w pages.2 in
-    let lying = steps_from_ok (lies_whole place) (λ _. unshadowed said blocks.0) w blocks.2 in
+    let lying = steps_from_ok (lies_whole place blocks.0) (λ _. unshadowed said blocks.0) w blocks.2 in
     let rules = steps_from_ok (tree_on c v) (λ _. Ok v) blocks.0 blocks.1 in
     (journal_none c v (number_none (upper_of c v) v (journal.1 ∙ ap (λ (x : Unit {0}). Ok x) (same_unit journal.0))), ok_same v blocks.0 rules.2 ∙ unless_is (least_live said blocks.0) blocks.0 w lying.2)
 
