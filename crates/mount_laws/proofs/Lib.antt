@@ -1,0 +1,5 @@
+mod Kept
+mod Rings
+mod Records
+mod Opened
+mod Mounted

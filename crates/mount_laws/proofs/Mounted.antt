@@ -1,0 +1,135 @@
+-- The log of a mounted volume may be written as it lies.
+use Rattle.std.proofs.Common.{◌≡◌, ℕ, ◌+◌, ◌*◌, ◌/◌, ◌^◌, ◌<◌, ◌≤◌, Bool, true, false, cond, not, List, Option, Some, None, Result, Ok, Err, min, max, find, refl, sym, ap, ◌∙◌, subst, arith}
+use Rattle.std.specs.Prelude.{is_some, nat_le}
+use Rattle.std.specs.List.{range_with_len}
+use Rattle.std.proofs.lemmas.Bool.{leb-true}
+use Rattle.host_base.specs.Answers.{◌>>=◌, needs}
+use Rattle.disk_model.specs.Content.{Content}
+use Rattle.record_model.specs.Records.{Record}
+use Rattle.record_model.proofs.Answering.{steps_from_ok}
+use Rattle.state_model.specs.declared.geometry.Geometry.{Geometry}
+use Rattle.state_model.specs.declared.stream.Stream.{Stream}
+use Rattle.state_model.specs.declared.stream.Stream.TheVariants.{Held, Placed}
+use Rattle.state_model.specs.Rules.{first_failing}
+use Rattle.volume_model.specs.Volumes.{Volume, volume_of, file_in, log_file, upper_of}
+use Rattle.volume_state.specs.Rules.{first_broken}
+use Rattle.volume_state.specs.Trees.{checked}
+use Rattle.volume_state.proofs.Reports.{reports}
+use Rattle.stream_laws.proofs.Rewriting.{volume_parts}
+use Rattle.stream_rules.proofs.Failing.{FindsLeast, finds_least}
+use Rattle.plan_owners.specs.States.{Stands}
+use Rattle.log_page.specs.declared.places.LogPlace.{LogPlace}
+use Rattle.log_reading.specs.Rings.{IsRingPlace}
+use Rattle.log_recovery.specs.Recovering.{shadow_lsn}
+use Rattle.image_open.specs.declared.refusal.Refusal.{Refusal}
+use Rattle.image_open.specs.Errors.{map_refusal, refused_as}
+use Rattle.image_open.specs.LogPlaces.{stream_place, place_of_log, LieAlike}
+use Rattle.image_open.specs.Volumes.{data_of}
+use Rattle.image_open.specs.Writing.{OpenedToWrite, opened_to_write_in}
+use Rattle.image_read.specs.Errors.{broken_refusal}
+use Rattle.image_read.specs.Checks.{volume_on, has_version, tree_on}
+use Rattle.volume_mount.specs.Mounts.{Said, is_there, begun_sectors, or_all, front_sectors, lying_pages, lies_whole, pages_for, pages_needed, whole_pages, has_pages, has_no_journal, unshadowed, placed, ruled, settled, paged, unjournaled, tried, loaded_on, MountedVolume, content_behind, mounted_as, mounted_by, mounted_in}
+use Rattle.mount_laws.specs.Laws.{MountedOnRing}
+use Rattle.mount_laws.proofs.Opened.{OpenedParts, opened_parts, IsWhole, lies_in_ring}
+use Rattle.mount_laws.proofs.Rings.{alike_ring}
+
+unrefused : {A F : Type 0} (kind : F → Refusal) (read : Result A F) (x : A) → refused_as kind read ≡ Ok x → read ≡ Ok x
+unrefused kind (Ok y) x e = cc
+unrefused kind (Err f) x e = absurd cc
+
+needed : {F : Type 0} (t : Bool) (r : F) (x : Unit {0}) → needs t r ≡ Ok x → t ≡ true
+needed true r x e = refl
+needed false r x e = absurd cc
+
+-- ---- the sectors of the log
+
+before_found : (test : ℕ → Bool) (end n : ℕ) (found : Option ℕ) → FindsLeast test 0 end found → n < or_all end found → test n ≡ true
+before_found test end n None all below = all n (omega arith) below
+before_found test end n (Some x) least below = least.before n (omega arith) below
+
+pub there_before : (place : LogPlace) (n : ℕ) → n < front_sectors place → is_there place n ≡ true
+unfolding front_sectors first_failing
+there_before place n below = before_found (is_there place) (begun_sectors place) n (find (λ x. not (is_there place x)) (range_with_len 0 (begun_sectors place))) (finds_least (is_there place) 0 (begun_sectors place) (begun_sectors place) (omega arith)) below
+
+-- so many bytes of it are initialised as its pages have, at most
+within_pages : (per clusters device : ℕ) (s : Option Stream) → (place_of_log per clusters device s).initialised ≤ 4096 * (place_of_log per clusters device s).pages
+unfolding stream_place
+within_pages per clusters device None = omega arith
+within_pages per clusters device (Some (Held value)) = omega arith
+within_pages per clusters device (Some (Placed e)) = omega arith
+
+-- ---- what is tried
+
+file_there : (o : Option Record) (pages front : ℕ) → 4 < pages → pages ≤ (cond (is_some o) (front / 8) 0) → (f : Record) × (o ≡ Some f) × (pages ≤ front / 8)
+file_there None pages front some le = absurd (omega (arith, some, le))
+file_there (Some f) pages front some le = (f, refl, le)
+
+module _ (c : Content) (sectors : ℕ) (o : OpenedToWrite) (v : Volume) (small : o.place.pages < 2 ^ 52) (p : OpenedParts c sectors o) where
+  abbrev after : Content
+  after = content_behind c o
+
+  abbrev said : Said
+  said = shadow_lsn o.state.log
+
+  as_pages : has_pages o.place ≡ Ok tt → (pages_needed o.place ≤ whole_pages o.place)
+  unfolding has_pages
+  as_pages is = leb-true (pages_needed o.place) (whole_pages o.place) (needed _ _ tt is)
+
+  as_lying : (w : Volume) → lies_whole o.place w ≡ Ok tt → o.place.pages ≤ lying_pages o.place w
+  unfolding lies_whole
+  as_lying w is = leb-true o.place.pages (lying_pages o.place w) (needed _ _ tt is)
+
+  whole : (w : Volume) → pages_needed o.place ≤ whole_pages o.place → o.place.pages ≤ lying_pages o.place w → (IsWhole o.place) × ((f : Record) × (file_in w log_file ≡ Some f))
+  whole w enough lying =
+      let most : o.place.initialised ≤ 4096 * o.place.pages = subst (λ (x : LogPlace). x.initialised ≤ 4096 * x.pages) (sym p.place) (within_pages o.geometry.per_cluster o.total sectors (data_of p.file)) in
+      let ring : 4 < o.place.pages = omega (arith, enough, most) in
+      let file = file_there (file_in w log_file) o.place.pages (front_sectors o.place) ring lying in
+      (record {
+        there = λ n below. there_before o.place n (let all = file.2 in omega (arith, below, all));
+        initialised = omega (arith, enough);
+        ring = ring;
+        small = small;
+      }, (file.0, file.1))
+
+  stands : (w : Volume) → volume_of after o.geometry o.total ≡ Ok w → first_broken after w ≡ None → Stands after o.geometry o.total w
+  stands w loaded kept =
+      let parts = volume_parts after o.geometry o.total w loaded in
+      record { loaded = loaded; kept = kept; some = omega (arith, parts.per, p.eight); room = let s = p.some in omega (arith, parts.count, s) }
+
+  unbroken : (w r : Volume) → ruled after w ≡ Ok r → (first_broken after w ≡ None) × (w ≡ r)
+  unfolding ruled tree_on
+  unbroken w r is =
+      let t = steps_from_ok (tree_on after w) (λ _. Ok w) r is in
+      let u = reports after w t.0 (unrefused broken_refusal (checked after w) t.0 t.1) in
+      (u.1.kept, cc)
+
+  unit_is : {F : Type 0} (r : Result (Unit {0}) F) (x : Unit {0}) → r ≡ Ok x → r ≡ Ok tt
+  unit_is r tt is = is
+
+  pub tried_ring : (w : Volume) → volume_on after o.geometry o.total ≡ Ok w → tried said o.place after w ≡ Ok v → IsRingPlace o.place
+  unfolding volume_on tried unjournaled paged settled placed
+  tried_ring w loaded is =
+      let version = steps_from_ok (has_version w) (λ _. unjournaled said (upper_of after w) o.place after w) v is in
+      let journal = steps_from_ok (has_no_journal (upper_of after w) w) (λ _. paged said o.place after w) v version.2 in
+      let pages = steps_from_ok (has_pages o.place) (λ _. settled said o.place after w) v journal.2 in
+      let rules = steps_from_ok (ruled after w) (placed said o.place) v pages.2 in
+      let lying = steps_from_ok (lies_whole o.place rules.0) (λ _. unshadowed said rules.0) v rules.2 in
+      let kept = unbroken w rules.0 rules.1 in
+      let its = whole w (as_pages (unit_is (has_pages o.place) pages.0 pages.1)) (subst (λ (x : Volume). o.place.pages ≤ lying_pages o.place x) (sym kept.1) (as_lying rules.0 (unit_is (lies_whole o.place rules.0) lying.0 lying.1))) in
+      lies_in_ring c sectors o p w (stands w (unrefused map_refusal (volume_of after o.geometry o.total) w loaded) kept.0) its.1.0 its.1.1 its.0
+
+opened_of_mounted : (c : Content) (o : OpenedToWrite) (v : Volume) → (mounted_as c o v).opened ≡ o
+opened_of_mounted c o v = refl
+
+pub on_ring : MountedOnRing
+unfolding mounted_in mounted_by loaded_on
+on_ring c sectors m place is alike small =
+    let first = steps_from_ok (opened_to_write_in c sectors) (mounted_by c) m is in
+    let o = first.0 in
+    let second = steps_from_ok (loaded_on (shadow_lsn o.state.log) o.place (content_behind c o) o.geometry o.total) (λ v. Ok (mounted_as c o v)) m first.2 in
+    let third = steps_from_ok (volume_on (content_behind c o) o.geometry o.total) (tried (shadow_lsn o.state.log) o.place (content_behind c o)) second.0 second.1 in
+    let made : mounted_as c o second.0 ≡ m = cc in
+    let opened : o ≡ m.opened = ap (λ (x : MountedVolume). x.opened) made in
+    let lies : LieAlike place o.place = subst (λ (x : OpenedToWrite). LieAlike place x.place) (sym opened) alike in
+    let pages : o.place.pages < 2 ^ 52 = subst (λ (n : ℕ). n < 2 ^ 52) lies.pages small in
+    alike_ring place o.place lies (tried_ring c sectors o second.0 pages (opened_parts c sectors o first.1) third.0 third.1 third.2)

@@ -1,0 +1,9 @@
+//! Laws of a mounted volume: what a session that writes may rest on.
+//!
+//! The contract: laws, as functions with no body. The layouts are those of the Linux-NTFS
+//! documentation, "$LogFile".
+#![tactic(auto)]
+
+mod laws;
+
+pub use laws::mounted_on_ring;
