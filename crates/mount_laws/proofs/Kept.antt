@@ -1,16 +1,15 @@
 -- A log that isn't refused leaves the blocks by which it is found.
-use Rattle.std.proofs.Common.{◌≡◌, ℕ, Bool, true, false, not, ◌&&◌, ◌||◌, cond, List, [], ◌∷◌, ◌++◌, length, find, Option, Some, None, Result, Ok, Err, refl, sym, ap, ◌∙◌, subst, inl, inr, arith}
+use Rattle.std.proofs.Common.{◌≡◌, ℕ, Bool, true, false, not, ◌&&◌, ◌||◌, cond, List, [], ◌∷◌, ◌++◌, find, Option, Some, None, Ok, refl, sym, ap, ◌∙◌, subst, inl, inr}
 use Rattle.std.specs.Prelude.{nat_eq, ⊤}
-use Rattle.std.specs.List.{list_any, AllByRecursion}
+use Rattle.std.specs.List.{list_any}
 use Rattle.std.specs.Option.{option_map}
 use Rattle.std.specs.Cmp.Lexicographic.{pointwise}
 use Rattle.std.proofs.lemmas.Bool.{cases_Bool, and_parts, eqb-true}
-use Rattle.host_base.specs.Answers.{◌>>=◌}
 use Rattle.disk_model.specs.declared.block.Block.{Block}
-use Rattle.disk_model.specs.Sectors.{overlap, same_block}
+use Rattle.disk_model.specs.Sectors.{same_block}
 use Rattle.disk_model.specs.Bodies.{BodyOf}
-use Rattle.disk_model.specs.Content.{Content, HasSizes}
-use Rattle.disk_model.specs.Writes.{Write, overlay, bytes_after}
+use Rattle.disk_model.specs.Content.{Content}
+use Rattle.disk_model.specs.Writes.{Write, bytes_after}
 use Rattle.disk_model.proofs.Frames.{same_block-is}
 use Rattle.record_model.proofs.Answering.{steps_from_ok}
 use Rattle.log_model.specs.declared.entry.Entry.{Entry}
@@ -19,9 +18,8 @@ use Rattle.log_model.specs.declared.entry.Act.TheVariants.{Update, Commit}
 use Rattle.log_model.specs.Logs.{updates, block_of_kind, is_shadowed, is_ended, is_other, is_written_out, redo_of, undo_of, redos, undos_back, recovery_of, recovered}
 use Rattle.log_model.proofs.Recovering.{stays, changes}
 use Rattle.log_page.specs.declared.places.LogPlace.{LogPlace}
-use Rattle.log_reading.specs.declared.fault.LogRefusal.{LogRefusal}
 use Rattle.log_recovery.specs.LogStates.{LogState, recovery_in}
-use Rattle.log_recovery.specs.Own.{is_own, is_in_log}
+use Rattle.log_recovery.specs.Own.{is_own}
 use Rattle.log_recovery.specs.Writing.{is_spelled, is_put_out, is_barred, updates_such, first_update, unless_foreign, to_write_in}
 
 -- ---- no update of a barred block

@@ -1,13 +1,12 @@
 -- The log of a mounted volume may be written as it lies.
-use Rattle.std.proofs.Common.{◌≡◌, ℕ, ◌+◌, ◌*◌, ◌/◌, ◌^◌, ◌<◌, ◌≤◌, Bool, true, false, cond, not, List, Option, Some, None, Result, Ok, Err, min, max, find, refl, sym, ap, ◌∙◌, subst, arith}
-use Rattle.std.specs.Prelude.{is_some, nat_le}
+use Rattle.std.proofs.Common.{◌≡◌, ℕ, ◌*◌, ◌/◌, ◌^◌, ◌<◌, ◌≤◌, Bool, true, false, cond, not, Option, Some, None, Result, Ok, Err, find, refl, sym, ap, subst, arith}
+use Rattle.std.specs.Prelude.{is_some}
 use Rattle.std.specs.List.{range_with_len}
 use Rattle.std.proofs.lemmas.Bool.{leb-true}
-use Rattle.host_base.specs.Answers.{◌>>=◌, needs}
+use Rattle.host_base.specs.Answers.{needs}
 use Rattle.disk_model.specs.Content.{Content}
 use Rattle.record_model.specs.Records.{Record}
 use Rattle.record_model.proofs.Answering.{steps_from_ok}
-use Rattle.state_model.specs.declared.geometry.Geometry.{Geometry}
 use Rattle.state_model.specs.declared.stream.Stream.{Stream}
 use Rattle.state_model.specs.declared.stream.Stream.TheVariants.{Held, Placed}
 use Rattle.state_model.specs.Rules.{first_failing}
@@ -28,7 +27,7 @@ use Rattle.image_open.specs.Volumes.{data_of}
 use Rattle.image_open.specs.Writing.{OpenedToWrite, opened_to_write_in}
 use Rattle.image_read.specs.Errors.{broken_refusal}
 use Rattle.image_read.specs.Checks.{volume_on, has_version, tree_on}
-use Rattle.volume_mount.specs.Mounts.{Said, is_there, begun_sectors, or_all, front_sectors, lying_pages, lies_whole, pages_for, pages_needed, whole_pages, has_pages, has_no_journal, unshadowed, placed, ruled, settled, paged, unjournaled, tried, loaded_on, MountedVolume, content_behind, mounted_as, mounted_by, mounted_in}
+use Rattle.volume_mount.specs.Mounts.{Said, is_there, begun_sectors, or_all, front_sectors, lying_pages, lies_whole, pages_needed, whole_pages, has_pages, has_no_journal, unshadowed, placed, ruled, settled, paged, unjournaled, tried, loaded_on, MountedVolume, content_behind, mounted_as, mounted_by, mounted_in}
 use Rattle.mount_laws.specs.Laws.{MountedOnRing}
 use Rattle.mount_laws.proofs.Opened.{OpenedParts, opened_parts, IsWhole, lies_in_ring}
 use Rattle.mount_laws.proofs.Rings.{alike_ring}
@@ -83,13 +82,15 @@ module _ (c : Content) (sectors : ℕ) (o : OpenedToWrite) (v : Volume) (small :
   whole w enough lying =
       let most : o.place.initialised ≤ 4096 * o.place.pages = subst (λ (x : LogPlace). x.initialised ≤ 4096 * x.pages) (sym p.place) (within_pages o.geometry.per_cluster o.total sectors (data_of p.file)) in
       let ring : 4 < o.place.pages = omega (arith, enough, most) in
-      let file = file_there (file_in w log_file) o.place.pages (front_sectors o.place) ring lying in
-      (record {
-        there = λ n below. there_before o.place n (let all = file.2 in omega (arith, below, all));
-        initialised = omega (arith, enough);
-        ring = ring;
-        small = small;
-      }, (file.0, file.1))
+      let file = file_there (file_in w log_file) o.place.pages (front_sectors o.place) ring lying in (
+        record {
+          there = λ n below. there_before o.place n (let all = file.2 in omega (arith, below, all));
+          initialised = omega (arith, enough);
+          ring = ring;
+          small = small;
+        },
+        (file.0, file.1),
+      )
 
   stands : (w : Volume) → volume_of after o.geometry o.total ≡ Ok w → first_broken after w ≡ None → Stands after o.geometry o.total w
   stands w loaded kept =

@@ -1,11 +1,8 @@
 -- A volume that was opened for a mount that writes: its clusters have eight sectors, and its log is found by a record that recovery leaves.
-use Rattle.std.proofs.Common.{◌≡◌, ℕ, ◌+◌, ◌*◌, ◌/◌, ◌^◌, ◌<◌, ◌≤◌, Bool, true, false, ◌||◌, eqb, List, [], ◌∷◌, Option, Some, None, Result, Ok, Err, min, refl, sym, ap, ◌∙◌, subst, arith}
+use Rattle.std.proofs.Common.{◌≡◌, ℕ, ◌+◌, ◌*◌, ◌^◌, ◌<◌, ◌≤◌, Bool, true, false, ◌||◌, List, Option, Some, None, Result, Ok, Err, refl, sym, ap, ◌∙◌, subst, arith}
 use Rattle.std.specs.Prelude.{is_some, nat_le, nat_lt, ◌==◌}
-use Rattle.std.specs.List.{list_any}
 use Rattle.std.proofs.lemmas.Bool.{and_from, eqb-true, ltb-true, lt-ltb}
 use Rattle.host_base.specs.Answers.{◌>>=◌, needs}
-use Rattle.disk_model.specs.declared.block.Block.{Block}
-use Rattle.disk_model.specs.declared.block.BlockKind.TheVariants.{FileRec}
 use Rattle.disk_model.specs.Numbers.{field}
 use Rattle.disk_model.specs.Sectors.{overlap}
 use Rattle.disk_model.specs.Content.{Content}
@@ -14,12 +11,11 @@ use Rattle.record_model.proofs.Answering.{steps_from_ok, needs_from_ok}
 use Rattle.state_model.specs.declared.geometry.Geometry.{Geometry}
 use Rattle.state_model.specs.declared.stream.Stream.{Stream}
 use Rattle.state_model.specs.declared.stream.Stream.TheVariants.{Held, Placed}
-use Rattle.state_model.specs.Loads.{Used, slot_of, judged, boot_block, data_stream}
+use Rattle.state_model.specs.Loads.{slot_of, judged, boot_block, data_stream}
 use Rattle.boot_sector.specs.declared.boot.Boot.{Boot}
 use Rattle.boot_sector.specs.declared.boot.BootFault.{BootFault}
-use Rattle.boot_sector.specs.BootSectors.{boot_of, clusters, fields_of, signs_of, sizes_fit, places_fit, most_clusters, keeps}
-use Rattle.volume_model.specs.Volumes.{Volume, volume_of, file_in, log_file}
-use Rattle.volume_state.specs.Rules.{first_broken}
+use Rattle.boot_sector.specs.BootSectors.{boot_of, clusters, fields_of, signs_of, sizes_fit, places_fit, most_clusters}
+use Rattle.volume_model.specs.Volumes.{Volume, file_in, log_file}
 use Rattle.log_model.specs.Logs.{recovered}
 use Rattle.log_page.specs.declared.places.LogPlace.{LogPlace}
 use Rattle.log_reading.specs.LogPages.{log_sector}
@@ -37,7 +33,7 @@ use Rattle.stream_laws.proofs.Rewriting.{volume_parts}
 use Rattle.plan_owners.specs.States.{Stands}
 use Rattle.mount_laws.proofs.Kept.{kept_stays}
 use Rattle.mount_laws.proofs.Records.{parts, data_once, data_inside, its_slot, not_torn, judged_used}
-use Rattle.mount_laws.proofs.Rings.{placed_at, LiesWhole, is_ring}
+use Rattle.mount_laws.proofs.Rings.{is_ring}
 
 unrefused : {A F : Type 0} (kind : F → Refusal) (read : Result A F) (x : A) → refused_as kind read ≡ Ok x → read ≡ Ok x
 unrefused kind (Ok y) x e = cc

@@ -1,11 +1,10 @@
 -- The data of record 2, as it is found where the boot sector says, is of a file of the volume, and lies in clusters that the volume has once.
-use Rattle.std.proofs.Common.{◌≡◌, ℕ, ◌+◌, ◌*◌, ◌<◌, ◌≤◌, Bool, true, false, List, [], ◌∷◌, ◌++◌, get_or, Option, Some, None, Result, Ok, Err, refl, sym, ap, ◌∙◌, subst, inl, inr, arith}
+use Rattle.std.proofs.Common.{◌≡◌, ℕ, ◌+◌, ◌*◌, ◌<◌, ◌≤◌, Bool, true, false, List, [], ◌++◌, Option, Some, None, Result, Ok, refl, sym, ap, ◌∙◌, inl, inr, arith}
 use Rattle.std.specs.List.{sum_by, flat_map, range_with_len}
-use Rattle.std.proofs.lemmas.Bool.{cases_Bool, cases_lt, and_parts, eqb-true}
+use Rattle.std.proofs.lemmas.Bool.{cases_lt, and_parts, eqb-true}
 use Rattle.std.proofs.lemmas.List.Sums.{sum_by-append}
 use Rattle.disk_model.specs.declared.block.Block.{Block}
 use Rattle.disk_model.specs.declared.block.Body.{Body}
-use Rattle.disk_model.specs.Bodies.{BodyOf}
 use Rattle.disk_model.specs.declared.block.BlockKind.{BlockKind}
 use Rattle.disk_model.specs.declared.block.BlockKind.TheVariants.{FileRec}
 use Rattle.disk_model.specs.Content.{Content}
@@ -18,7 +17,7 @@ use Rattle.state_model.specs.declared.stream.Extents.{Extents}
 use Rattle.state_model.specs.declared.stream.Stream.{Stream}
 use Rattle.state_model.specs.declared.stream.Stream.TheVariants.{Placed}
 use Rattle.state_model.specs.Streams.{attribute_runs, block_at, stream_of}
-use Rattle.state_model.specs.Loads.{Slot, Torn, Free, Broken, Used, slot_of, slot_by, slot_in, slot_at, table_slot, judged, boot_block, data_stream, record_count, entries_of, named_attrs, all_attrs, is_used, whole_record}
+use Rattle.state_model.specs.Loads.{Slot, Used, slot_of, slot_by, slot_at, table_slot, judged, boot_block, data_stream, record_count, entries_of, named_attrs, all_attrs, whole_record}
 use Rattle.volume_model.specs.Volumes.{Volume, file_in, log_file}
 use Rattle.volume_model.specs.Owners.{volume_runs, uses}
 use Rattle.volume_model.specs.Sizes.{is_at, placed_record, keeps_place}

@@ -1,5 +1,5 @@
 -- A log whose clusters lie once in a volume of eight sectors a cluster, and of which no page lies nowhere, may be written as it lies.
-use Rattle.std.proofs.Common.{◌≡◌, ℕ, ◌+◌, ◌-◌, ◌*◌, ◌/◌, ◌%◌, ◌^◌, ◌<◌, ◌≤◌, Bool, true, List, find, Option, Some, None, refl, sym, ap, ◌∙◌, subst, arith}
+use Rattle.std.proofs.Common.{◌≡◌, ℕ, ◌+◌, ◌-◌, ◌*◌, ◌/◌, ◌%◌, ◌^◌, ◌<◌, ◌≤◌, true, List, find, Option, Some, None, refl, sym, ap, ◌∙◌, subst, arith}
 use Rattle.std.specs.Prelude.{is_some, option_map}
 use Rattle.std.proofs.lemmas.Bool.{and_from, lt-ltb}
 use Rattle.disk_model.specs.declared.block.Block.{Block}
@@ -11,7 +11,7 @@ use Rattle.state_model.specs.declared.stream.Stream.TheVariants.{Placed}
 use Rattle.state_model.specs.Streams.{block_at, holds, lcn_in}
 use Rattle.volume_model.specs.Owners.{uses}
 use Rattle.stream_laws.specs.Places.{AreOnce}
-use Rattle.stream_laws.proofs.Placing.{Lies, lies, lies_in_cluster, one_place, is_used}
+use Rattle.stream_laws.proofs.Placing.{lies, lies_in_cluster, one_place, is_used}
 use Rattle.log_page.specs.declared.places.LogPlace.{LogPlace}
 use Rattle.log_reading.specs.LogPages.{log_sector}
 use Rattle.log_reading.specs.Rings.{IsPageAt, IsRingPlace}
@@ -77,17 +77,19 @@ module _ (clusters device : ℕ) (e : Extents) (w : LiesWhole clusters device e)
       let block : block_at 8 e.runs Plain (8 * n + 0) ≡ Some (sector first) = block_row e.runs n 0 (omega arith) ∙ ap (option_map (row 0)) found.1 ∙ ap (λ (x : ℕ). Some (sector x)) (omega arith) in
       let l = lies 8 e.runs Plain (8 * n + 0) (sector first) block in
       let used = is_used _ e.runs l.run (first / 8) l.found (lies_in_cluster 8 e.runs Plain (8 * n + 0) (sector first) l first (omega arith) (omega arith) (omega arith)) in
-      let within = w.inside (first / 8) used in
-      (first, record {
-        begun = omega arith;
-        volume = omega (arith, within, its_clusters);
-        row = λ i small.
-            let is = some_of (log_sector (placed_at clusters device e) (8 * n + i)) (w.there (8 * n + i) (omega (arith, below, small))) in
-            let at = log_lies_in_stream.only 8 clusters device e (8 * n + i) is.0 is.1 in
-            let same : ◌≡◌ {A = Option Block} (Some (sector is.0)) (Some (row i found.0)) = sym at ∙ block_row e.runs n i small ∙ ap (option_map (row i)) found.1 in
-            is.1 ∙ ap (λ (o : Option Block). first_or o) same;
-        initialised = let all = w.initialised in omega (arith, all, below);
-      })
+      let within = w.inside (first / 8) used in (
+        first,
+        record {
+          begun = omega arith;
+          volume = omega (arith, within, its_clusters);
+          row = λ i small.
+              let is = some_of (log_sector (placed_at clusters device e) (8 * n + i)) (w.there (8 * n + i) (omega (arith, below, small))) in
+              let at = log_lies_in_stream.only 8 clusters device e (8 * n + i) is.0 is.1 in
+              let same : ◌≡◌ {A = Option Block} (Some (sector is.0)) (Some (row i found.0)) = sym at ∙ block_row e.runs n i small ∙ ap (option_map (row i)) found.1 in
+              is.1 ∙ ap (λ (o : Option Block). first_or o) same;
+          initialised = let all = w.initialised in omega (arith, all, below);
+        },
+      )
     where
       first_or : Option Block → Option ℕ
       first_or None = None
@@ -111,12 +113,14 @@ alike_ring p q alike r = record {
   ring = omega (arith, r.ring, alike.pages);
   small = subst (λ (n : ℕ). n < 2 ^ 52) (sym alike.pages) r.small;
   pages = λ n below.
-      let at = r.pages n (omega (arith, below, alike.pages)) in
-      (at.0, record {
-        begun = at.1.begun;
-        volume = let inside = at.1.volume in omega (arith, inside, alike.clusters);
-        row = λ i small. alike.sectors (8 * n + i) ∙ at.1.row i small;
-        initialised = let all = at.1.initialised in omega (arith, all, alike.initialised);
-      });
+      let at = r.pages n (omega (arith, below, alike.pages)) in (
+        at.0,
+        record {
+          begun = at.1.begun;
+          volume = let inside = at.1.volume in omega (arith, inside, alike.clusters);
+          row = λ i small. alike.sectors (8 * n + i) ∙ at.1.row i small;
+          initialised = let all = at.1.initialised in omega (arith, all, alike.initialised);
+        },
+      );
   apart = λ i j s less below one two. r.apart i j s less (omega (arith, below, alike.pages)) (sym (alike.sectors i) ∙ one) (sym (alike.sectors j) ∙ two);
 }

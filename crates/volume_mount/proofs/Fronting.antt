@@ -1,5 +1,5 @@
 -- The first sectors of a log that lie on its device.
-use Rattle.std.proofs.Common.{◌≡◌, ℕ, ◌+◌, ◌-◌, ◌*◌, ◌<◌, ◌≤◌, Bool, true, false, List, [], ◌∷◌, Option, Some, None, min, refl, sym, ap, ◌∙◌, inl, inr, arith, drop, length, get_or}
+use Rattle.std.proofs.Common.{◌≡◌, ℕ, ◌+◌, ◌-◌, ◌*◌, ◌<◌, ◌≤◌, Bool, true, false, List, ◌∷◌, Option, Some, None, min, sym, ap, ◌∙◌, inl, inr, arith, drop, length, get_or}
 use Rattle.std.specs.Prelude.{is_some, nat_lt, if◌then◌else◌}
 use Rattle.std.specs.Int.{div_ceil}
 use Rattle.std.proofs.lemmas.List.{drop_all, drop_more}
@@ -7,7 +7,7 @@ use Rattle.std.proofs.lemmas.Bool.{cases_lt}
 use Rattle.std.proofs.lemmas.Grind.{div_ceil_times}
 use Rattle.log_page.specs.declared.places.Extent.{Extent}
 use Rattle.log_page.specs.declared.places.LogPlace.{LogPlace}
-use Rattle.log_reading.specs.LogPages.{sector_in, sector_below, log_sector}
+use Rattle.log_reading.specs.LogPages.{sector_in, sector_below}
 use Rattle.stream_rules.proofs.Failing.{failing_none, failing_some}
 use Rattle.volume_mount.specs.Fronts.{LieInFront}
 use Rattle.volume_mount.specs.Mounts.{is_there, begun_sectors, or_all, front_sectors}

@@ -90,7 +90,7 @@ pages_alike p q alike = rw (alike.pages, alike.initialised, alike.clusters) refl
 
 whole_alike : (p q : LogPlace) (v : Volume) → LieAlike p q → lies_whole p v ≡ lies_whole q v
 unfolding lies_whole
-whole_alike p q v alike = rw (alike.pages, alike.clusters, front_alike p q alike) refl
+whole_alike p q v alike = rw (front_alike p q alike, alike.pages, alike.clusters) refl
 
 then_alike : {A B : Type 0} (first : Result A Refusal) (f g : A → Result B Refusal) → ((x : A) → f x ≡ g x) → (first >>= f) ≡ (first >>= g)
 then_alike (Ok x) f g same = same x

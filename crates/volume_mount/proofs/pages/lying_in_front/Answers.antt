@@ -1,7 +1,6 @@
-use Rattle.std.proofs.Common.{◌≡◌, ℕ, ◌+◌, ◌-◌, ◌<◌, ◌≤◌, min, length, drop, get_or, List, [], ◌∷◌, ap, arith}
+use Rattle.std.proofs.Common.{◌+◌, ◌-◌, ◌≤◌, drop, get_or, arith}
 use Rattle.log_page.specs.declared.places.Extent.{Extent}
-use Rattle.volume_mount.specs.Fronts.{LieInFront}
-use Rattle.volume_mount.proofs.Fronting.{LieBefore, IsRest, none_yet, from_front, taken_run, with_run, next_run, ends_here, ends_behind, all_run}
+use Rattle.volume_mount.proofs.Fronting.{taken_run, with_run, ends_here, ends_behind, all_run}
 use Rattle.volume_mount.proofs.pages.lying_in_front.Goals as goal
 
 abbrev no_run : Extent
