@@ -3,3 +3,5 @@ mod Rings
 mod Records
 mod Opened
 mod Mounted
+mod Rising
+mod First

@@ -1,7 +1,19 @@
+ghost use Rattle.mount_laws.specs.Firsts.{EntriesRise, LeastIsFirst};
 ghost use Rattle.mount_laws.specs.Laws.{MountedOnRing};
 
 /// Law: each page of the log of a mounted volume lies in one cluster of the volume and is initialised,
 /// and no two places of the log lie in one sector: so a session may write it as it lies.
 pub fn mounted_on_ring()
     ensures { MountedOnRing }
+{}
+
+/// Law: the entries of a log that isn't refused stand by rising LSNs.
+pub fn entries_rise()
+    ensures { EntriesRise }
+{}
+
+/// Law: so where such a log shadows a live block, the least LSN that is said of one, with which a mount
+/// refuses it, is that of the first entry that does.
+pub fn least_is_first()
+    ensures { LeastIsFirst }
 {}
