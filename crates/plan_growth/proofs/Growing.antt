@@ -1,11 +1,11 @@
 -- A stream takes clusters behind its own.
-use Rattle.std.proofs.Common.{◌≡◌, ◌⊎◌, ℕ, ◌+◌, ◌*◌, ◌/◌, ◌<◌, ◌≤◌, Bool, true, false, ◌||◌, cond, leb, min, List, [], ◌∷◌, ◌++◌, Option, Some, refl, sym, ap, subst, ◌∙◌, inl, inr, arith}
+use Rattle.std.proofs.Common.{◌≡◌, ◌⊎◌, ℕ, ◌+◌, ◌*◌, ◌/◌, ◌<◌, ◌≤◌, Bool, true, false, ◌||◌, cond, leb, min, List, [], ◌∷◌, ◌++◌, Option, Some, refl, sym, ap, subst, ◌∙◌, inl, inr, arith, length, take}
 use Rattle.std.specs.Prelude.{map}
 use Rattle.std.specs.List.{list_all, range_with_len}
 use Rattle.std.proofs.lemmas.Bool.{cases_lt, and_parts, and_from, both_ways, or_left, or_right, le-leb, lt-leb, eq-eqb}
 use Rattle.disk_model.specs.declared.block.Block.{Block}
 use Rattle.disk_model.specs.declared.block.BlockKind.{BlockKind}
-use Rattle.disk_model.specs.declared.block.BlockKind.TheVariants.{FileRec, Index}
+use Rattle.disk_model.specs.declared.block.BlockKind.TheVariants.{Plain, FileRec, Index}
 use Rattle.disk_model.specs.Sectors.{sectors}
 use Rattle.disk_model.specs.Content.{Content, HasSizes}
 use Rattle.record_model.specs.declared.runs.Run.{Run}
@@ -17,14 +17,17 @@ use Rattle.state_model.specs.declared.stream.Extents.{Extents}
 use Rattle.state_model.specs.declared.stream.Stream.{Stream}
 use Rattle.state_model.specs.declared.stream.Stream.TheVariants.{Placed}
 use Rattle.state_model.specs.Loads.{total_clusters}
-use Rattle.state_model.specs.Streams.{block_at}
-use Rattle.volume_model.specs.Volumes.{Volume, cluster_bits}
+use Rattle.state_model.specs.Streams.{block_at, extent_bytes}
+use Rattle.volume_model.specs.Volumes.{Volume, cluster_bits, bytes_or}
 use Rattle.volume_model.specs.Indexes.{void_block, or_void, index_block, runs_end, block_count, blocks_of, stream_blocks}
 use Rattle.volume_model.specs.Owners.{uses}
 use Rattle.volume_model.specs.Sizes.{lies_inside, has_sizes, fits_volume, has_hole}
 use Rattle.stream_laws.specs.Owners.{stream_kind, initialised_in, IsLive}
 use Rattle.stream_laws.specs.Sharing.{stream_at, runs_in}
 use Rattle.stream_laws.specs.Rewrites.{is_edited}
+use Rattle.stream_laws.proofs.Growing.{stream_cut as front_bytes}
+use Rattle.stream_laws.proofs.Changing.{length-extent_bytes}
+use Rattle.std.proofs.lemmas.List.{take_all}
 use Rattle.stream_laws.proofs.Framing.{same_map}
 use Rattle.stream_runs.specs.Runs.{moved, grown}
 use Rattle.stream_runs.specs.Laws.{InOneCluster}
@@ -46,7 +49,7 @@ use Rattle.plan_growth.specs.Growing.{GrowsStream, MayGive}
 use Rattle.plan_growth.proofs.Runs.{grown_inside, grown_whole, end_is_total}
 use Rattle.plan_growth.proofs.Ruled.{runs_before, stream_fits, sizes_lawful}
 use Rattle.plan_growth.proofs.Alike.{one_cluster, SamePlaces, untorn_alike}
-use Rattle.plan_growth.proofs.Resizing.{Follows, BitsFollow, resized_leads, own_was, resized_goes_on, resized_tree, as_fresh}
+use Rattle.plan_growth.proofs.Resizing.{Follows, BitsFollow, resized_leads, own_was, resized_goes_on, resized_tree, as_fresh, own_now, reads_on}
 
 -- ---- a stream that takes more clusters
 
@@ -214,3 +217,15 @@ module _ (c : Content) (g : Geometry) (clusters : ℕ) (v : Volume) (n kind : �
 
   pub grown_tree : has_hole (Some (Placed e)) ≡ false → TreeFollows c (content_with c bodies) v n r s
   grown_tree = resized_tree c g clusters v n kind name r (Placed e) f taken given bodies sized eight state k.own marks_streams (λ t is. inl is) s written_now (as_fresh marks_streams v n kind name s bodies k.puts) follows
+
+  all_front : (bytes : List ℕ) (size : ℕ) → length bytes ≡ size → take size bytes ≡ bytes
+  all_front bytes size is = take_all size bytes (omega (arith, is))
+
+  pub grown_bytes : marks_streams (key_of n kind name) ≡ false → bytes_or (content_with c bodies) v.per (stream_at (with_record v n s) (key_of n kind name)) ≡ bytes_or c v.per (stream_at v (key_of n kind name))
+  grown_bytes apart =
+      ap (bytes_or d v.per) (own_now c g clusters v n kind name r (Placed e) f taken given bodies sized eight state k.own marks_streams (λ t is. inl is) s written_now (as_fresh marks_streams v n kind name s bodies k.puts) follows)
+      ∙ front_bytes d v.per e f (record { real = omega arith; initialised = (let low = old_sizes.0 in omega (arith, low)); places = λ m held. places Plain m (omega (arith, held)) })
+      ∙ all_front (extent_bytes d v.per e) e.real (length-extent_bytes d v.per e)
+      ∙ ap (bytes_or d v.per) (sym own_v)
+      ∙ reads_on c g clusters v n kind name r (Placed e) f taken given bodies sized eight state k.own marks_streams (λ t is. inl is) s written_now (as_fresh marks_streams v n kind name s bodies k.puts) follows (key_of n kind name) apart
+      (λ same. k.own.apart.table (sym (ap (λ t. t.file) same)))
