@@ -1,0 +1,11 @@
+pub mod Runs
+pub mod Placed
+pub mod Written
+pub mod Alike
+pub mod Ruled
+pub mod Resizing
+pub mod Growing
+pub mod Cutting
+pub mod Sizing
+pub mod Choosing
+pub mod Leaving
