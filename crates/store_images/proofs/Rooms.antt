@@ -39,6 +39,7 @@ may_make f c at new enough k lie room = record {
   may = record {
     opened = lie.opened;
     known = lie.known;
+    volume = lie.volume;
     inside = lie.inside;
     some = lie.some;
     fits = lie.fits;

@@ -1,5 +1,5 @@
 -- What is so of a store whose calls rows make, and of a change that may be made.
-use Rattle.std.specs.Prelude.{◌≡◌, ◌⊎◌, ℕ, ◌+◌, ◌*◌, ◌^◌, ◌<◌, ◌≤◌, true, false, List, [], ◌∷◌, length, None}
+use Rattle.std.specs.Prelude.{◌≡◌, ◌⊎◌, ℕ, ◌+◌, ◌*◌, ◌/◌, ◌^◌, ◌<◌, ◌≤◌, true, false, List, [], ◌∷◌, length, None}
 use Rattle.disk_model.specs.declared.block.Block.{Block}
 use Rattle.disk_model.specs.declared.block.Change.{Change}
 use Rattle.disk_model.specs.Sectors.{sectors, are_rivals}
@@ -39,6 +39,7 @@ pages_of_changes f changes = pages_needed f.log.free (λ b. (f.mark b).imaged) c
 pub record CanLie (f : StoreFacts) (c : Block) (at : ℕ) (new : List ℕ) : Type 0 where
   pub opened : f.is_open ≡ true
   pub known : is_known (own_of f) c ≡ true
+  pub volume : c.first / 8 < f.place.clusters
   pub inside : c.first + sectors c.kind ≤ f.place.device
   pub some : 0 < length new
   pub fits : at + length new ≤ 512 * sectors c.kind

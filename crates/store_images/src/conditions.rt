@@ -1,5 +1,5 @@
 //! The conditions of a store's calls, tried at run time.
-ghost use Rattle.std.specs.Prelude.{◌≡◌, ◌+◌, ◌*◌, ◌≤◌, true, None, is_some};
+ghost use Rattle.std.specs.Prelude.{◌≡◌, ◌+◌, ◌*◌, ◌/◌, ◌<◌, ◌≤◌, true, None, is_some};
 ghost use Rattle.std.specs.List.{list_any};
 ghost use Rattle.disk_model.specs.declared.block.Block.{Block as BlockOf};
 ghost use Rattle.disk_model.specs.Sectors.{sectors, are_rivals};
@@ -32,6 +32,13 @@ pub(crate) fn is_inside(place: &LogPlace, block: Block) -> bool
 {
     let count = block.kind.sectors() as u64;
     count <= place.device && block.first <= place.device - count
+}
+
+// Whether the block begins in the volume.
+pub(crate) fn is_in_volume(place: &LogPlace, block: Block) -> bool
+    ensures { result ≡ true → block.first / 8 < place.now.clusters }
+{
+    block.first / 8 < place.clusters
 }
 
 // Whether the block lies before or behind a log of one run, and not next to it.

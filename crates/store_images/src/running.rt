@@ -11,7 +11,7 @@ ghost use Rattle.txn_core.specs.Steps.{MayTurn};
 ghost use Rattle.store_images.specs.Running.{IsRunning, MayBegin, MayMake, MayGoOn, change_of, pages_of_changes, CanLie};
 
 use crate::blind::BlindDevice;
-use crate::conditions::{is_alone, is_in_grid, is_inside, is_known};
+use crate::conditions::{is_alone, is_in_grid, is_in_volume, is_inside, is_known};
 use crate::devices::place;
 use block_view::ViewFault;
 use disk_model::{Block, Change};
@@ -85,6 +85,7 @@ fn can_lie(state: &StoreState, block: Block, at: usize, new: &[u8]) -> bool
     state.is_open()
         && is_known(state, block)
         && is_in_grid(block)
+        && is_in_volume(state.place(), block)
         && is_inside(state.place(), block)
         && fits(block, at, new)
         && is_alone(state, block)

@@ -65,8 +65,8 @@ made_page a oldest clean is = ap (λ (o : Option SentRestart). page_to_send (rec
 fits_in : (free : ℕ) → nat_lt 0x40 free ≡ false → 0x40 ≤ free → nat_le (free + 0x58) 4096 ≡ true
 fits_in free none above = grind (arith, nat_tests, none, above)
 
-own_lap : (f : StoreFacts) → IsDrained f → HasNext f.log → lap_at f.log f.log.sealed < 2 ^ sequence_bits f.log.pages
-own_lap f d next = subst (λ (t : Bool). lap_at f.log (cond t f.log.sealed (f.log.sealed + 1)) < 2 ^ sequence_bits f.log.pages) (fits_in f.log.free d.empty d.above) next.lap
+own_lap : (f : StoreFacts) → IsDrained f → 0x40 ≤ f.log.free → HasNext f.log → lap_at f.log f.log.sealed < 2 ^ sequence_bits f.log.pages
+own_lap f d above next = subst (λ (t : Bool). lap_at f.log (cond t f.log.sealed (f.log.sealed + 1)) < 2 ^ sequence_bits f.log.pages) (fits_in f.log.free d.empty above) next.lap
 
 -- ---- behind it
 
@@ -86,7 +86,7 @@ module _ {D : Type 0} (gives : D → Option (List (List ℕ))) (changes : D → 
   may_noted = record { noted = noted; paid = λ b. ((d.plain b).paid, (d.plain b).past); durable = (let e = d.synced in omega (arith, e)); unnamed = d.unnamed }
 
   small : oldest < 2 ^ 64
-  small = let room = lsn_room f.log f.log.sealed 0x40 d.some d.few (own_lap f d next) (omega arith) in omega (arith, room)
+  small = let ring = h.stands.ring.area in let room = lsn_room f.log f.log.sealed 0x40 ring.some ring.few (own_lap f d ring.above next) (omega arith) in omega (arith, room)
 
   may_name : MayName f.log h.restarts h.fields oldest true
   may_name = record {

@@ -179,12 +179,9 @@ module _ (f : StoreFacts) (told : Facts) (dirty : List Block) (kept : IsKept f) 
 
   pub is_drained : IsDrained f
   is_drained = record {
-    some = kept.order.pages_some;
-    few = kept.order.pages_few;
     closed = shut.closed;
     durable = marked.all shut.empty (let same = synced in omega (arith, same));
     empty = shut.empty;
-    above = kept.order.free_from;
     written = written;
     synced = synced;
     unnamed = all_synced.unnamed;

@@ -67,12 +67,9 @@ plain_synced synced m p = record {
 
 pub ended_drained : (f : StoreFacts) (page : ℕ) → IsDrained f → IsDrained (synced_facts (named_facts page f))
 ended_drained f page d = record {
-  some = d.some;
-  few = d.few;
   closed = d.closed;
   durable = ap (λ (t : Bool). cond {A = ℕ} t f.durable (slice_index f.ends (place_at f.log (f.log.done - 1)))) (same f.log.synced f.log.done (d.synced ∙ sym d.written)) ∙ d.durable;
   empty = d.empty;
-  above = d.above;
   written = d.written;
   synced = d.written;
   unnamed = refl;
@@ -113,12 +110,9 @@ pub begun_drained : (f : StoreFacts) → IsDrained f → IsDrained (noted_facts 
 begun_drained f d =
     subst (λ (a : LogAreaOf). IsDrained (with_log f a)) (sym (begun_log f d))
     (record {
-      some = d.some;
-      few = d.few;
       closed = d.closed;
       durable = d.durable;
       empty = d.empty;
-      above = d.above;
       written = d.written;
       synced = d.synced;
       unnamed = d.unnamed;
@@ -131,13 +125,13 @@ begun_drained f d =
 none_used : (a : LogAreaOf) (n : ℕ) → n ≡ a.sealed → is_filling a ≡ false → ◌≡◌ {A = ℕ} (a.sealed - n + cond (is_filling a) 1 0) 0
 none_used a n is empty = ap (λ (t : Bool). a.sealed - n + cond {A = ℕ} t 1 0) empty ∙ omega (arith, is)
 
-pub ended_at_rest : (f : StoreFacts) → IsDrained f → f.noted ≡ Some f.log.sealed → IsAtRest (synced_facts (named_facts (unwrap_or f.noted 0) f))
-ended_at_rest f d noted =
+pub ended_at_rest : (f : StoreFacts) → IsDrained f → 4 < f.log.pages → f.log.pages < 2 ^ 52 → f.noted ≡ Some f.log.sealed → IsAtRest (synced_facts (named_facts (unwrap_or f.noted 0) f))
+ended_at_rest f d some few noted =
     let page : unwrap_or f.noted 0 ≡ f.log.sealed = ap (λ (o : Option ℕ). unwrap_or o 0) noted in
     record {
       drained = ended_drained f (unwrap_or f.noted 0) d;
       ended = refl;
-      free = none_used f.log (number_of f.log (front_lsn f.log (unwrap_or f.noted 0))) (number_is f.place f.log d.some d.few (unwrap_or f.noted 0) ∙ page) d.empty;
+      free = none_used f.log (number_of f.log (front_lsn f.log (unwrap_or f.noted 0))) (number_is f.place f.log some few (unwrap_or f.noted 0) ∙ page) d.empty;
     }
 
 -- ---- by what the calls answer
@@ -146,9 +140,12 @@ pub then_drained : (result : Result (Unit {0}) CloseFault) (f h : StoreFacts) �
 then_drained (Ok tt) f h d is = subst IsDrained (sym is) (ended_drained f (unwrap_or f.noted 0) d)
 then_drained (Err e) f h d is = tt
 
-pub then_at_rest : (result : Result (Unit {0}) CloseFault) (f g h : StoreFacts) → IsDrained f → g ≡ noted_facts f → OnOk result (h ≡ synced_facts (named_facts (unwrap_or g.noted 0) g)) → OnOk result (IsAtRest h)
-then_at_rest (Ok tt) f g h d begun is = subst IsAtRest (sym is) (ended_at_rest g (subst IsDrained (sym begun) (begun_drained f d)) (subst (λ (x : StoreFacts). x.noted ≡ Some x.log.sealed) (sym begun) refl))
-then_at_rest (Err e) f g h d begun is = tt
+pub then_at_rest : (result : Result (Unit {0}) CloseFault) (f g h : StoreFacts) → IsDrained f → 4 < f.log.pages → f.log.pages < 2 ^ 52 → g ≡ noted_facts f → OnOk result (h ≡ synced_facts (named_facts (unwrap_or g.noted 0) g)) → OnOk result (IsAtRest h)
+then_at_rest (Ok tt) f g h d some few begun is =
+    let pages : g.log.pages ≡ f.log.pages = ap (λ (x : StoreFacts). x.log.pages) begun ∙ ap (λ (a : LogAreaOf). a.pages) (begun_log f d) in
+    subst IsAtRest (sym is)
+    (ended_at_rest g (subst IsDrained (sym begun) (begun_drained f d)) (omega (arith, some, pages)) (omega (arith, few, pages)) (subst (λ (x : StoreFacts). x.noted ≡ Some x.log.sealed) (sym begun) refl))
+then_at_rest (Err e) f g h d some few begun is = tt
 
 -- what was stopped
 pub stopped_closed : (f : StoreFacts) → f.is_open ≡ false → stopped_facts f ≡ f

@@ -1,5 +1,5 @@
 -- What a store is once nothing is left to write.
-use Rattle.std.specs.Prelude.{◌≡◌, ◌^◌, ◌<◌, ◌≤◌, Bool, true, false, if◌then◌else◌, Option, Some, None, IfSome}
+use Rattle.std.specs.Prelude.{◌≡◌, ◌≤◌, Bool, true, false, if◌then◌else◌, Option, Some, None, IfSome}
 use Rattle.disk_model.specs.declared.block.Block.{Block}
 use Rattle.log_area.specs.Areas.{is_filling, used_pages}
 use Rattle.flush_policy.specs.declared.facts.StoreStep.{StoreStep}
@@ -31,12 +31,9 @@ pub record IsPlain (m : Mark) : Type 0 where
 -- All that a store held is written out and durable: no transaction is open, each commit is durable and so is each page of the log, and each block is as it stands on
 -- the disk. A checkpoint may have begun.
 pub record IsDrained (f : StoreFacts) : Type 0 where
-  pub some : 4 < f.log.pages
-  pub few : f.log.pages < 2 ^ 52
   pub closed : f.is_open ≡ false
   pub durable : f.durable ≡ f.commits
   pub empty : is_filling f.log ≡ false
-  pub above : 0x40 ≤ f.log.free
   pub written : f.log.done ≡ f.log.sealed
   pub synced : f.log.synced ≡ f.log.sealed
   pub unnamed : f.log.named ≡ None

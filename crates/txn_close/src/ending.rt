@@ -81,6 +81,7 @@ pub(crate) fn mark_clean<D: Device>(store: Store<D>) -> (Result<(), CloseFault>,
     ensures marks { MarksClean D.gives D.sector_count D.moment_of D.changes_of store result.0 result.1 }
     ensures cause { CountsOnDevice close_cause (D.fault_count store.device) (D.fault_count result.1) (D.moment_of result.1) result.0 }
 {
+    store.known();
     let mut store = store;
     store.begin_checkpoint();
     if !has_next(&store) {

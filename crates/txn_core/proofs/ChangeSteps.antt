@@ -58,7 +58,7 @@ change_step : (count moment : ℕ) (changes : Changes) (gives : Option (List (Li
 change_step count moment changes None f c at new x may size present spells sees = unseen count moment changes changes f (changed_facts c at new x f) (AfterChange c at new) sees (λ e is. (e, is)) refl refl
 change_step count moment changes (Some disk) f c at new x may size present spells sees =
     changes_in_memory count moment changes f c at new x (Some disk)
-    (record { opened = may.opened; known = may.known; some = may.some; fits = may.fits; spelled = spells; alone = may.alone; room = may.room x size }) sees present
+    (record { opened = may.opened; known = may.known; volume = may.volume; some = may.some; fits = may.fits; spelled = spells; alone = may.alone; room = may.room x size }) sees present
 
 moved : (count moment : ℕ) (old now : Changes) (f g h : StoreFacts) (result : Result (Unit {0}) ChangeFault) (c : Block) (at : ℕ) (new : List ℕ) → now ≡ old → g ≡ h → Simulates count moment old old f h (AfterChanging result c at new)
     → Simulates count moment old now f g (AfterChanging result c at new)

@@ -44,12 +44,13 @@ loosely count moment old now f g lost step = record {
   place = step.place;
   found = step.found;
   steps = λ w has. let next = step.steps w has in (next.0, next.1, moves_after lost w next.0 next.2, next.3);
+  laps = step.laps;
 }
 
 -- nothing is said of a device that isn't known
 pub unseen : (count moment : ℕ) (old now : Changes) (f g : StoreFacts) (After : ContentWindow → ContentWindow → Type 0) → SeesDisk None old.disk → ((e : Disk) → now.disk ≡ Some e → (d : Disk) × (old.disk ≡ Some d))
     → g.place ≡ f.place → g.found ≡ f.found → Simulates count moment old now f g After
-unseen count moment old now f g After sees known place found = record { known = known; place = place; found = found; steps = λ w has. absurd (subst (λ (o : Option Disk). SeesDisk None o) has.1 sees) }
+unseen count moment old now f g After sees known place found = record { known = known; place = place; found = found; steps = λ w has. absurd (subst (λ (o : Option Disk). SeesDisk None o) has.1 sees); laps = λ w has t image le left. absurd (subst (λ (o : Option Disk). SeesDisk None o) has.1 sees) }
 
 asked_moves : {D : Type 0} (gives : D → Option (List (List ℕ))) (changes : D → Changes) (moment : D → ℕ) (count : ℕ) (f : StoreFacts) (lost : Block → Bool) (old new : D)
     → IsAsked gives changes moment old new → Simulates count (moment old) (changes old) (changes new) f f (MovesTo lost)

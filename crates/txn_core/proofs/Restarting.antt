@@ -217,7 +217,7 @@ restart_front f page clean (Err e) now front may is names made told =
     (ap (λ (n : ℕ). (page_to_send f.log (front_lsn f.log n) clean).oldest) is ∙ page_names f.log (front_lsn f.log page) clean may.again ∙ sym names) made) told
 
 -- a page without the flag goes out where none was sent with it
-pub restart_open : (f : StoreFacts) → LeavesOpen f.log → (restart_page false f).clean ≡ false
+restart_open : (f : StoreFacts) → LeavesOpen f.log → (restart_page false f).clean ≡ false
 restart_open f is = by_sent f.log.sent refl
   where
     front : ℕ

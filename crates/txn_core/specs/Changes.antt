@@ -1,5 +1,5 @@
 -- What a change of a block asks, and what it does to a store.
-use Rattle.std.specs.Prelude.{◌≡◌, ◌⊎◌, ℕ, ◌+◌, ◌*◌, ◌<◌, ◌≤◌, Bool, true, false, List, length, Option, None, is_some, unwrap_or, Result, Ok, Err, IfSome}
+use Rattle.std.specs.Prelude.{◌≡◌, ◌⊎◌, ℕ, ◌+◌, ◌*◌, ◌/◌, ◌<◌, ◌≤◌, Bool, true, false, List, length, Option, None, is_some, unwrap_or, Result, Ok, Err, IfSome}
 use Rattle.host_base.specs.Answers.{Cause, refused, no_memory, failed}
 use Rattle.disk_model.specs.declared.block.Block.{Block}
 use Rattle.disk_model.specs.declared.block.Body.{Body}
@@ -52,11 +52,12 @@ pub record WordIsPut (gives : Option (List (List ℕ))) (f : StoreFacts) (c : Bl
   pub changed : is_some (f.body c) ≡ true → word ≡ changed_word (word_of old c)
   pub read : is_some (f.body c) ≡ false → IfSome gives (IsToldOf word c)
 
--- The open transaction may change the block in this way: it is known and lies inside the device, the bytes fit, the body after them has a spelling, no rival of the block
+-- The open transaction may change the block in this way: it is known, begins in the volume and lies inside the device, the bytes fit, the body after them has a spelling, no rival of the block
 -- was changed by the transaction, and the log has room.
 pub record MayChangeNow (gives : Option (List (List ℕ))) (f : StoreFacts) (c : Block) (at : ℕ) (new : List ℕ) : Type 0 where
   pub opened : f.is_open ≡ true
   pub known : is_known (own_of f) c ≡ true
+  pub volume : c.first / 8 < f.place.clusters
   pub inside : c.first + sectors c.kind ≤ f.place.device
   pub some : 0 < length new
   pub fits : at + length new ≤ 512 * sectors c.kind

@@ -231,7 +231,8 @@ fn change_asked(
 impl<D: Device> Store<D> {
     /// Changes a block in the open transaction: these bytes stand from `at` on over its present
     /// body, which is read where it isn't kept. What it logs is appended to the log, and nothing is
-    /// written to the device. Dirty rivals of the block are dead.
+    /// written to the device. Dirty rivals of the block are dead. The block begins in the volume:
+    /// recovery refuses a log with an entry of one behind it.
     ///
     /// [`ChangeFault::Fault`]: the device failed, only where the body was read;
     /// [`ChangeFault::Memory`]: want of memory; [`ChangeFault::Unspelled`]: the body after the change

@@ -86,7 +86,6 @@ impl<D: Device> Store<D> {
         ensures facts { facts_of self.new.state ≡ restart_facts result self.new.state.log.sent (facts_of self.old.state) }
         ensures page { OnErr result (IfSome self.new.state.log.sent (λ s. s.page ≡ restart_page false (facts_of self.old.state))) }
         ensures sent { SendsRestartPage D.gives D.changes_of D.moment_of false (facts_of self.old.state) (facts_of self.new.state) result self.old.device self.new.device }
-        ensures unmarked { (restart_page false (facts_of self.old.state)).clean ≡ false }
         ensures words { self.new.words ≡ self.old.words }
         ensures sectors { D.sector_count self.new.device ≡ D.sector_count self.old.device }
         ensures cause { FailsByCause (D.fault_count self.old.device) (D.fault_count self.new.device) (D.moment_of self.new.device) result }

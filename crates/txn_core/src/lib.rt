@@ -4,6 +4,13 @@
 //! The contract: each call is an event of the pure machine behind the store, so that whatever a
 //! crash may leave at any moment recovers to a content of the store's window; and each failure has
 //! its cause.
+//!
+//! So, from any settled device, through a mount, whatever calls come and however the device fails:
+//! what a crash may leave of a moment or since isn't refused by a mount, as long as the laps of the
+//! log don't come near their end (`stores_mount` of `txn_mount`); and it recovers, on each known
+//! block that it doesn't shadow, to the content after some number of commits, in their order. That
+//! is no fewer than were durable at that moment, where no rival of the block was written out since
+//! and its body wasn't dropped (`windows_follow` of `txn_laws`).
 #![tactic(auto)]
 
 mod changing;

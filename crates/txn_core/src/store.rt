@@ -5,7 +5,7 @@ ghost use Rattle.sector_device.specs.Disks.{Disk, seen};
 ghost use Rattle.txn_model.specs.Calls.{first_facts};
 ghost use Rattle.txn_state.specs.States.{facts_of};
 ghost use Rattle.txn_laws.specs.Windows.{HasStart};
-ghost use Rattle.txn_core.specs.Kept.{IsBegun};
+ghost use Rattle.txn_core.specs.Kept.{IsBegun, IsKept};
 ghost use Rattle.txn_core.specs.Openings.{StartsThen};
 ghost use Rattle.txn_core.specs.Tells.{LeavesOpen};
 
@@ -78,6 +78,13 @@ impl<D: Device> Store<D> {
     /// reads no entry.
     pub fn leaves_open(&self)
         ensures { LeavesOpen self.now.state.log }
+    {
+        self.state.known();
+    }
+
+    /// Law: what is always so of a store, beside what its state keeps by itself.
+    pub fn known(&self)
+        ensures { IsKept (facts_of self.now.state) }
     {
         self.state.known();
     }

@@ -89,6 +89,8 @@ module _ (f : StoreFacts) (disk : Disk) (m : Store) (b : Block) (x : Body) (kept
     note = h.note;
     same = refl;
     sized = sized;
+    own_pages = h.own_pages;
+    placed = h.placed;
     sound = sound-step h.geometry m (n now) (write_again (disk_without (own_of f) now) (as_before now between)) h.sound;
     window = h.window;
     marks = record { dirty = h.marks.dirty; dead = h.marks.dead; kept = h.marks.kept; apart = h.marks.apart; lone = h.marks.lone; known = h.marks.known; changed = h.marks.changed; wet = h.marks.wet; owed = h.marks.owed; due = h.marks.due };
@@ -171,6 +173,8 @@ module _ (f : StoreFacts) (disk : Disk) (m : Store) (b : Block) (x : Body) (kept
         note = h.note;
         same = refl;
         sized = sized;
+        own_pages = h.own_pages;
+        placed = h.placed;
         sound = sound-step h.geometry m (n now) (write_again (disk_without (own_of f) now) (as_before now between)) h.sound;
         window = record {
           is_open = h.window.is_open;

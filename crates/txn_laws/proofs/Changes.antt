@@ -1,5 +1,5 @@
 -- A change of a block.
-use Rattle.std.proofs.Common.{◌≡◌, ◌≢◌, subst, ℕ, suc, ◌+◌, ◌-◌, ◌*◌, ◌<◌, ◌≤◌, Bool, true, false, cond, List, [], ◌∷◌, ◌++◌, length, map, take, drop, get_or, Option, Some, None, refl, sym, ap, ap₂, ◌∙◌, inl, inr, arith}
+use Rattle.std.proofs.Common.{◌≡◌, ◌≢◌, subst, ℕ, suc, ◌+◌, ◌-◌, ◌*◌, ◌/◌, ◌<◌, ◌≤◌, Bool, true, false, cond, List, [], ◌∷◌, ◌++◌, length, map, take, drop, get_or, Option, Some, None, refl, sym, ap, ap₂, ◌∙◌, inl, inr, arith}
 use Rattle.std.specs.Prelude.{◌==◌, ◌&&◌, ◌||◌, not, is_some, IfSome, unwrap_or, slice_index}
 use Rattle.std.specs.List.{AllByRecursion}
 use Rattle.std.proofs.lemmas.Bool.{cases_Bool, cases_lt}
@@ -18,7 +18,7 @@ use Rattle.fixup_record.specs.Spellings.{has_spelling}
 use Rattle.sector_device.specs.Disks.{Disk, IsSized, MayHold, SeesDisk, seen}
 use Rattle.sector_device.proofs.Images.{holds_seen}
 use Rattle.log_model.specs.declared.entry.Entry.{Entry}
-use Rattle.log_model.specs.Logs.{updates, updates_rival, act_says, first_undo, last_said}
+use Rattle.log_model.specs.Logs.{is_misplaced, updates, updates_rival, act_says, first_undo, last_said}
 use Rattle.log_model.proofs.Telling.{first_undo-append, last_said-append}
 use Rattle.log_area.specs.Areas.{LogAreaOf}
 use Rattle.store_model.specs.Logs.{BodyBytes, AllBytes, AreUpdates, undone, has_update, ended_with, IsOusted}
@@ -28,7 +28,7 @@ use Rattle.store_model.specs.Events.{after_change, after_changes, AreChanges, Fi
 use Rattle.store_model.specs.Events.Step.{change}
 use Rattle.store_model.specs.Rings.{entries_on}
 use Rattle.store_model.specs.Volumes.{is_known, first_bytes, window_of, AreWhole}
-use Rattle.store_model.proofs.Told.{true≢false, or_left, or_right, or-true, or-false, ends_own, same_self, rivals_both, rivals_other, rival_apart, updates_is, rival_is}
+use Rattle.store_model.proofs.Told.{true≢false, all_append, or_left, or_right, or-true, or-false, ends_own, same_self, rivals_both, rivals_other, rival_apart, updates_is, rival_is}
 use Rattle.store_model.proofs.Lost.{has_update-append, updates_only, updates_some, ousted_now}
 use Rattle.store_model.proofs.Pieces.{are_updates, ends-updates, body_elsewhere, draft_changes, changes_same}
 use Rattle.store_model.proofs.Volumes.{length-first_bytes, first_at, content_size, size_known}
@@ -50,6 +50,7 @@ use Rattle.sector_device.specs.Moments.{Changes}
 use Rattle.txn_laws.proofs.Memory.{undone_none}
 use Rattle.txn_laws.proofs.Growing.{all_dropped}
 use Rattle.txn_laws.proofs.Cutting.{IsPiece, cut_within, Has, cut_has, cut_some, are_changes, stays_after, gets_after, has_undo}
+use Rattle.txn_laws.proofs.Mountable.{placed_pieces}
 use Rattle.txn_laws.proofs.Chains.{by_all, by_some, by_page, by_killed, Chained, chain}
 
 -- a disk of whole sectors is read as such
@@ -132,7 +133,7 @@ is_present f disk m h c present known is = by_body (f.body c) refl
             ap (λ (y : Body). slice_index y.bytes i) (sym same) ∙ sym (h.volume.decode c (seen m.disk) i) ∙ (shows i lt).0 ∙ sym (first_at (512 * sectors c.kind) (m.window.body c) i lt)
 
 module _ (f : StoreFacts) (disk : Disk) (m : Store) (c : Block) (at : ℕ) (new : List ℕ) (present : Body) (opened : f.is_open ≡ true) (known : is_known (own_of f) c ≡ true)
-    (some_new : 0 < length new) (fits : at + length new ≤ 512 * sectors c.kind) (spells : has_spelling c.kind (written at new present.bytes) ≡ true) (alone : (x : Block) → are_rivals c x ≡ true → f.before x ≡ None)
+    (volume : c.first / 8 < f.place.clusters) (some_new : 0 < length new) (fits : at + length new ≤ 512 * sectors c.kind) (spells : has_spelling c.kind (written at new present.bytes) ≡ true) (alone : (x : Block) → are_rivals c x ≡ true → f.before x ≡ None)
     (may : MayAppendAll f.log f.tx f.last (change_acts f c at new present)) (h : StandsBehind f disk m) (now : HasBytes c (m.window.body c) (m.window.is_torn c) present) where
   abbrev s : LogSession
   s = session_of f h.lap
@@ -595,6 +596,8 @@ module _ (f : StoreFacts) (disk : Disk) (m : Store) (c : Block) (at : ℕ) (new 
         note = h.note;
         same = h.same;
         sized = h.sized;
+        own_pages = h.own_pages;
+        placed = all_append (λ (x : Entry). is_misplaced f.place.clusters x.act ≡ false) m.log us h.placed (placed_pieces f.place.clusters c old after size size_after refl volume ps (are_pieces (f.mark c).imaged) f.log f.tx f.last);
         sound = sound-step h.geometry m n step h.sound;
         window = record {
           is_open = same_open m.window us ∙ h.window.is_open;
@@ -641,5 +644,5 @@ pub changes_in_memory : (count moment : ℕ) (changes : Changes) (f : StoreFacts
     → Simulates count moment changes changes f (changed_facts c at new present f) (AfterChange c at new)
 changes_in_memory count moment changes f c at new present gives may sees has =
     in_memory count moment changes f (changed_facts c at new present f) (AfterChange c at new) refl refl
-    (λ disk m is h. changes_well f disk m c at new present may.opened may.known may.some may.fits may.spelled may.alone may.room h
+    (λ disk m is h. changes_well f disk m c at new present may.opened may.known may.volume may.some may.fits may.spelled may.alone may.room h
     (is_present f disk m h c present may.known (same_gives gives disk changes.disk c (f.body c) present is sees has)))

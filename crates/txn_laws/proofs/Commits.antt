@@ -1,5 +1,5 @@
 -- A commit.
-use Rattle.std.proofs.Common.{◌≡◌, subst, ℕ, zero, suc, ◌+◌, ◌-◌, ◌<◌, ◌≤◌, Bool, true, cond, List, [], ◌∷◌, ◌++◌, length, drop, get_or, refl, sym, ap, ap₂, ◌∙◌, inl, inr, arith}
+use Rattle.std.proofs.Common.{◌≡◌, subst, ℕ, zero, suc, ◌+◌, ◌-◌, ◌<◌, ◌≤◌, Bool, true, false, cond, List, [], ◌∷◌, ◌++◌, length, drop, get_or, refl, sym, ap, ap₂, ◌∙◌, inl, inr, arith}
 use Rattle.std.specs.Prelude.{◌&&◌, ◌||◌, is_some, slice_set}
 use Rattle.std.proofs.lemmas.Bool.{cases_Bool}
 use Rattle.std.proofs.lemmas.List.{drop-append-le, length-set}
@@ -7,7 +7,7 @@ use Rattle.disk_model.specs.declared.block.Block.{Block}
 use Rattle.sector_device.specs.Disks.{Disk}
 use Rattle.log_model.specs.declared.entry.Entry.{Entry}
 use Rattle.log_model.specs.declared.entry.Act.TheVariants.{Commit}
-use Rattle.log_model.specs.Logs.{is_ended, last_said}
+use Rattle.log_model.specs.Logs.{is_ended, is_misplaced, last_said}
 use Rattle.log_model.proofs.Telling.{last_said-append}
 use Rattle.log_area.specs.Areas.{next_lsn, place_at, appended}
 use Rattle.store_model.specs.Logs.{commit_by, has_update}
@@ -16,7 +16,7 @@ use Rattle.store_model.specs.Stores.{Window, Store, Tells}
 use Rattle.store_model.specs.Events.{after_commit}
 use Rattle.store_model.specs.Events.Step.{commit}
 use Rattle.store_model.specs.Volumes.{window_of}
-use Rattle.store_model.proofs.Told.{true≢false, ends-commit, said_unnamed, names_more, apart}
+use Rattle.store_model.proofs.Told.{true≢false, all_append, ends-commit, said_unnamed, names_more, apart}
 use Rattle.store_model.proofs.Lost.{has_update-append}
 use Rattle.store_model.proofs.Sound.{sound-step}
 use Rattle.store_model.proofs.Moving.{windows_move_law}
@@ -27,6 +27,7 @@ use Rattle.txn_model.specs.Values.{StoreFacts}
 use Rattle.txn_model.specs.Pieces.{next_entry}
 use Rattle.txn_model.specs.Calls.{committed_facts}
 use Rattle.txn_model.specs.Appending.{MayAppend}
+use Rattle.txn_laws.proofs.Mountable.{commit_placed}
 use Rattle.txn_laws.specs.Standing.{IsMarked, IsImaged, IsKilled, TellsEnds, StandsBehind, session_of}
 use Rattle.txn_laws.specs.Windows.{AfterCommit}
 use Rattle.txn_laws.proofs.Growing.{Grows, pages_grow, placed}
@@ -125,6 +126,8 @@ module _ (f : StoreFacts) (disk : Disk) (m : Store) (opened : f.is_open ≡ true
         note = h.note;
         same = h.same;
         sized = h.sized;
+        own_pages = h.own_pages;
+        placed = all_append (λ (x : Entry). is_misplaced f.place.clusters x.act ≡ false) m.log (mine ∷ []) h.placed (commit_placed f.place.clusters, tt);
         sound = sound-step h.geometry m n (commit e.lsn f.last (h.window.is_open ∙ opened)) h.sound;
         window = record {
           is_open = refl;

@@ -73,7 +73,7 @@ part_byte : (at n : ℕ) (xs : List ℕ) (i : ℕ) → at ≤ i → i < at + n �
 part_byte at n xs i low high =
     get_or-take n (drop at xs) (i - at) 0 (omega (arith, low, high)) ∙ get_or-drop at xs (i - at) 0 ∙ ap (λ (k : ℕ). get_or xs k 0) (let e : at + (i - at) ≡ i = omega (arith, low) in e)
 
-same_kind_of : (kind : BlockKind) → kind_of (kind_number kind) ≡ kind
+pub same_kind_of : (kind : BlockKind) → kind_of (kind_number kind) ≡ kind
 same_kind_of Plain = refl
 same_kind_of FileRec = refl
 same_kind_of Index = refl

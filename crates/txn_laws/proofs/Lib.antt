@@ -8,6 +8,8 @@ pub mod Syncs
 pub mod Rivals
 pub mod WriteOuts
 pub mod Cutting
+pub mod Mountable
+pub mod Laps
 pub mod Chains
 pub mod Changes
 pub mod Agains

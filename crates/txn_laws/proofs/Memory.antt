@@ -53,6 +53,8 @@ begins f disk m closed h = (record m { window = after_begin m.window }, stands, 
       note = h.note;
       same = h.same;
       sized = h.sized;
+      own_pages = h.own_pages;
+      placed = h.placed;
       sound = sound-step h.geometry m (record m { window = after_begin m.window }) (begin (h.window.is_open ∙ closed)) h.sound;
       window = record { is_open = refl; tx = h.window.tx; waiting = h.window.waiting; body = h.window.body; changed = h.window.changed; before = h.window.before };
       marks = record { dirty = h.marks.dirty; dead = h.marks.dead; kept = h.marks.kept; apart = h.marks.apart; lone = h.marks.lone; known = h.marks.known; changed = h.marks.changed; wet = h.marks.wet; owed = h.marks.owed; due = h.marks.due };
@@ -106,6 +108,8 @@ sealed_behind f disk m h = record {
   note = h.note;
   same = h.same;
   sized = h.sized;
+  own_pages = h.own_pages;
+  placed = h.placed;
   sound = h.sound;
   window = record { is_open = h.window.is_open; tx = h.window.tx; waiting = h.window.waiting; body = h.window.body; changed = h.window.changed; before = h.window.before };
   marks = record { dirty = h.marks.dirty; dead = h.marks.dead; kept = h.marks.kept; apart = h.marks.apart; lone = h.marks.lone; known = h.marks.known; changed = h.marks.changed; wet = h.marks.wet; owed = h.marks.owed; due = h.marks.due };
@@ -267,6 +271,8 @@ module _ (f : StoreFacts) (disk : Disk) (m : Store) (opened : f.is_open ≡ true
         note = h.note;
         same = h.same;
         sized = h.sized;
+        own_pages = h.own_pages;
+        placed = h.placed;
         sound = sound-step h.geometry m n (give_up (h.window.is_open ∙ opened)) h.sound;
         window = record {
           is_open = refl;

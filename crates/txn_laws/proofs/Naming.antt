@@ -40,6 +40,7 @@ use Rattle.area_laws.proofs.Reading.{is_first, front_named}
 use Rattle.area_laws.proofs.Rising.{next_place}
 use Rattle.txn_model.specs.Values.{StoreFacts, own_of}
 use Rattle.txn_model.specs.Calls.{front_lsn, MayNameNoted, named_facts, naming_facts}
+use Rattle.txn_laws.proofs.Mountable.{own_to_send, own_written, own_sent}
 use Rattle.txn_laws.specs.Standing.{StandsBehind, session_of}
 use Rattle.txn_laws.specs.Windows.{Simulates, AfterWrite}
 use Rattle.txn_laws.specs.Laws.{MayEndCheckpoint, SendsNaming}
@@ -199,6 +200,8 @@ module _ (f : StoreFacts) (disk : Disk) (m : Store) (h : StandsBehind f disk m) 
     note = h.note;
     same = same;
     sized = sized;
+    own_pages = own_written h.restarts places h.fields told (page_to_send f.log oldest clean) h.own_pages said others (own_to_send f.log oldest clean h.stands.ring.area);
+    placed = h.placed;
     sound = sound-step h.geometry m n (write_restart renames) h.sound;
     window = record { is_open = h.window.is_open; tx = h.window.tx; waiting = h.window.waiting; body = h.window.body; changed = h.window.changed; before = h.window.before };
     marks = record { dirty = h.marks.dirty; dead = h.marks.dead; kept = h.marks.kept; apart = h.marks.apart; lone = h.marks.lone; known = h.marks.known; changed = h.marks.changed; wet = h.marks.wet; owed = h.marks.owed; due = h.marks.due };
@@ -261,6 +264,8 @@ module _ (f : StoreFacts) (disk : Disk) (m : Store) (h : StandsBehind f disk m) 
     note = h.note;
     same = same;
     sized = sized;
+    own_pages = own_sent h.restarts places h.fields told (page_to_send f.log oldest clean) h.own_pages said others (own_to_send f.log oldest clean h.stands.ring.area);
+    placed = h.placed;
     sound = sound-step h.geometry m x (write_restart_fails renames) h.sound;
     window = record { is_open = h.window.is_open; tx = h.window.tx; waiting = h.window.waiting; body = h.window.body; changed = h.window.changed; before = h.window.before };
     marks = record { dirty = h.marks.dirty; dead = h.marks.dead; kept = h.marks.kept; apart = h.marks.apart; lone = h.marks.lone; known = h.marks.known; changed = h.marks.changed; wet = h.marks.wet; owed = h.marks.owed; due = h.marks.due };

@@ -70,6 +70,8 @@ notes f disk m closed unnoted h = (checkpoint_begun m, stands, record { same = r
       note = all;
       same = it.same;
       sized = it.sized;
+      own_pages = it.own_pages;
+      placed = it.placed;
       sound = sound-step it.geometry m (checkpoint_begun m) (begin_checkpoint early (it.window.is_open ∙ closed)) it.sound;
       window = record { is_open = it.window.is_open; tx = it.window.tx; waiting = it.window.waiting; body = it.window.body; changed = it.window.changed; before = it.window.before };
       marks = record {

@@ -19,6 +19,7 @@ use Rattle.area_laws.proofs.Reading.{is_first, number_is}
 use Rattle.txn_laws.specs.Laws.{SyncsNow, first_lsn, opened_area, StartsOn}
 use Rattle.txn_laws.proofs.Starts.{starts_window}
 use Rattle.txn_laws.proofs.Telling.{sized_of}
+use Rattle.txn_laws.proofs.Mountable.{own_to_send}
 
 drop_none : (k : ℕ) → ◌≡◌ {A = List (List Entry)} (drop k []) []
 drop_none zero = refl
@@ -49,5 +50,5 @@ opens_log gives changes moment place found lap restart opens r q fields disk cle
       disk = settled named.disk;
       known = now;
       start = starts_window place (opened_area place lap restart opens) found lap ring (restart_synced (restart_written q named.places)) named.told (settled named.disk)
-          (page_to_send a oldest clean) alone refl named.said (first ∙ ap (lsn_of_page s) (sym number)) (λ n. refl) (sized_of (changes new) (settled named.disk) now sized) (changes new) now;
+          (page_to_send a oldest clean) alone refl named.said (first ∙ ap (lsn_of_page s) (sym number)) (own_to_send a oldest clean stands.ring.area) (λ n. refl) (sized_of (changes new) (settled named.disk) now sized) (changes new) now;
     }

@@ -141,6 +141,8 @@ module _ (f : StoreFacts) (disk : Disk) (m : Store) (h : StandsBehind f disk m) 
     note = h.note;
     same = same;
     sized = sized;
+    own_pages = h.own_pages;
+    placed = h.placed;
     sound = sound-step h.geometry m n (write_page upto within.0 within.1) h.sound;
     window = record { is_open = h.window.is_open; tx = h.window.tx; waiting = h.window.waiting; body = h.window.body; changed = h.window.changed; before = h.window.before };
     marks = record { dirty = h.marks.dirty; dead = h.marks.dead; kept = h.marks.kept; apart = h.marks.apart; lone = h.marks.lone; known = h.marks.known; changed = h.marks.changed; wet = h.marks.wet; owed = h.marks.owed; due = h.marks.due };
@@ -196,6 +198,8 @@ module _ (f : StoreFacts) (disk : Disk) (m : Store) (h : StandsBehind f disk m) 
     note = h.note;
     same = same;
     sized = sized;
+    own_pages = h.own_pages;
+    placed = h.placed;
     sound = sound-step h.geometry m x (write_page_fails upto within.1) h.sound;
     window = record { is_open = h.window.is_open; tx = h.window.tx; waiting = h.window.waiting; body = h.window.body; changed = h.window.changed; before = h.window.before };
     marks = record { dirty = h.marks.dirty; dead = h.marks.dead; kept = h.marks.kept; apart = h.marks.apart; lone = h.marks.lone; known = h.marks.known; changed = h.marks.changed; wet = h.marks.wet; owed = h.marks.owed; due = h.marks.due };

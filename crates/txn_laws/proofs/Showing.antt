@@ -21,6 +21,7 @@ use Rattle.txn_model.specs.Values.{StoreFacts, own_of}
 use Rattle.txn_laws.specs.Standing.{StandsBehind, session_of}
 use Rattle.txn_laws.specs.Windows.{HasWindow, IsShown}
 use Rattle.txn_laws.proofs.Changes.{is_present}
+use Rattle.txn_laws.proofs.Laps.{sent_below}
 
 shown_of : (f : StoreFacts) (disk : Disk) (m : Store) → StandsBehind f disk m → (b : Block) → is_known (own_of f) b ≡ true → IsShown (window_of m.window) b (unwrap_or (f.body b) (content_of (seen disk) b))
 shown_of f disk m h b known = let x = is_present f disk m h b (unwrap_or (f.body b) (content_of (seen disk) b)) known refl in record { bytes = x.bytes; torn = x.torn }
@@ -42,11 +43,7 @@ laps_shown count changes f w image has left k lsn inside said =
     let s = session_of f h.lap in
     let ring = h.stands.ring.ring in
     let low = laps_said s h.ring f.log.check h.pages has.0 ring (sector_of image) may.each k lsn inside said in
-    let sent : h.ring.sent ≤ f.log.sealed = sent_below f.log.check refl h in
+    let sent : h.ring.sent ≤ f.log.sealed = sent_below f has.0 has.2 h f.log.check refl in
     let climb = laps_climb s ring.lies h.ring.sent f.log.sealed sent in
     let same : lap_of_page s f.log.sealed ≡ lap_at f.log f.log.sealed = ap₂ (λ (p : ℕ) (l : ℕ). l + f.log.sealed / (p - 4)) (sym h.stands.ring.session.pages) (sym h.stands.ring.session.lap) in
     omega (arith, low, climb, same)
-  where
-    sent_below : (c : Option ℕ) → f.log.check ≡ c → (h : StandsBehind f has.0 has.2) → h.ring.sent ≤ f.log.sealed
-    sent_below (Some word) is h = omega (arith, h.stands.ring.ring.next, h.stands.ring.begun word is, h.stands.ring.done)
-    sent_below None is h = omega (arith, h.stands.ring.ring.unbegun is, h.stands.ring.done, h.stands.ring.area.sealed_pages)

@@ -1,6 +1,6 @@
 -- A store at its start, on a log without entries.
-use Rattle.std.proofs.Common.{◌≡◌, ℕ, ◌-◌, ◌*◌, false, List, [], length, Some, refl, sym, ap, ◌∙◌, arith}
-use Rattle.std.specs.Prelude.{slice_index}
+use Rattle.std.proofs.Common.{◌≡◌, subst, ℕ, ◌-◌, ◌*◌, false, List, [], length, Option, Some, refl, sym, ap, ◌∙◌, arith}
+use Rattle.std.specs.Prelude.{slice_index, IfSome}
 use Rattle.std.proofs.lemmas.List.{ext_get_or, length-replicate}
 use Rattle.disk_model.specs.declared.block.Block.{Block}
 use Rattle.disk_model.specs.Sectors.{sectors}
@@ -9,6 +9,7 @@ use Rattle.sector_device.specs.Disks.{Disk, IsSettled, IsSized, seen}
 use Rattle.sector_device.specs.Moments.{Changes}
 use Rattle.log_page.specs.declared.places.LogPlace.{LogPlace}
 use Rattle.log_page.specs.declared.restart.Restart.{Restart}
+use Rattle.log_page.specs.Restarts.{FitsRestart}
 use Rattle.log_area.specs.Areas.{LogAreaOf, sent_word, ring_size as area_size}
 use Rattle.store_model.specs.Stores.{Store}
 use Rattle.store_model.specs.Rings.{Ring, Restarts}
@@ -31,7 +32,7 @@ use Rattle.txn_laws.proofs.Changes.{seen_whole}
 
 module _ (place : LogPlace) (log : LogAreaOf) (found : List Block) (lap : ℕ) (r : Ring) (q : Restarts) (fields : RestartFields) (disk : Disk) (own : Restart)
     (stands : Stands (record { place = place; lap = lap }) log r q [] fields disk) (idle : q.begun ≡ false) (said : fields q.sure ≡ Some own) (names : own.oldest ≡ lsn_of_page (record { place = place; lap = lap }) r.oldest)
-    (settled : IsSettled disk) (sized : IsSized disk) where
+    (fits : FitsRestart own) (settled : IsSettled disk) (sized : IsSized disk) where
   abbrev f : StoreFacts
   f = first_facts place log found
 
@@ -71,6 +72,8 @@ module _ (place : LogPlace) (log : LogAreaOf) (found : List Block) (lap : ℕ) (
     note = tt;
     same = refl;
     sized = sized;
+    own_pages = record { sure = subst (λ (o : Option Restart). IfSome o FitsRestart) (sym said) fits; next = λ begun. absurd (true≢false (sym begun ∙ idle)) };
+    placed = tt;
     sound = sound_events_law.mounted (own_of f) (volume_geometry (own_of f)) (is_volume (own_of f)) 1 (content_of (seen disk)) (disk_without (own_of f) disk) bears;
     window = record { is_open = refl; tx = refl; waiting = omega arith; body = λ b. tt; changed = λ b. refl; before = λ b. tt };
     marks = record {

@@ -8,7 +8,7 @@ use Rattle.disk_model.specs.declared.block.Body.{Body}
 use Rattle.disk_model.specs.Sectors.{sectors}
 use Rattle.sector_device.specs.Disks.{Disk, IsSized, seen, settled}
 use Rattle.log_model.specs.declared.entry.Entry.{Entry}
-use Rattle.log_model.specs.Logs.{first_undo}
+use Rattle.log_model.specs.Logs.{first_undo, is_misplaced}
 use Rattle.log_page.specs.declared.restart.Restart.{Restart}
 use Rattle.log_area.specs.Areas.{place_at, synced_area, number_of}
 use Rattle.store_model.specs.Logs.{BodyBytes, commits, undone, has_update, IsOusted}
@@ -17,7 +17,7 @@ use Rattle.store_model.specs.Events.{Loses, MayBury, synced_store, buried, freed
 use Rattle.store_model.specs.Events.Step.{sync, sync_frees}
 use Rattle.store_model.specs.Rings.{Ring, entries_on, synced_places}
 use Rattle.store_model.specs.Volumes.{first_bytes, window_of}
-use Rattle.store_model.proofs.Told.{true≢false}
+use Rattle.store_model.proofs.Told.{true≢false, all_drop}
 use Rattle.store_model.proofs.Lost.{has_drop, loses_at, loses_rest}
 use Rattle.store_model.proofs.Ends.{commits-drop_le}
 use Rattle.store_model.proofs.Rings.{entries_front, entries_longer, drop_entries, take_entries}
@@ -33,6 +33,7 @@ use Rattle.area_laws.proofs.Joined.{syncs_all}
 use Rattle.area_laws.proofs.Reading.{is_first, number_is}
 use Rattle.txn_model.specs.Values.{StoreFacts, own_of}
 use Rattle.txn_model.specs.Calls.{is_buried, durable_after, synced_facts}
+use Rattle.txn_laws.proofs.Mountable.{own_synced}
 use Rattle.txn_laws.specs.Standing.{HasBytes, IsKilled, StandsBehind, session_of, numbers_of}
 use Rattle.txn_laws.specs.Windows.{Simulates, MovesTo}
 use Rattle.txn_laws.specs.Laws.{SyncsNow}
@@ -338,6 +339,8 @@ module _ (f : StoreFacts) (disk : Disk) (m : Store) (h : StandsBehind f disk m) 
           note = subst (λ (o : Option ℕ). IfSome (cond (is_some o) None f.noted) (λ n. n ≡ h.noted)) (sym unnamed) h.note;
           same = ap settled h.same ∙ sym (without_synced (own_of f) disk);
           sized = sized;
+          own_pages = own_synced h.restarts h.fields h.stands.restarts.restarts.restarts h.own_pages;
+          placed = h.placed;
           sound = sound-step h.geometry m n step h.sound;
           window = record {
             is_open = h.window.is_open;
@@ -498,6 +501,8 @@ module _ (f : StoreFacts) (disk : Disk) (m : Store) (h : StandsBehind f disk m) 
           note = subst (λ (o : Option ℕ). IfSome (cond (is_some o) None f.noted) (λ n. n ≡ h.noted)) (sym named) tt;
           same = ap settled h.same ∙ sym (without_synced (own_of f) disk);
           sized = sized;
+          own_pages = own_synced h.restarts h.fields h.stands.restarts.restarts.restarts h.own_pages;
+          placed = all_drop (λ (x : Entry). is_misplaced f.place.clusters x.act ≡ false) m.place m.log h.placed;
           sound = sound-step h.geometry m e free_step h.sound;
           window = record {
             is_open = h.window.is_open;

@@ -1,5 +1,5 @@
 -- What a window says, and simulations from steps of the machine behind a store.
-use Rattle.std.proofs.Common.{◌≡◌, ◌⊎◌, subst, ℕ, ◌+◌, ◌≤◌, List, Option, Some, None, refl, sym, ◌∙◌, inl, inr, arith}
+use Rattle.std.proofs.Common.{◌≡◌, ◌⊎◌, subst, ℕ, ◌+◌, ◌-◌, ◌≤◌, max, false, List, drop, Option, Some, None, refl, sym, ap, ◌∙◌, inl, inr, arith}
 use Rattle.std.specs.Prelude.{Result, Ok, Err, IfSome}
 use Rattle.std.specs.Option.{option_map}
 use Rattle.disk_model.specs.declared.block.Block.{Block}
@@ -9,28 +9,69 @@ use Rattle.sector_device.specs.Moments.{Changes, Remembers, Writes, Syncs, MayLe
 use Rattle.sector_device.proofs.Images.{image_is_disk, one_call_more}
 use Rattle.log_page.specs.declared.places.LogPlace.{LogPlace}
 use Rattle.store_model.specs.Geometry.{SectorBytes, CanLeave}
-use Rattle.store_model.specs.Stores.{Store}
+use Rattle.log_model.specs.declared.entry.Entry.{Entry}
+use Rattle.log_model.specs.Logs.{is_misplaced}
+use Rattle.log_page.specs.declared.restart.Restart.{Restart}
+use Rattle.log_page.specs.LiveLogs.{live_log}
+use Rattle.log_page.specs.RecordPages.{Reading}
+use Rattle.log_page.specs.Restarts.{FitsRestart}
+use Rattle.store_model.specs.Rings.{Restarts}
+use Rattle.store_model.specs.Stores.{Store, Image, list_of}
+use Rattle.store_model.proofs.Told.{all_drop, all_take}
+use Rattle.ring_laws.specs.PageBytes.{raw_page}
+use Rattle.ring_laws.specs.RestartPages.{RestartFields}
+use Rattle.ring_laws.specs.StoreDisks.{sectors_without}
+use Rattle.ring_laws.specs.StoreLogs.{LogNumbers, IsOfLog}
+use Rattle.ring_laws.proofs.SeenDisks.{without_left}
+use Rattle.ring_laws.proofs.StoreImages.{log_is_left}
 use Rattle.store_model.specs.Volumes.{ContentWindow, window_of, AreWhole}
 use Rattle.ring_laws.proofs.StoreRecovers.{image_recovers}
 use Rattle.txn_model.specs.Values.{StoreFacts, own_of, is_own}
-use Rattle.txn_laws.specs.Standing.{StandsBehind, session_of, numbers_of}
-use Rattle.txn_laws.specs.Windows.{HasMachine, HasWindow, RecoversWithin, During, Simulates, AfterWrite}
+use Rattle.txn_laws.specs.Standing.{AreOwnPages, ArePlaced, StandsBehind, session_of, numbers_of}
+use Rattle.txn_laws.proofs.Mountable.{none_misplaced}
+use Rattle.txn_laws.proofs.Laps.{next_lap_shown}
+use Rattle.txn_laws.specs.Windows.{HasMachine, HasWindow, RecoversWithin, lap_behind, next_lap_in, During, LapsDuring, Simulates, AfterWrite}
 
 some_inj : {A : Type 0} (a b : A) → Some a ≡ Some b → a ≡ b
 some_inj a b e = cc
 
+same_restart : (a b : Restart) → Some a ≡ Some b → a ≡ b
+same_restart a b e = cc
+
+list_placed : (clusters : ℕ) (m : Store) (image : Image) → ArePlaced clusters m.log → ArePlaced clusters (list_of m image)
+list_placed clusters m image all =
+    all_take (λ (e : Entry). is_misplaced clusters e.act ≡ false) (image.upto - image.from) (drop image.from m.log) (all_drop (λ (e : Entry). is_misplaced clusters e.act ≡ false) image.from m.log all)
+
+-- the page that recovery chooses is this host's
+own_chosen : (q : Restarts) (fields : RestartFields) → AreOwnPages q fields → (restart : Restart) (list : List Entry) (l : LogNumbers) → l.restarts ≡ q → l.fields ≡ fields → IsOfLog l restart list → FitsRestart restart
+own_chosen q fields own restart list l same_q same_fields of_log =
+    let here : AreOwnPages l.restarts l.fields = subst (λ (p : Restarts). AreOwnPages p l.fields) (sym same_q) (subst (λ (g : RestartFields). AreOwnPages q g) (sym same_fields) own) in
+    elim of_log [
+      | inl sure ↦ subst (λ (o : Option Restart). IfSome o FitsRestart) sure here.sure
+      | inr begun ↦ subst (λ (o : Option Restart). IfSome o FitsRestart) begun.1 (here.next begun.0)
+    ]
+
 behind_recovers : (f : StoreFacts) (disk : Disk) (m : Store) → StandsBehind f disk m → (image : SectorBytes) → CanLeave disk image → AreWhole image → RecoversWithin f.place (own_of f) (window_of m.window) image
 behind_recovers f disk m h image left whole =
     let x = image_recovers (own_of f) h.geometry h.volume (session_of f h.lap) (numbers_of f h.ring h.pages h.restarts h.fields h.noted) m disk h.sound h.holds h.same image left whole in
+    let y =
+    log_is_left (session_of f h.lap) (numbers_of f h.ring h.pages h.restarts h.fields h.noted) m disk h.holds image left (sectors_without (own_of f) image)
+    (subst (λ (d : Disk). CanLeave d (sectors_without (own_of f) image)) (sym h.same) (without_left (own_of f) disk image left)) in
+    let one : x.restart ≡ y.restart = same_restart x.restart y.restart (sym x.chosen ∙ y.chosen) in
+    let same : x.list ≡ list_of m y.left = ap (λ (r : Reading). r.entries) (sym x.reads ∙ ap (λ (r : Restart). live_log f.place.pages (raw_page f.place image) r.oldest) one ∙ y.reads) in
+    let placed : ArePlaced f.place.clusters x.list = subst (ArePlaced f.place.clusters) (sym same) (list_placed f.place.clusters m y.left h.placed) in
+    let page : FitsRestart x.restart = own_chosen h.restarts h.fields h.own_pages x.restart x.list (numbers_of f h.ring h.pages h.restarts h.fields h.noted) refl refl x.of_log in
     record {
       restart = x.restart;
       chosen = x.chosen;
+      own_page = page;
       list = x.list;
       reads = x.reads;
       back = x.back;
       within = x.within;
       recovers = x.recovers;
       updates = x.updates;
+      placed = none_misplaced f.place.clusters x.list placed;
       no_partial = x.no_partial;
       known = x.known;
       spelled = x.spelled;
@@ -73,6 +114,7 @@ in_memory count moment changes f g After place found step = record {
     subst (λ (u : ContentWindow). After u (window_of next.0.window)) has.4 next.2,
     λ t image le left. inl left,
   );
+  laps = λ w has t image le left. inl left;
 }
 
 here : (f g : StoreFacts) (w : ContentWindow) (image : SectorBytes) → g.place ≡ f.place → g.found ≡ f.found → RecoversWithin g.place (own_of g) w image → RecoversWithin f.place (own_of f) w image
@@ -95,8 +137,18 @@ by_device count moment begun old now f g After place found known later remembers
         subst (λ (u : ContentWindow). After u (window_of next.2.window)) has.4 next.4,
         λ t image le left. during t image (omega (arith, le, later)) (window_of next.2.window) has' left w,
       );
+  laps = λ w has t image le left. let next = step has.0 has.2 has.1 has.3 in laps t image (omega (arith, le, later)) (window_of next.2.window) (next.0, next.1, next.2, next.3, refl) left;
 }
   where
+    laps : (t : ℕ) (image : List (List ℕ)) → t ≤ begun → (v : ContentWindow) → HasWindow now g v → LeftSince count now t image → LeftSince count old t image ⊎ (next_lap_in f.place (sector_of image) ≤ max (lap_behind f) (lap_behind g))
+    laps t image le v has left =
+        elim (one_call_more count begun t old now image remembers le left) [
+          | inl before ↦ inl before
+          | inr may ↦
+              let low : next_lap_in f.place (sector_of image) ≤ lap_behind g = subst (λ (p : LogPlace). next_lap_in p (sector_of image) ≤ lap_behind g) place (next_lap_shown count now g v image has may) in
+              inr (omega (arith, low))
+        ]
+
     during : (t : ℕ) (image : List (List ℕ)) → t ≤ begun → (v : ContentWindow) → HasWindow now g v → LeftSince count now t image → (w : ContentWindow)
         → LeftSince count old t image ⊎ (RecoversWithin f.place (own_of f) w (sector_of image) ⊎ RecoversWithin f.place (own_of f) v (sector_of image))
     during t image le v has left w =
@@ -109,7 +161,7 @@ by_device count moment begun old now f g After place found known later remembers
 pub by_read : (count moment : ℕ) (old now : Changes) (f : StoreFacts) (After : ContentWindow → ContentWindow → Type 0) → ((w : ContentWindow) → After w w) → now ≡ old → Simulates count moment old now f f After
 by_read count moment old now f After same is =
     subst (λ (c : Changes). Simulates count moment old c f f After) (sym is)
-    (record { known = λ e h. (e, h); place = refl; found = refl; steps = λ w has. (w, has, same w, λ t image le left. inl left) })
+    (record { known = λ e h. (e, h); place = refl; found = refl; steps = λ w has. (w, has, same w, λ t image le left. inl left); laps = λ w has t image le left. inl left })
 
 -- ---- disks that are known
 
@@ -154,6 +206,17 @@ joined count early late old mid now f w v t image le later first second left =
     either X (inl x) = x
     either X (inr x) = x
 
+joined_laps : (count early late : ℕ) (old mid now : Changes) (f g : StoreFacts) (t : ℕ) (image : List (List ℕ)) → LapsDuring count early old mid f f → LapsDuring count late mid now f g → t ≤ early → early ≤ late
+    → LeftSince count now t image → LeftSince count old t image ⊎ (next_lap_in f.place (sector_of image) ≤ max (lap_behind f) (lap_behind g))
+joined_laps count early late old mid now f g t image first second le later left =
+    elim (second t image (omega (arith, le, later)) left) [
+      | inl between ↦ elim (first t image le between) [
+        | inl before ↦ inl before
+        | inr low ↦ inr (omega (arith, low))
+      ]
+      | inr low ↦ inr low
+    ]
+
 pub after_reading : (count early late : ℕ) (old mid now : Changes) (f g : StoreFacts) (After : ContentWindow → ContentWindow → Type 0) → early ≤ late → Simulates count early old mid f f AfterWrite → Simulates count late mid now f g After
     → Simulates count early old now f g After
 after_reading count early late old mid now f g After later read then = record {
@@ -165,6 +228,10 @@ after_reading count early late old mid now f g After later read then = record {
       let same : one.0 ≡ w = one.2.same in
       let two = then.steps w (subst (λ (v : ContentWindow). HasWindow mid f v) same one.1) in
       (two.0, two.1, two.2, λ t image le left. joined count early late old mid now f w two.0 t image le later (subst (λ (v : ContentWindow). During count early old mid f w v) same one.3) two.3 left);
+  laps = λ w has t image le left.
+      let one = read.steps w has in
+      let same : one.0 ≡ w = one.2.same in
+      joined_laps count early late old mid now f g t image (read.laps w has) (then.laps w (subst (λ (v : ContentWindow). HasWindow mid f v) same one.1)) le later left;
 }
 
 -- ---- a sync that failed

@@ -1,5 +1,5 @@
 -- The laws of a store's calls.
-use Rattle.std.specs.Prelude.{Bool, ◌≡◌, ℕ, ◌+◌, ◌-◌, ◌*◌, ◌^◌, ◌<◌, ◌≤◌, true, false, List, [], length, Option, Some, None, Result, Ok, Err, IfSome, is_some, unwrap_or}
+use Rattle.std.specs.Prelude.{Bool, ◌≡◌, ℕ, ◌+◌, ◌-◌, ◌*◌, ◌/◌, ◌^◌, ◌<◌, ◌≤◌, true, false, List, [], length, Option, Some, None, Result, Ok, Err, IfSome, is_some, unwrap_or}
 use Rattle.host_base.specs.declared.outside.Failed.{Failed}
 use Rattle.disk_model.specs.declared.block.Block.{Block}
 use Rattle.disk_model.specs.declared.block.Body.{Body}
@@ -23,6 +23,7 @@ use Rattle.ring_laws.specs.Numbers.{lsn_of_page, IsInRing}
 use Rattle.ring_laws.specs.PageBytes.{raw_page}
 use Rattle.log_page.specs.Places.{lap_of, sequence_bits}
 use Rattle.log_page.specs.LiveLogs.{said_lsn}
+use Rattle.log_page.specs.Restarts.{FitsRestart}
 use Rattle.ring_laws.specs.RestartPages.{RestartFields}
 use Rattle.area_laws.specs.Standing.{Stands}
 use Rattle.flush_policy.specs.declared.facts.Facts.{Facts}
@@ -37,7 +38,7 @@ use Rattle.txn_model.specs.Values.{StoreFacts, own_of}
 use Rattle.txn_model.specs.Pieces.{next_entry}
 use Rattle.txn_model.specs.Calls.{first_facts, begun_facts, committed_facts, given_up_facts, change_acts, changed_facts, sealed_facts, noted_facts, written_facts, sent_facts, is_buried, synced_facts, is_ready, written_out_facts, sent_out_facts, again_facts}
 use Rattle.txn_model.specs.Appending.{MayAppend, MayAppendAll}
-use Rattle.txn_laws.specs.Windows.{HasMachine, HasWindow, HasStart, IsShown, RecoversWithin, Simulates, AfterBegin, AfterChange, AfterCommit, AfterGiveUp, AfterWrite, MovesTo}
+use Rattle.txn_laws.specs.Windows.{HasMachine, HasWindow, HasStart, IsShown, RecoversWithin, lap_behind, next_lap_in, Simulates, AfterBegin, AfterChange, AfterCommit, AfterGiveUp, AfterWrite, MovesTo}
 
 -- What a window says.
 pub record WindowsTell : Type 0 where
@@ -46,6 +47,9 @@ pub record WindowsTell : Type 0 where
   -- and says no lap above that of the page that is filled
   pub laps : (count : ℕ) (changes : Changes) (f : StoreFacts) (w : ContentWindow) (image : List (List ℕ)) → HasWindow changes f w → MayLeaveNow count changes image
       → (k lsn : ℕ) → IsInRing f.place k → said_lsn (raw_page f.place (sector_of image) k) ≡ Some lsn → lap_of f.place.pages lsn ≤ lap_at f.log f.log.sealed
+  -- and a mount of it begins at most one lap above that of the place where the least entry would go next
+  pub next_lap : (count : ℕ) (changes : Changes) (f : StoreFacts) (w : ContentWindow) (image : List (List ℕ)) → HasWindow changes f w → MayLeaveNow count changes image
+      → next_lap_in f.place (sector_of image) ≤ lap_behind f
   -- the present body of a known block is the one that is kept, or what a read gives
   pub present : (changes : Changes) (f : StoreFacts) (w : ContentWindow) (gives : Option (List (List ℕ))) → HasWindow changes f w → SeesDisk gives changes.disk → (b : Block) → is_known (own_of f) b ≡ true
       → IfSome gives (λ disk. IsShown w b (unwrap_or (f.body b) (content_of (sector_of disk) b)))
@@ -55,17 +59,18 @@ pub record WindowsTell : Type 0 where
   -- and a machine stands behind the store
   pub machine : (changes : Changes) (f : StoreFacts) (w : ContentWindow) → HasWindow changes f w → HasMachine changes f
 
--- A store begins on a settled device whose log stands without entries, where the last durable restart page names the ring's oldest page and no other one was begun.
+-- A store begins on a settled device whose log stands without entries, where the last durable restart page is of this host and names the ring's oldest page, and no other one was begun.
 pub record StoresStart : Type 0 where
   pub start : (changes : Changes) (place : LogPlace) (log : LogAreaOf) (found : List Block) (lap : ℕ) (r : Ring) (q : Restarts) (fields : RestartFields) (disk : Disk) (own : Restart) → changes.disk ≡ Some disk
-      → Stands (record { place = place; lap = lap }) log r q [] fields disk → q.begun ≡ false → fields q.sure ≡ Some own → own.oldest ≡ lsn_of_page (record { place = place; lap = lap }) r.oldest
+      → Stands (record { place = place; lap = lap }) log r q [] fields disk → q.begun ≡ false → fields q.sure ≡ Some own → own.oldest ≡ lsn_of_page (record { place = place; lap = lap }) r.oldest → FitsRestart own
       → IsSettled disk → IsSized disk → HasStart changes (first_facts place log found) (content_of (seen disk))
 
--- The open transaction may change the block in this way, where this is its present body: the bytes fit, the body after them has a spelling, no rival of the
+-- The open transaction may change the block in this way, where this is its present body: the block begins in the volume, the bytes fit, the body after them has a spelling, no rival of the
 -- block was changed by the transaction, and the log has room.
 pub record MayChangeBlock (f : StoreFacts) (c : Block) (at : ℕ) (new : List ℕ) (present : Body) : Type 0 where
   pub opened : f.is_open ≡ true
   pub known : is_known (own_of f) c ≡ true
+  pub volume : c.first / 8 < f.place.clusters
   pub some : 0 < length new
   pub fits : at + length new ≤ 512 * sectors c.kind
   pub spelled : has_spelling c.kind (written at new present.bytes) ≡ true

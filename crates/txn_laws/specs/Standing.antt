@@ -1,11 +1,13 @@
 -- What stands behind what a store keeps: the machine, the log on the disk, and what the one says of the other.
 use Rattle.std.specs.Prelude.{◌≡◌, ◌≢◌, ◌⊎◌, ℕ, suc, ◌+◌, ◌-◌, ◌*◌, ◌%◌, ◌<◌, ◌≤◌, ◌&&◌, ◌||◌, Bool, true, false, List, [], length, take, drop, get_or, slice_index, Some, is_some, IfSome}
+use Rattle.std.specs.List.{AllByRecursion}
 use Rattle.disk_model.specs.declared.block.Block.{Block}
 use Rattle.disk_model.specs.declared.block.Body.{Body}
 use Rattle.disk_model.specs.Sectors.{sectors, are_rivals}
 use Rattle.sector_device.specs.Disks.{Disk, IsSized}
 use Rattle.log_model.specs.declared.entry.Entry.{Entry}
-use Rattle.log_model.specs.Logs.{last_said}
+use Rattle.log_model.specs.Logs.{last_said, is_misplaced}
+use Rattle.log_page.specs.Restarts.{FitsRestart}
 use Rattle.log_area.specs.Areas.{sent_word}
 use Rattle.store_model.specs.Logs.{BodyBytes, commits, undone, has_update, ended_with, IsOusted}
 use Rattle.store_model.specs.Geometry.{Geometry}
@@ -85,6 +87,15 @@ session_of f lap = record { place = f.place; lap = lap }
 abbrev pub numbers_of : StoreFacts → Ring → List (List Entry) → Restarts → RestartFields → ℕ → LogNumbers
 numbers_of f r pages q fields noted = record { ring = r; check = f.log.check; pages = pages; restarts = q; word = sent_word f.log.sent; fields = fields; noted = noted }
 
+-- the last durable restart page is one of this host, and so is the next one, once that was begun
+pub record AreOwnPages (q : Restarts) (fields : RestartFields) : Type 0 where
+  pub sure : IfSome (fields q.sure) FitsRestart
+  pub next : q.begun ≡ true → IfSome (fields (suc q.sure)) FitsRestart
+
+-- each update is of bytes of a block that begins in the volume, of so many clusters
+abbrev pub ArePlaced : ℕ → List Entry → Type 0
+ArePlaced clusters log = AllByRecursion (λ (e : Entry). is_misplaced clusters e.act ≡ false) log
+
 -- A sound machine stands behind a store, on this disk.
 pub record StandsBehind (f : StoreFacts) (disk : Disk) (m : Store) : Type 0 where
   pub geometry : Geometry
@@ -101,6 +112,8 @@ pub record StandsBehind (f : StoreFacts) (disk : Disk) (m : Store) : Type 0 wher
   pub note : IfSome f.noted (λ n. n ≡ noted)
   pub same : m.disk ≡ disk_without (own_of f) disk
   pub sized : IsSized disk
+  pub own_pages : AreOwnPages restarts fields
+  pub placed : ArePlaced f.place.clusters m.log
   pub sound : IsSound geometry m
   pub window : KeepsWindow f m.window
   pub marks : KeepsMarks f geometry m

@@ -1,5 +1,5 @@
 -- The window of a store, and what a call does to it.
-use Rattle.std.specs.Prelude.{◌≡◌, ◌⊎◌, ℕ, suc, ◌≤◌, Bool, true, false, List, Some, None}
+use Rattle.std.specs.Prelude.{◌≡◌, ◌⊎◌, ℕ, suc, ◌≤◌, max, Bool, true, false, List, Some, None}
 use Rattle.disk_model.specs.declared.block.Block.{Block}
 use Rattle.disk_model.specs.declared.block.Body.{Body}
 use Rattle.disk_model.specs.Bytes.{written}
@@ -9,10 +9,12 @@ use Rattle.fixup_record.specs.Spellings.{has_spelling}
 use Rattle.sector_device.specs.Disks.{Disk}
 use Rattle.sector_device.specs.Moments.{Changes, LeftSince}
 use Rattle.log_model.specs.declared.entry.Entry.{Entry}
-use Rattle.log_model.specs.Logs.{is_other, is_written_out, first_partial}
+use Rattle.log_model.specs.Logs.{is_other, is_written_out, first_misplaced, first_partial}
 use Rattle.log_page.specs.declared.places.LogPlace.{LogPlace}
 use Rattle.log_page.specs.declared.restart.Restart.{Restart}
-use Rattle.log_page.specs.LiveLogs.{live_log}
+use Rattle.log_page.specs.LiveLogs.{live_log, next_lap}
+use Rattle.log_page.specs.Restarts.{FitsRestart}
+use Rattle.log_area.specs.Areas.{lap_at, next_number}
 use Rattle.log_reading.specs.Fronts.{chosen_in}
 use Rattle.store_model.specs.Logs.{has_update}
 use Rattle.store_model.specs.Geometry.{SectorBytes}
@@ -43,25 +45,40 @@ pub record HasStart (changes : Changes) (f : StoreFacts) (content : Content) : T
   pub none : window.waiting ≡ 0
   pub present : (b : Block) → window.present b ≡ content b
 
--- Recovery of the image chooses a restart page, reads a list of entries from its oldest place on, and no entry of another shape; each entry updates a known block; it refuses
+-- Recovery of the image chooses a restart page of this host, reads a list of entries from its oldest place on, and no entry of another shape; each entry updates bytes of a known block of the volume; it refuses
 -- the list for no block that is covered in part, and for no body that has no spelling; and it leaves the known blocks that the list doesn't shadow as they are so many commits back.
 pub record RecoversWithin (place : LogPlace) (own : ℕ → Bool) (w : ContentWindow) (image : SectorBytes) : Type 0 where
   pub restart : Restart
   pub chosen : chosen_in (raw_page place image 0) (raw_page place image 1) ≡ Some restart
+  pub own_page : FitsRestart restart
   pub list : List Entry
   pub reads : live_log place.pages (raw_page place image) restart.oldest ≡ record { entries = list; foreign = None }
   pub back : ℕ
   pub within : back ≤ w.waiting
   pub recovers : RecoversToContent own list image (w.before back)
   pub updates : (b : Block) → has_update list b ≡ true → is_known own b ≡ true
+  pub placed : first_misplaced list place.clusters ≡ None
   pub no_partial : first_partial (content_of image) list ≡ None
   pub known : (b : Block) → is_written_out (content_of image) list b ≡ true → is_known own b ≡ true
   pub spelled : (b : Block) → is_written_out (content_of image) list b ≡ true → is_other (content_of image) list b ≡ true → has_spelling b.kind (w.before back b).bytes ≡ true
+
+-- the lap behind that of the least entry which the store would append next
+abbrev pub lap_behind : StoreFacts → ℕ
+lap_behind f = suc (lap_at f.log (next_number f.log 0x58))
+
+-- the lap that a mount of these sectors begins
+abbrev pub next_lap_in : LogPlace → SectorBytes → ℕ
+next_lap_in place at = next_lap place.pages (raw_page place at) (chosen_in (raw_page place at 0) (raw_page place at 1))
 
 -- during a call: an image that counts as left since t counted so before, or recovers to a content of the window before or after
 abbrev pub During : (count moment : ℕ) → Changes → Changes → StoreFacts → ContentWindow → ContentWindow → Type 0
 During count moment old now f w v = (t : ℕ) (image : List (List ℕ)) → t ≤ moment → LeftSince count now t image
     → LeftSince count old t image ⊎ (RecoversWithin f.place (own_of f) w (sector_of image) ⊎ RecoversWithin f.place (own_of f) v (sector_of image))
+
+-- and so, or a mount of it begins no lap behind those of the store before and after
+abbrev pub LapsDuring : (count moment : ℕ) → Changes → Changes → StoreFacts → StoreFacts → Type 0
+LapsDuring count moment old now f g = (t : ℕ) (image : List (List ℕ)) → t ≤ moment → LeftSince count now t image
+    → LeftSince count old t image ⊎ (next_lap_in f.place (sector_of image) ≤ max (lap_behind f) (lap_behind g))
 
 -- Whatever window the store had, it has one that follows; its device wasn't known only now; and its log lies where it did.
 pub record Simulates (count moment : ℕ) (old now : Changes) (f g : StoreFacts) (After : ContentWindow → ContentWindow → Type 0) : Type 0 where
@@ -69,6 +86,7 @@ pub record Simulates (count moment : ℕ) (old now : Changes) (f g : StoreFacts)
   pub place : g.place ≡ f.place
   pub found : g.found ≡ f.found
   pub steps : (w : ContentWindow) → HasWindow old f w → (v : ContentWindow) × HasWindow now g v × After w v × During count moment old now f w v
+  pub laps : (w : ContentWindow) → HasWindow old f w → LapsDuring count moment old now f g
 
 -- ---- the windows after each call
 

@@ -11,6 +11,7 @@ pub mod Ending
 pub mod Items
 pub mod Choosing
 pub mod Stopping
+pub mod Mountable
 pub mod Knowing
 pub mod Planned
 pub mod Behind

@@ -23,10 +23,10 @@ use Rattle.txn_laws.specs.Laws.{first_lsn}
 use Rattle.txn_laws.proofs.Syncs.{and_left, and_right}
 use Rattle.store_model.proofs.Told.{true≢false}
 use Rattle.txn_mount.specs.declared.fault.StoreFault.{StoreFault}
-use Rattle.txn_mount.specs.declared.fault.StoreFault.TheVariants.{Refused, Fault, Memory}
+use Rattle.txn_mount.specs.declared.fault.StoreFault.TheVariants.{Refused, Fault, Memory, Broken}
 use Rattle.txn_mount.specs.declared.room.MountPlan.{MountPlan}
 use Rattle.txn_mount.specs.Contents.{ReadsLog}
-use Rattle.txn_mount.specs.Faults.{store_fault, store_cause}
+use Rattle.txn_mount.specs.Faults.{store_fault, store_cause, count_cause}
 use Rattle.txn_mount.specs.Laws.{FindsOn, MayMount}
 use Rattle.txn_mount.specs.Plans.{is_level, IsUnlevel, IsPlan, IsPlanOn, PlansOn, items_by}
 use Rattle.txn_mount.proofs.Choosing.{may_mount_law}
@@ -122,20 +122,30 @@ own_refuses place kept found ring (Some g) (Some d) sees finds (Ok p) own = tt
 own_refuses place kept found ring (Some g) (Some d) sees finds (Err e) (inl is) = subst (λ (f : StoreFault). ExplainsOrFails (store_cause f) (to_write_in (content_of (sector_of g)) place kept)) (sym is) tt
 own_refuses place kept found ring (Some g) (Some d) sees finds (Err e) (inr un) = absurd (true≢false (sym (known_level place kept found ring d finds) ∙ un.unlevel))
 
+-- and it answers `Broken` only where the disk isn't known
+pub own_broken : (place : LogPlace) (kept : List Block) (found : ToWrite) → IsRingPlace place → (gives : Option (List (List ℕ))) (disk : Option Disk) → SeesDisk gives disk → IfSome disk (FindsOn place kept found)
+    → (result : Result MountPlan StoreFault) → IfErr result (λ e. (e ≡ Memory) ⊎ IsUnlevel place.pages found.recovered e) → IfErr result (λ e. e ≡ Broken → gives ≡ None)
+own_broken place kept found ring gives disk sees finds (Ok p) own = tt
+own_broken place kept found ring None disk sees finds (Err e) own = λ is. refl
+own_broken place kept found ring (Some g) None sees finds (Err e) own = absurd sees
+own_broken place kept found ring (Some g) (Some d) sees finds (Err e) (inl memory) = λ is. absurd (let both = sym memory ∙ is in cc)
+own_broken place kept found ring (Some g) (Some d) sees finds (Err e) (inr un) = absurd (true≢false (sym (known_level place kept found ring d finds) ∙ un.unlevel))
+
 pub own_unfailed : (pages : ℕ) (found : Recovered) (e : StoreFault) → (e ≡ Memory) ⊎ IsUnlevel pages found e → e ≡ Fault → ⊥
 own_unfailed pages found e (inl is) fault = memory_apart (sym is ∙ fault)
   where
     memory_apart : ◌≡◌ {A = StoreFault} Memory Fault → ⊥
     memory_apart h = cc
-own_unfailed pages found e (inr un) fault = refused_apart _ (sym un.answer ∙ fault)
+own_unfailed pages found e (inr un) fault = broken_apart (sym un.answer ∙ fault)
   where
-    refused_apart : (r : LogRefusal) → ◌≡◌ {A = StoreFault} (Refused r) Fault → ⊥
-    refused_apart r h = cc
+    broken_apart : ◌≡◌ {A = StoreFault} Broken Fault → ⊥
+    broken_apart h = cc
 
-pub own_counts : (pages : ℕ) (found : Recovered) (before now moment : ℕ) (result : Result MountPlan StoreFault) → IfErr result (λ e. (e ≡ Memory) ⊎ IsUnlevel pages found e) → now ≡ before → CountsOnDevice store_cause before now moment result
+pub own_counts : (pages : ℕ) (found : Recovered) (before now moment : ℕ) (result : Result MountPlan StoreFault) → IfErr result (λ e. (e ≡ Memory) ⊎ IsUnlevel pages found e) → now ≡ before → CountsOnDevice count_cause before now moment result
 own_counts pages found before now moment (Ok p) own same = same
 own_counts pages found before now moment (Err Memory) own same = same
 own_counts pages found before now moment (Err (Refused r)) own same = same
+own_counts pages found before now moment (Err Broken) own same = same
 own_counts pages found before now moment (Err Fault) own same = absurd (own_unfailed pages found Fault own refl)
 
 pub own_never_fails : (pages : ℕ) (found : Recovered) (result : Result MountPlan StoreFault) → IfErr result (λ e. (e ≡ Memory) ⊎ IsUnlevel pages found e) → result ≡ Err Fault → ⊥

@@ -2,6 +2,7 @@ pub mod Contents
 pub mod Images
 pub mod Calls
 pub mod Laws
+pub mod Mountable
 pub mod Puts
 pub mod Faults
 pub mod Plans

@@ -8,7 +8,6 @@ use Rattle.sector_device.specs.Moments.{Changes}
 use Rattle.log_model.specs.declared.entry.Entry.{Entry}
 use Rattle.log_page.specs.declared.places.LogPlace.{LogPlace}
 use Rattle.log_page.specs.Places.{sequence_bits}
-use Rattle.log_reading.specs.declared.fault.LogRefusal.TheVariants.{ForeignLog}
 use Rattle.log_area.specs.Areas.{LogAreaOf, new_area, ring_size}
 use Rattle.log_recovery.specs.declared.found.RecoveredBlock.{RecoveredBlock}
 use Rattle.log_recovery.specs.declared.whole.Recovered.{Recovered}
@@ -17,7 +16,7 @@ use Rattle.log_recovery.specs.Recovering.{AreRecovered, IsSized}
 use Rattle.log_recovery.specs.Writing.{state_with}
 use Rattle.txn_laws.specs.Laws.{first_lsn, opened_area}
 use Rattle.txn_mount.specs.declared.fault.StoreFault.{StoreFault}
-use Rattle.txn_mount.specs.declared.fault.StoreFault.TheVariants.{Refused}
+use Rattle.txn_mount.specs.declared.fault.StoreFault.TheVariants.{Broken}
 use Rattle.txn_mount.specs.declared.puts.PutOut.{PutOut}
 use Rattle.txn_mount.specs.declared.room.MountPlan.{MountPlan}
 use Rattle.txn_mount.specs.Calls.{MountsBy}
@@ -31,7 +30,7 @@ is_level pages found = nat_le 1 found.next_lap && nat_lt found.next_lap (2 ^ seq
 -- none may begin, and this is answered
 pub record IsUnlevel (pages : ℕ) (found : Recovered) (fault : StoreFault) : Type 0 where
   pub unlevel : is_level pages found ≡ false
-  pub answer : fault ≡ Refused (ForeignLog 0)
+  pub answer : fault ≡ Broken
 
 -- the bodies that recovery made
 abbrev pub bodies_in : ToWrite → List RecoveredBlock

@@ -16,6 +16,10 @@ pub enum StoreFault {
     /// There is no memory left. Nothing was written.
     #[error("out of memory")]
     Memory,
+    /// What was read of the log begins no session, as is never so where the device's disk is known.
+    /// Nothing was written.
+    #[error("the log begins no session")]
+    Broken,
 }
 
 impl From<RecoveryFault> for StoreFault {

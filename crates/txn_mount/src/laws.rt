@@ -1,4 +1,5 @@
 ghost use Rattle.txn_mount.specs.Contents.{ReadsAreLevel};
+ghost use Rattle.txn_mount.specs.Mountable.{NeverRefused, StoppedMountsMount, StoresMount};
 ghost use Rattle.txn_mount.specs.Laws.{ChosenMayMount, MountsRecover, ReadsDisk, StartsBehind, StoppedMounts};
 
 use sector_device::Device;
@@ -35,4 +36,22 @@ pub fn reads_disk()
 /// it was unsynced before.
 pub fn starts_behind<D: Device>(_device: &D)
     ensures { StartsBehind D.gives D.changes_of D.moment_of }
+{}
+
+/// Law: a mount refuses nothing that a store leaves, at a return or inside a call, as long as the
+/// laps of its log don't come near their end; and the lap that it begins is at most one more than
+/// that of the place where the store would append next.
+pub fn stores_mount()
+    ensures { StoresMount }
+{}
+
+/// Law: nor what such a mount leaves that was stopped: the lap of the mount that comes then is one
+/// more at most.
+pub fn stopped_mounts_mount()
+    ensures { StoppedMountsMount }
+{}
+
+/// Law: a mount of such a disk that writes answers `Ok`, a failure of the device or want of memory.
+pub fn never_refused()
+    ensures { NeverRefused }
 {}

@@ -5,7 +5,9 @@
 //! The contract: exactly the calls of the device, in their order, and where one fails; and on a
 //! known disk what stands then. The laws: what these calls leave of a settled device, wherever the
 //! mount is stopped, recovers to the same content on known blocks that the log doesn't shadow; and
-//! a store begins behind them that shows it.
+//! a store begins behind them that shows it. No mount refuses what a store leaves, or what a mount
+//! of that leaves which was stopped, as long as the laps of the log don't come near their end; and
+//! each mount begins at most one lap more.
 #![tactic(auto)]
 
 mod fault;
@@ -22,7 +24,8 @@ mod session;
 pub use fault::StoreFault;
 pub use keys::keys_of;
 pub use laws::{
-    chosen_may_mount, mounts_recover, reads_disk, reads_level, starts_behind, stopped_mounts,
+    chosen_may_mount, mounts_recover, never_refused, reads_disk, reads_level, starts_behind,
+    stopped_mounts, stopped_mounts_mount, stores_mount,
 };
 pub use looking::show_recovered;
 pub use mounting::{Mounted, mount};

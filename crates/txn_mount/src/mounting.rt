@@ -1,5 +1,5 @@
 //! A store is mounted.
-ghost use Rattle.std.specs.Prelude.{◌≡◌, ◌*◌, ◌<◌, ◌≤◌, Ok, IfOk, IfErr, IfSome, replicate};
+ghost use Rattle.std.specs.Prelude.{◌≡◌, ◌*◌, ◌<◌, ◌≤◌, None, Ok, IfOk, IfErr, IfSome, replicate};
 ghost use Rattle.disk_model.specs.Content.{content_of};
 ghost use Rattle.disk_model.specs.Sectors.{sector_of};
 ghost use Rattle.host_base.specs.Answers.{ExplainsOrFails};
@@ -119,6 +119,8 @@ fn carry_out<D: Device>(
 ///   written.
 /// - [`StoreFault::Fault`]: the device failed; the call that failed is the last one.
 /// - [`StoreFault::Memory`]: want of memory, before anything was written.
+/// - [`StoreFault::Broken`]: what was read begins no session, before anything was written; never
+///   where the disk is known.
 ///
 /// The log is read once, in pieces of 64 KiB, and each body is written once, in one call behind a
 /// read of its check word; a log without entries costs two writes' worth of calls: a read and a
@@ -141,6 +143,7 @@ pub fn mount<D: Device>(
     ensures starts { IfOk result (λ m. ShowsDisk (D.changes_of m.store.device) (facts_of m.store.state)) }
     ensures images { StaysRecovered (D.moment_of device) place kept.items (D.changes_of device) (D.changes_of (device_behind result (λ m. m.store.device))) }
     ensures refusals { IfSome (D.gives device) (λ disk. IfErr result (λ e. ExplainsOrFails (store_cause e.0) (to_write_in (content_of (sector_of disk)) place kept.items))) }
+    ensures broken { IfErr result (λ e. (e.0 ≡ StoreFault.Broken) → D.gives device ≡ None) }
     ensures sectors { D.sector_count (device_behind result (λ m. m.store.device)) ≡ D.sector_count device }
     ensures fault { IfErr result (λ e. (e.0 ≡ StoreFault.Fault) → HasFailed (D.fault_count device) (D.fault_count e.1) (D.moment_of e.1)) }
     ensures counted { D.moment_of device < last_moment → CountsOnDevice cause_of (D.fault_count device) (D.fault_count (device_behind result (λ m. m.store.device))) (D.moment_of (device_behind result (λ m. m.store.device))) result }

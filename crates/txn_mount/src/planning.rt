@@ -1,5 +1,5 @@
 //! What a mount does before it writes.
-ghost use Rattle.std.specs.Prelude.{◌≡◌, ◌*◌, ◌<◌, ◌≤◌, IfOk, IfErr, IfSome, IsErrOf};
+ghost use Rattle.std.specs.Prelude.{◌≡◌, ◌*◌, ◌<◌, ◌≤◌, None, IfOk, IfErr, IfSome, IsErrOf};
 ghost use Rattle.disk_model.specs.Content.{content_of};
 ghost use Rattle.disk_model.specs.Sectors.{sector_of};
 ghost use Rattle.host_base.specs.Answers.{ExplainsOrFails};
@@ -8,7 +8,8 @@ ghost use Rattle.device_view.specs.Devices.{KeepsDevice, CountsOnDevice};
 ghost use Rattle.log_reading.specs.LogPages.{IsLogPlace};
 ghost use Rattle.log_reading.specs.Rings.{IsRingPlace};
 ghost use Rattle.log_recovery.specs.Writing.{to_write_in};
-ghost use Rattle.txn_mount.specs.Faults.{store_cause};
+ghost use Rattle.txn_mount.specs.Faults.{store_cause, count_cause};
+ghost use Rattle.txn_mount.specs.declared.fault.StoreFault.TheVariants.{Broken};
 ghost use Rattle.txn_mount.specs.Plans.{IsPlan, IsPlanOn};
 
 use crate::fault::StoreFault;
@@ -34,9 +35,10 @@ pub fn plan<D: Device>(
     ensures plan { IfOk result (IsPlan place.now (D.sector_count device.old)) }
     ensures on { IfOk result (IsPlanOn (D.changes_of device.old).disk place.now kept.now) }
     ensures refusals { IfSome (D.gives device.old) (λ disk. IfErr result (λ e. ExplainsOrFails (store_cause e) (to_write_in (content_of (sector_of disk)) place.now kept.now))) }
+    ensures broken { IfErr result (λ e. e ≡ Broken → D.gives device.old ≡ None) }
     ensures kept { KeepsDevice D.gives D.sector_count D.changes_of D.fault_count device.old device.new }
     ensures fault { IsErrOf result StoreFault.Fault → HasFailed (D.fault_count device.old) (D.fault_count device.new) (D.moment_of device.new) }
-    ensures counted { D.moment_of device.old < last_moment → CountsOnDevice store_cause (D.fault_count device.old) (D.fault_count device.new) (D.moment_of device.new) result }
+    ensures counted { D.moment_of device.old < last_moment → CountsOnDevice count_cause (D.fault_count device.old) (D.fault_count device.new) (D.moment_of device.new) result }
 {
     let found = read_log(alloc, device, place, kept)?;
     plan_for(alloc, place, device.sectors(), found)

@@ -11,7 +11,6 @@ use crate::puts::PutOut;
 use host_base::Memory;
 use log_area::LogArea;
 use log_page::LogPlace;
-use log_reading::LogRefusal;
 use log_recovery::{Recovered, ToWrite, is_lap};
 use std::alloc::{AllocError, Global};
 
@@ -77,8 +76,8 @@ fn room_for(
 /// What a mount on a device of so many sectors needs by what was found. Nothing is asked of the
 /// device.
 ///
-/// The errors are want of memory, and a refusal where no session may begin with what was found, as
-/// is never so of a log.
+/// The errors are want of memory, and [`StoreFault::Broken`] where no session may begin with what
+/// was found, as is never so where the disk is known.
 pub fn plan_for(
     alloc: Global,
     place: &LogPlace,
@@ -92,7 +91,7 @@ pub fn plan_for(
     ensures fault { IfErr result (λ e. (e ≡ StoreFault.Memory) ⊎ IsUnlevel place.now.pages found.recovered e) }
 {
     if !is_level(place, &found.recovered) {
-        return Err(StoreFault::Refused(LogRefusal::ForeignLog { lsn: 0 }));
+        return Err(StoreFault::Broken);
     }
     Ok(room_for(alloc, place, count, found)?)
 }

@@ -56,7 +56,7 @@ returns-clause-marks g c =
     record {
       last = last;
       gave = search;
-      rests = then_at_rest c.end_last-result.result (facts_of old.state) (facts_of mid.state) (facts_of last.state) c.requires.drained begun c.end_last-result.ensures.facts;
+      rests = then_at_rest c.end_last-result.result (facts_of old.state) (facts_of mid.state) (facts_of last.state) c.requires.drained c.known.ensures.order.pages_some c.known.ensures.order.pages_few begun c.end_last-result.ensures.facts;
       clean = then_ends_clean g.D.Device.gives g.D.Device.sector_count g.D.Device.moment_of g.D.Device.changes_of old mid last drained noted unsent c.end_last-result.result c.end_last-result.ensures.ends c.end_last-result.ensures.facts;
       leaves = then_leaves_clean g.D.Device.gives g.D.Device.sector_count g.D.Device.moment_of g.D.Device.changes_of old mid last drained noted unsent (facts_of old.state) c.end_last-result.result (g.met.D.Device.seen mid.device) first c.end_last-result.ensures.ends
           (at_ok c.end_last-result.result (let yes : c.has_next.result ≡ true = search in subst (λ (s : Seen _). HasNext s.state.log) (sym same) (c.has_next.ensures.0 yes)));

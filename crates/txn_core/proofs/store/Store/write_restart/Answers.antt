@@ -5,7 +5,7 @@ use Rattle.txn_laws.specs.Windows.{AfterWrite}
 use Rattle.txn_core.specs.Seen.{Seen}
 use Rattle.txn_core.specs.Turns.{MayRestart, restart_page, restart_facts, SendsRestartPage}
 use Rattle.txn_core.proofs.Keeping.{step_of}
-use Rattle.txn_core.proofs.Restarting.{restart_open, restart_told}
+use Rattle.txn_core.proofs.Restarting.{restart_told}
 use Rattle.txn_core.proofs.store.Store.write_restart.Goals as goal
 
 pub send_restart-requires : goal.send_restart-requires
@@ -25,9 +25,6 @@ returns-clause-page g c = subst (λ (s : Seen _). OnErr c.send_restart.result (I
 pub returns-clause-sent : goal.returns-clause-sent
 returns-clause-sent g c =
     subst (λ (s : Seen _). SendsRestartPage g.D.Device.gives g.D.Device.changes_of g.D.Device.moment_of false (facts_of s.state) (facts_of c.send_restart.new.state) c.send_restart.result s.device c.send_restart.new.device) c.self.view_is c.send_restart.ensures.sent
-
-pub returns-clause-unmarked : goal.returns-clause-unmarked
-returns-clause-unmarked g c = subst (λ (s : Seen _). (restart_page false (facts_of s.state)).clean ≡ false) c.self.view_is (restart_open (facts_of c.self.inside.state) c.self.invariant.1.unmarked)
 
 pub returns-clause-step : goal.returns-clause-step
 returns-clause-step g c =
