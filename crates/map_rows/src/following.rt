@@ -4,7 +4,7 @@ ghost use Rattle.std.specs.Prelude.{◌≡◌};
 use crate::disks::Disk;
 use crate::layouts::Layout;
 use crate::seeds::Seed;
-use crate::steps::{Step, any_block, any_step, first_step};
+use crate::steps::{FRONT_RUNS, Step, USUAL_RUNS, any_block, any_step, first_step, table_step};
 use bit_set::BitSet;
 use file_record::FileRec;
 use map_change::{LiveMap, MapChange, MapFault, MapRefusal, VolumeMap, apply, load_live, prepare};
@@ -139,7 +139,7 @@ impl Followed {
         let mut after = self.disk.copy(alloc)?;
         after.put_all(alloc, &step.changes)?;
         let layout = self.layout;
-        let prepared = prepare(alloc, &self.live, &mut self.disk, &step.changes);
+        let prepared = prepare(alloc, &mut self.live, &mut self.disk, &step.changes);
         let fresh = load_live(alloc, &mut after, &layout.geometry(), layout.count());
         let refusal = refusal_of(&fresh);
         match prepared {
@@ -169,34 +169,135 @@ fn counts_of(alloc: Global, layout: Layout, state: u64, steps: u16) -> Result<Co
     Ok(followed.counts)
 }
 
-// The sectors of a cluster, whether files may get attribute lists, a seed, and how many of 2,000
-// steps come at least to changes of parts, to loads and to refusals.
-struct Row(u8, bool, u64, (u32, u32, u32));
+// A run of steps, and how many of them come at least to each kind.
+struct Row {
+    // The sectors of a cluster.
+    per: u8,
+    // Whether files may get attribute lists.
+    lists: bool,
+    seed: u64,
+    steps: u16,
+    parts: u32,
+    loads: u32,
+    refused: u32,
+}
 
 static ROWS: [Row; 4] = [
-    Row(1, false, 1, (500, 100, 100)),
-    Row(8, false, 2, (500, 100, 100)),
-    Row(1, true, 3, (500, 100, 100)),
-    Row(8, true, 4, (500, 100, 100)),
+    Row {
+        per: 1,
+        lists: false,
+        seed: 1,
+        steps: 2000,
+        parts: 1500,
+        loads: 0,
+        refused: 100,
+    },
+    Row {
+        per: 8,
+        lists: false,
+        seed: 2,
+        steps: 2000,
+        parts: 1500,
+        loads: 0,
+        refused: 100,
+    },
+    Row {
+        per: 1,
+        lists: true,
+        seed: 3,
+        steps: 2000,
+        parts: 500,
+        loads: 100,
+        refused: 100,
+    },
+    Row {
+        per: 8,
+        lists: true,
+        seed: 4,
+        steps: 2000,
+        parts: 500,
+        loads: 100,
+        refused: 100,
+    },
 ];
 
 // Whether all steps came to what a load gives, and enough of them to each kind.
-fn are_followed(counts: Counts, least: (u32, u32, u32)) -> bool {
+fn are_followed(counts: Counts, row: &Row) -> bool {
     counts.other == 0
-        && least.0 <= counts.parts
-        && least.1 <= counts.loads
-        && least.2 <= counts.refused
+        && row.parts <= counts.parts
+        && row.loads <= counts.loads
+        && row.refused <= counts.refused
 }
 
 #[test]
 fn a_map_follows_its_volume(rt: HostRuntime) -> Result<(), Fail> {
     for row in &ROWS {
         let layout = Layout {
-            per: row.0,
-            lists: row.1,
+            per: row.per,
+            lists: row.lists,
         };
-        let counts = counts_of(rt.alloc(), layout, row.2, 2000)?;
-        assert!(rt; are_followed(counts, row.3), "seed {}: {counts:?}", row.2);
+        let counts = counts_of(rt.alloc(), layout, row.seed, row.steps)?;
+        assert!(rt; are_followed(counts, row), "seed {}: {counts:?}", row.seed);
+    }
+    Ok(())
+}
+
+// How many records a table has, and in which runs.
+struct Table {
+    records: u16,
+    runs: u16,
+}
+
+static TABLES: [Table; 7] = [
+    Table {
+        records: 28,
+        runs: USUAL_RUNS,
+    },
+    Table {
+        records: 28,
+        runs: FRONT_RUNS,
+    },
+    Table {
+        records: 32,
+        runs: FRONT_RUNS,
+    },
+    Table {
+        records: 36,
+        runs: USUAL_RUNS,
+    },
+    Table {
+        records: 48,
+        runs: USUAL_RUNS,
+    },
+    Table {
+        records: 20,
+        runs: FRONT_RUNS,
+    },
+    Table {
+        records: 40,
+        runs: USUAL_RUNS,
+    },
+];
+
+fn table_counts(alloc: Global, layout: Layout) -> Result<Counts, Fail> {
+    let mut followed = begin(alloc, layout)?;
+    for table in &TABLES {
+        let step = table_step(alloc, layout, table.records, table.runs)?;
+        followed.follow(alloc, &step)?;
+    }
+    Ok(followed.counts)
+}
+
+// A table that gets more records and runs, and fewer, is followed without a load.
+#[test]
+fn a_table_that_grows_is_followed(rt: HostRuntime) -> Result<(), Fail> {
+    for per in [1, 8] {
+        let layout = Layout { per, lists: false };
+        let counts = table_counts(rt.alloc(), layout)?;
+        assert!(rt;
+            counts.parts == 7 && counts.other == 0,
+            "per {per}: {counts:?}"
+        );
     }
     Ok(())
 }
