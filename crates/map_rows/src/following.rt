@@ -106,6 +106,28 @@ fn count(counter: &mut u32) {
     *counter = counter.saturating_add(1);
 }
 
+// How a map came to follow its volume.
+#[derive(Clone, Copy)]
+enum Way {
+    Parts,
+    Load,
+}
+
+fn way_of(change: &MapChange) -> Way {
+    match change {
+        MapChange::Parts(_) => Way::Parts,
+        MapChange::Anew(_) => Way::Load,
+    }
+}
+
+// Changes are prepared and put in place.
+fn put(alloc: Global, live: &mut LiveMap, disk: &mut Disk, step: &Step) -> Result<Way, MapFault> {
+    let change = prepare(alloc, live, disk, &step.changes)?;
+    let way = way_of(&change);
+    apply(live, change);
+    Ok(way)
+}
+
 impl Followed {
     // A block is torn, where the map stays as it is.
     fn tear(&mut self, alloc: Global, seed: &mut Seed) -> Result<(), Fail> {
@@ -121,13 +143,12 @@ impl Followed {
         Ok(())
     }
 
-    // What was prepared is put in place.
-    fn put(&mut self, change: MapChange, after: Disk, fresh: &LiveMap) {
-        match change {
-            MapChange::Parts(_) => count(&mut self.counts.parts),
-            MapChange::Anew(_) => count(&mut self.counts.loads),
+    // What was put in place is beside what a load gives.
+    fn compare(&mut self, way: Way, after: Disk, fresh: &LiveMap) {
+        match way {
+            Way::Parts => count(&mut self.counts.parts),
+            Way::Load => count(&mut self.counts.loads),
         }
-        apply(&mut self.live, change);
         self.disk = after;
         if !same_map(&self.live.map, &fresh.map) {
             count(&mut self.counts.other);
@@ -139,12 +160,12 @@ impl Followed {
         let mut after = self.disk.copy(alloc)?;
         after.put_all(alloc, &step.changes)?;
         let layout = self.layout;
-        let prepared = prepare(alloc, &mut self.live, &mut self.disk, &step.changes);
+        let put = put(alloc, &mut self.live, &mut self.disk, step);
         let fresh = load_live(alloc, &mut after, &layout.geometry(), layout.count());
         let refusal = refusal_of(&fresh);
-        match prepared {
-            Ok(change) => match fresh {
-                Ok(fresh) => self.put(change, after, &fresh),
+        match put {
+            Ok(way) => match fresh {
+                Ok(fresh) => self.compare(way, after, &fresh),
                 Err(_) => count(&mut self.counts.other),
             },
             Err(MapFault::Refused(fault)) if refusal == Some(fault) => {
