@@ -8,8 +8,7 @@ use Rattle.host_base.proofs.Known.{both}
 use Rattle.disk_model.specs.Content.{Content}
 use Rattle.record_model.specs.Records.{Record}
 use Rattle.state_model.specs.declared.stream.Extents.{Extents}
-use Rattle.state_model.specs.Files.{only_base}
-use Rattle.state_model.specs.Loads.{table_slot, used_record}
+use Rattle.state_model.specs.Loads.{table_slot}
 use Rattle.stream_laws.specs.Rewrites.{StandsAlone, with_files}
 use Rattle.volume_map.specs.declared.head.Head.{Head}
 use Rattle.volume_map.specs.Heads.{table_head}
@@ -18,11 +17,12 @@ use Rattle.map_change.specs.Touching.{is_number}
 use Rattle.map_change.specs.Parts.{MapParts}
 use Rattle.map_change.specs.Applying.{applied_one, applied_all}
 use Rattle.map_change.specs.Reading.{IsRead, AreRead}
+use Rattle.map_change.proofs.Themselves.{own_file}
 use Rattle.map_change.proofs.Lists.{put_numbers}
 
 -- the file that a record is by itself in a content
 abbrev pub file_by : Content → ℕ → Extents → ℕ → Option Record
-file_by d per e n = only_base (used_record (table_slot d per e n))
+file_by d per e n = own_file (table_slot d per e n)
 
 -- the parts with these files and heads
 abbrev pub parts_with : MapParts → List (Option Record) → List Head → MapParts

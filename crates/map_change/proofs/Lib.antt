@@ -1,5 +1,10 @@
 pub mod Lists
+pub mod Resizing
+pub mod Places
 pub mod Blocks
-pub mod Standing
+pub mod Themselves
 pub mod Applied
+pub mod Marked
+pub mod After
+pub mod Standing
 pub mod Prepared

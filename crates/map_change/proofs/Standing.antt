@@ -1,163 +1,154 @@
--- The volume after changes of some records alone.
-use Rattle.std.proofs.Common.{◌≡◌, ℕ, ◌<◌, Bool, true, false, cond, List, [], length, get_or, map, Option, Some, None, Ok, refl, sym, ap, subst, ◌∙◌, inl, inr, arith}
+-- The volume after changes, by its records and its file table.
+use Rattle.std.proofs.Common.{◌≡◌, ℕ, zero, suc, ◌+◌, ◌-◌, ◌*◌, ◌<◌, ◌≤◌, Bool, true, false, cond, eqb, leb, List, length, get_or, map, Option, None, Ok, refl, sym, ap, subst, ◌∙◌, inl, inr, arith}
 use Rattle.std.specs.List.{list_any, list_all, range_with_len}
-use Rattle.std.proofs.lemmas.Bool.{cases_lt, or_parts, not-true}
+use Rattle.std.proofs.lemmas.Bool.{cases_lt, cases_eq, eq-eqb, or_left, or_right, or_parts, both_ways}
 use Rattle.std.proofs.lemmas.List.{ext_get_or}
 use Rattle.std.proofs.lemmas.List.Folds.{list_any-append}
 use Rattle.std.proofs.lemmas.List.FromFn.{get_or-map-range_with_len, length-map-range_with_len}
-use Rattle.host_base.specs.Answers.{◌>>=◌}
+use Rattle.disk_model.specs.declared.block.Block.{Block}
 use Rattle.disk_model.specs.declared.block.Change.{Change}
-use Rattle.disk_model.specs.declared.block.Body.{Body}
+use Rattle.disk_model.specs.declared.block.BlockKind.TheVariants.{FileRec}
 use Rattle.disk_model.specs.Content.{Content, HasSizes}
-use Rattle.record_model.specs.Constants.{attribute_list, data_type, bitmap_type}
-use Rattle.record_model.specs.Records.{Record, record_at}
-use Rattle.bit_set.specs.Words.{bits_of_bytes}
+use Rattle.record_model.specs.Records.{Record}
 use Rattle.state_model.specs.declared.geometry.Geometry.{Geometry}
-use Rattle.state_model.specs.declared.stream.Stream.{Stream}
-use Rattle.state_model.specs.Files.{file_at, has_type, only_base}
-use Rattle.state_model.specs.Loads.{slot_by, judged, extents_in, boot_block, record_count, table_of, table_slot, records_of, table_in, list_stream, list_entries_in, entries_of, all_attrs, whole_file, joined_file, files_of, files_in}
-use Rattle.volume_model.specs.Volumes.{Volume, volume_of, count_of, file_in, file_stream, bytes_or, record_block, record_bytes, record_bitmap, cluster_bitmap, record_bits, cluster_bits, table_file, bitmap_file}
+use Rattle.state_model.specs.declared.stream.Extents.{Extents}
+use Rattle.state_model.specs.Streams.{block_at, has_cut_block}
+use Rattle.state_model.specs.Loads.{Free, record_count, slot_at, table_of, table_slot, files_in}
+use Rattle.volume_model.specs.Volumes.{Volume, volume_of, count_of, block_bytes, record_block, record_bytes}
+use Rattle.volume_map.specs.declared.head.Head.{Head}
 use Rattle.volume_map.specs.Heads.{head_of, head_at, heads_of, table_head, no_head}
 use Rattle.block_view.specs.Changes.{writes_of, content_after}
-use Rattle.stream_laws.specs.Changes.{LeavesBytes, LeavesRecord}
-use Rattle.stream_laws.specs.Rewrites.{StandsAlone, names_one, RewritesRecords, with_files, new_file, changed_file}
-use Rattle.stream_laws.specs.Volumes.{base_record}
-use Rattle.stream_laws.proofs.Changing.{body_elsewhere, bytes_stay, record_bytes_stay}
-use Rattle.stream_laws.proofs.Rewriting.{past_table, volume_parts, parts_of_files, volume_written, count_is, rewrites_in_place}
-use Rattle.stream_laws.proofs.Tabling.{no_list_stream}
+use Rattle.stream_laws.specs.Changes.{LeavesRecord}
+use Rattle.stream_laws.specs.Rewrites.{StandsAlone, with_table}
+use Rattle.stream_laws.proofs.Changing.{slot_stays, record_bytes_stay}
+use Rattle.stream_laws.proofs.Rewriting.{volume_parts, count_is}
 use Rattle.map_change.specs.Plain.{is_plain}
-use Rattle.map_change.specs.Touching.{is_number, Spares}
-use Rattle.map_change.specs.Reading.{IsBits}
-use Rattle.map_change.specs.Applying.{with_bits}
-use Rattle.map_change.proofs.Lists.{put_numbers, length_put, get_put, other_put, all_at}
-use Rattle.map_change.proofs.Blocks.{elsewhere, leaves_stream, leaves_record}
+use Rattle.map_change.specs.Touching.{is_number, touched_numbers, KeepsPlaces, changed_numbers}
+use Rattle.map_change.specs.Applying.{resized}
+use Rattle.map_change.proofs.Lists.{put_numbers, length_put, get_put}
+use Rattle.map_change.proofs.Resizing.{length_resized, get_resized}
+use Rattle.map_change.proofs.Blocks.{leaves_block}
+use Rattle.map_change.proofs.Themselves.{own_file, StandsByItself, alone_by_itself, files_themselves, volume_from, file_itself, by_itself}
+use Rattle.map_change.proofs.Applied.{file_by}
 
--- ---- files without attribute lists
+-- a number of a range
+in_range : (m from n : ℕ) → from ≤ m → m < from + n → list_any (is_number m) (range_with_len from n) ≡ true
+in_range m from zero low high = absurd (omega (arith, low, high))
+in_range m from (suc n) low high = elim (cases_eq from m) [
+  | inl same ↦ or_left (eqb from m) (list_any (is_number m) (range_with_len (from + 1) n)) (eq-eqb from m same)
+  | inr other ↦ or_right (eqb from m) (list_any (is_number m) (range_with_len (from + 1) n)) (in_range m (from + 1) n (omega (arith, low, other)) (omega (arith, high)))
+]
 
-plain_whole : (c : Content) (per : ℕ) (p : ℕ → Option Record) (count m : ℕ) (o : Option Record) (r : Record) → o ≡ Some r → is_plain (whole_file c per p count m o) ≡ true → has_type attribute_list r ≡ false
-unfolding has_type all_attrs
-plain_whole c per p count m None r is plain = absurd cc
-plain_whole c per p count m (Some q) r is plain =
-    let same : q ≡ r = cc in
-    let none = not-true _ plain in
-    let parts = or_parts _ _ (sym (list_any-append _ q.attrs _) ∙ none) in
-    sym (ap (has_type attribute_list) same) ∙ parts.0
+-- a record that isn't read anew is one that keeps its place, and that no change is of
+kept_below : (per : ℕ) (e f : Extents) (n m : ℕ) (changes : List Change) → m < record_count f → list_any (is_number m) (changed_numbers per e f n changes) ≡ false → (m < n) × (list_any (is_number m) (touched_numbers FileRec per n e.runs changes) ≡ false)
+kept_below per e f n m changes below other =
+    let parts = or_parts _ _ (sym (list_any-append (is_number m) (touched_numbers FileRec per n e.runs changes) (range_with_len n (record_count f - n))) ∙ other) in
+    elim (cases_lt m n) [
+      | inl low ↦ (low, parts.0)
+      | inr past ↦ absurd (both_ways _ parts.1 (in_range m n (record_count f - n) past (omega (arith, below, past))))
+    ]
 
-entries_none : (c : Content) (per : ℕ) (r : Record) → list_stream r ≡ None → (entries_of c per r).entries ≡ []
-unfolding entries_of
-entries_none c per r none = ap (λ (s : Option Stream). (list_entries_in c per s).entries) none
-
-module _ (c : Content) (g : Geometry) (clusters : ℕ) (v : Volume) (loaded : volume_of c g clusters ≡ Ok v) where
-  joined : v.files ≡ files_of c v.per (table_in (records_of (table_slot c v.per v.table) (record_count v.table))) (record_count v.table)
-  joined =
-      let parts = volume_parts c g clusters v loaded in
-      (parts_of_files c v.per v.table v.files (sym (ap (λ (per : ℕ). files_in c per v.table) parts.per) ∙ parts.files)).2
-
-  joined_at : (m : ℕ) → m < record_count v.table → get_or v.files m None ≡ whole_file c v.per (table_in (records_of (table_slot c v.per v.table) (record_count v.table))) (record_count v.table) m (base_record c v.per v.table m)
-  unfolding files_of joined_file
-  joined_at m below =
-      let p = table_in (records_of (table_slot c v.per v.table) (record_count v.table)) in
-      ap (λ (l : List (Option Record)). get_or l m None) joined
-      ∙ get_or-map-range_with_len (joined_file c v.per p (record_count v.table)) 0 (record_count v.table) m m None below (omega arith)
-
-  base_below : (m : ℕ) (r : Record) → base_record c v.per v.table m ≡ Some r → m < record_count v.table
-  unfolding file_at
-  base_below m r is = elim (cases_lt m (record_count v.table)) [
-    | inl below ↦ below
-    | inr past ↦ (let none : None ≡ Some r = sym (ap only_base (past_table c v.per v.table m past)) ∙ is in absurd cc)
-  ]
-
-  pub listless : (m : ℕ) (r : Record) → list_all is_plain v.files ≡ true → base_record c v.per v.table m ≡ Some r → list_stream r ≡ None
-  listless m r plain is =
-      let p = table_in (records_of (table_slot c v.per v.table) (record_count v.table)) in
-      let here : is_plain (whole_file c v.per p (record_count v.table) m (base_record c v.per v.table m)) ≡ true = sym (ap is_plain (joined_at m (base_below m r is))) ∙ all_at is_plain v.files None m refl plain in
-      no_list_stream r (plain_whole c v.per p (record_count v.table) m (base_record c v.per v.table m) r is here)
-
--- ---- the new volume
-
-same_table : (c d : Content) (g : Geometry) → d (boot_block g 0) ≡ c (boot_block g 0) → table_of d g ≡ table_of c g
-unfolding table_of
-same_table c d g same = ap (λ (b : Body). judged 0 (slot_by record_at b) >>= extents_in) same
-
-module _ (c : Content) (g : Geometry) (clusters : ℕ) (v : Volume) (changes : List Change) (numbers : List ℕ) (sized : HasSizes c) (loaded : volume_of c g clusters ≡ Ok v) (s : Spares v g changes numbers)
-    (alone : (m : ℕ) → list_any (is_number m) numbers ≡ true → StandsAlone v.per (table_slot (content_after changes c) v.per v.table m)) where
+module _ (c : Content) (g : Geometry) (clusters : ℕ) (v : Volume) (f : Extents) (n : ℕ) (changes : List Change) (sized : HasSizes c) (loaded : volume_of c g clusters ≡ Ok v) (some : 0 < v.per) (plain : list_all is_plain v.files ≡ true)
+    (table : table_of (content_after changes c) g ≡ Ok f) (uncut : has_cut_block v.per FileRec (record_count f) f.runs ≡ false) (keeps : KeepsPlaces v.per v.table f n)
+    (alone : (m : ℕ) → list_any (is_number m) (changed_numbers v.per v.table f n changes) ≡ true → StandsAlone v.per (table_slot (content_after changes c) v.per f m)) where
   abbrev pub after : Content
   after = content_after changes c
+
+  abbrev pub numbers : List ℕ
+  numbers = changed_numbers v.per v.table f n changes
 
   abbrev pub touched : ℕ → Bool
   touched m = list_any (is_number m) numbers
 
-  table_stays : table_of after g ≡ Ok v.table
-  table_stays = same_table c after g (body_elsewhere c (writes_of changes) (boot_block g 0) sized (elsewhere (boot_block g 0) changes s.boot)) ∙ (volume_parts c g clusters v loaded).table
+  abbrev pub count : ℕ
+  count = record_count f
 
-  others_stay : (m : ℕ) → m < count_of v → touched m ≡ false → LeavesRecord (writes_of changes) v.per v.table m
-  others_stay m below other = λ b is. leaves_record v.per (count_of v) v.table.runs m b changes s.some below is.lies (sym (ap (list_any (is_number m)) s.touched) ∙ other)
+  -- ---- records that aren't read anew
 
-  rewritten : RewritesRecords c (writes_of changes) v.per v.table v.table touched
-  rewritten =
-      let count = count_is c g clusters v loaded in
-      rewrites_in_place c (writes_of changes) g clusters v touched loaded (λ m below other. others_stay m (omega (arith, count)) other)
-      (λ m r other base.
-      let none = listless c g clusters v loaded m r s.plain base in
-      (subst (LeavesBytes (writes_of changes) v.per) (sym none) tt, ap (names_one touched) (entries_none c v.per r none)))
-      (λ m below touches. alone m touches)
+  leaves : (m : ℕ) → m < count → touched m ≡ false → LeavesRecord (writes_of changes) v.per v.table m
+  leaves m below other =
+      let low = kept_below v.per v.table f n m changes below other in
+      λ b is. leaves_block FileRec v.per n v.table.runs m b changes some low.0 is.lies low.1
+
+  low : (m : ℕ) → m < count → touched m ≡ false → m < n
+  low m below other = (kept_below v.per v.table f n m changes below other).0
+
+  slot_there : (m : ℕ) → m < count → touched m ≡ false → table_slot after v.per f m ≡ table_slot c v.per v.table m
+  unfolding table_slot
+  slot_there m below other =
+      ap (λ (t : Bool). cond t Free (slot_at after (block_at v.per f.runs FileRec m))) (keeps.begun m (low m below other))
+      ∙ ap (λ (o : Option Block). cond (leb v.table.initialised (1024 * m)) Free (slot_at after o)) (keeps.places m (low m below other))
+      ∙ slot_stays c (writes_of changes) v.per v.table m sized (leaves m below other)
+
+  head_stays : (m : ℕ) → m < count → touched m ≡ false → table_head after v.per f m ≡ head_at c v m
+  unfolding table_head head_at record_bytes record_block
+  head_stays m below other =
+      ap (λ (t : Bool). head_of (block_bytes after (cond t None (block_at v.per f.runs FileRec m)))) (keeps.begun m (low m below other))
+      ∙ ap (λ (o : Option Block). head_of (block_bytes after (cond (leb v.table.initialised (1024 * m)) None o))) (keeps.places m (low m below other))
+      ∙ ap head_of (record_bytes_stay c (writes_of changes) v m sized (leaves m below other))
+
+  -- ---- each record
+
+  each_now : (t : Bool) (m : ℕ) → m < count → touched m ≡ t → StandsByItself v.per m (table_slot after v.per f m)
+  each_now true m below is = alone_by_itself v.per m (table_slot after v.per f m) (alone m is)
+  each_now false m below other = subst (StandsByItself v.per m) (sym (slot_there m below other)) (by_itself c g clusters v loaded plain m (omega (arith, low m below other, keeps.old)))
+
+  file_now : (t : Bool) (m : ℕ) → m < count → touched m ≡ t → cond t (file_by after v.per f m) (get_or v.files m None) ≡ own_file (table_slot after v.per f m)
+  file_now true m below is = refl
+  file_now false m below other = file_itself c g clusters v loaded plain m (omega (arith, low m below other, keeps.old)) ∙ sym (ap own_file (slot_there m below other))
+
+  -- ---- the volume
 
   abbrev pub new_files : List (Option Record)
-  new_files = put_numbers (new_file after v) numbers v.files
+  new_files = put_numbers (file_by after v.per f) numbers (resized count None v.files)
 
-  files_are : new_files ≡ map (changed_file after v v.table touched) (range_with_len 0 (record_count v.table))
+  pub length_files : length new_files ≡ count
+  length_files = length_put (file_by after v.per f) numbers (resized count None v.files) ∙ length_resized count None v.files
+
+  files_are : map (λ m. own_file (table_slot after v.per f m)) (range_with_len 0 count) ≡ new_files
   files_are =
-      let count = count_is c g clusters v loaded in
-      let size : length new_files ≡ length v.files = length_put (new_file after v) numbers v.files in
-      let listed = length-map-range_with_len (changed_file after v v.table touched) 0 (record_count v.table) in
-      ext_get_or None new_files (map (changed_file after v v.table touched) (range_with_len 0 (record_count v.table))) (omega (arith, count, size, listed))
-      (λ m below. get_put (new_file after v) numbers v.files None m (omega (arith, size)) ∙ sym (get_or-map-range_with_len (changed_file after v v.table touched) 0 (record_count v.table) m m None (omega (arith, count, size)) (omega arith)))
+      let own : ℕ → Option Record = λ m. own_file (table_slot after v.per f m) in
+      let size = length-map-range_with_len own 0 count in
+      let long = length_resized count None v.files in
+      ext_get_or None (map own (range_with_len 0 count)) new_files (omega (arith, size, length_files)) (λ m inside.
+      let below : m < count = omega (arith, inside, size) in
+      get_or-map-range_with_len own 0 count m m None below (omega arith)
+      ∙ sym (file_now (touched m) m below refl)
+      ∙ ap (λ (o : Option Record). cond (touched m) (file_by after v.per f m) o) (sym (get_resized count None v.files m below))
+      ∙ sym (get_put (file_by after v.per f) numbers (resized count None v.files) None m (omega (arith, below, long))))
 
-  pub volume_after : volume_of after g clusters ≡ Ok (with_files v new_files)
-  volume_after = volume_written c (writes_of changes) g clusters v v.table touched sized loaded table_stays rewritten ∙ ap (λ (files : List (Option Record)). Ok (with_files v files)) (sym files_are)
+  pub volume_after : volume_of after g clusters ≡ Ok (with_table v f new_files)
+  volume_after =
+      let parts = volume_parts c g clusters v loaded in
+      let files : files_in after v.per f ≡ Ok new_files = files_themselves after v.per f (λ m below. each_now (touched m) m below refl) uncut ∙ ap (λ (l : List (Option Record)). Ok l) files_are in
+      volume_from after g clusters f new_files table (ap (λ (per : ℕ). files_in after per f) parts.per ∙ files)
+      ∙ ap (λ (per : ℕ). Ok (volume_with per clusters g.mft)) parts.per
+      ∙ ap (λ (k : ℕ). Ok (volume_with v.per k g.mft)) parts.count
+      ∙ ap (λ (mft : ℕ). Ok (volume_with v.per v.clusters mft)) parts.place
+    where
+      volume_with : ℕ → ℕ → ℕ → Volume
+      volume_with per k mft = record { per = per; clusters = k; mft = mft; table = f; files = new_files }
 
   -- ---- its heads
 
-  head_there : (t : Bool) (m : ℕ) → m < count_of v → touched m ≡ t → cond t (table_head after v.per v.table m) (get_or (heads_of c v) m no_head) ≡ head_at after (with_files v new_files) m
+  head_there : (t : Bool) (m : ℕ) → m < count → touched m ≡ t → cond t (table_head after v.per f m) (get_or (heads_of c v) m no_head) ≡ head_at after (with_table v f new_files) m
   unfolding heads_of table_head head_at record_bytes record_block
   head_there true m below is = refl
-  head_there false m below is = get_or-map-range_with_len (head_at c v) 0 (count_of v) m m no_head below (omega arith) ∙ ap head_of (sym (record_bytes_stay c (writes_of changes) v m sized (others_stay m below is)))
+  head_there false m below other =
+      get_or-map-range_with_len (head_at c v) 0 (count_of v) m m no_head (omega (arith, low m below other, keeps.old, count_is c g clusters v loaded)) (omega arith)
+      ∙ sym (head_stays m below other)
 
-  pub heads_after : put_numbers (table_head after v.per v.table) numbers (heads_of c v) ≡ heads_of after (with_files v new_files)
+  pub heads_after : put_numbers (table_head after v.per f) numbers (resized count no_head (heads_of c v)) ≡ heads_of after (with_table v f new_files)
   unfolding heads_of
   heads_after =
-      let size = length_put (table_head after v.per v.table) numbers (heads_of c v) in
-      let files : length new_files ≡ length v.files = length_put (new_file after v) numbers v.files in
-      let old = length-map-range_with_len (head_at c v) 0 (count_of v) in
-      let listed = length-map-range_with_len (head_at after (with_files v new_files)) 0 (count_of (with_files v new_files)) in
-      ext_get_or no_head (put_numbers (table_head after v.per v.table) numbers (heads_of c v)) (heads_of after (with_files v new_files)) (omega (arith, size, files, old, listed))
-      (λ m below.
-      get_put (table_head after v.per v.table) numbers (heads_of c v) no_head m (omega (arith, size))
-      ∙ head_there (touched m) m (omega (arith, size, old)) refl
-      ∙ sym (get_or-map-range_with_len (head_at after (with_files v new_files)) 0 (count_of (with_files v new_files)) m m no_head (omega (arith, size, old, files)) (omega arith)))
-
-  -- ---- its bits
-
-  file_stays : (m : ℕ) → touched m ≡ false → file_in (with_files v new_files) m ≡ file_in v m
-  unfolding file_at
-  file_stays m other = ap only_base (other_put (new_file after v) numbers v.files None m other)
-
-  pub records_after : (new : Option (List Bool)) → IsBits after v.per (record_bitmap v) (count_of v) changes new → with_bits new (record_bits c v) ≡ record_bits after (with_files v new_files)
-  unfolding record_bits
-  records_after None spared =
-      let files : length new_files ≡ length v.files = length_put (new_file after v) numbers v.files in
-      ap (λ (n : ℕ). bits_of_bytes (bytes_or c v.per (record_bitmap v)) n) (sym files)
-      ∙ ap (λ (bytes : List ℕ). bits_of_bytes bytes (length new_files)) (sym (bytes_stay c (writes_of changes) v.per (record_bitmap v) (leaves_stream v.per (record_bitmap v) changes s.some spared)))
-      ∙ ap (λ (f : Option Record). bits_of_bytes (bytes_or after v.per (file_stream bitmap_type [] f)) (length new_files)) (sym (file_stays table_file s.table))
-  records_after (Some bits) are =
-      let files : length new_files ≡ length v.files = length_put (new_file after v) numbers v.files in
-      are
-      ∙ ap (λ (n : ℕ). bits_of_bytes (bytes_or after v.per (record_bitmap v)) n) (sym files)
-      ∙ ap (λ (f : Option Record). bits_of_bytes (bytes_or after v.per (file_stream bitmap_type [] f)) (length new_files)) (sym (file_stays table_file s.table))
-
-  pub clusters_after : (new : Option (List Bool)) → IsBits after v.per (cluster_bitmap v) v.clusters changes new → with_bits new (cluster_bits c v) ≡ cluster_bits after (with_files v new_files)
-  unfolding cluster_bits
-  clusters_after None spared =
-      ap (λ (bytes : List ℕ). bits_of_bytes bytes v.clusters) (sym (bytes_stay c (writes_of changes) v.per (cluster_bitmap v) (leaves_stream v.per (cluster_bitmap v) changes s.some spared)))
-      ∙ ap (λ (f : Option Record). bits_of_bytes (bytes_or after v.per (file_stream data_type [] f)) v.clusters) (sym (file_stays bitmap_file s.bitmap))
-  clusters_after (Some bits) are = are ∙ ap (λ (f : Option Record). bits_of_bytes (bytes_or after v.per (file_stream data_type [] f)) v.clusters) (sym (file_stays bitmap_file s.bitmap))
+      let heads = resized count no_head (heads_of c v) in
+      let new = head_at after (with_table v f new_files) in
+      let size = length_put (table_head after v.per f) numbers heads in
+      let long = length_resized count no_head (heads_of c v) in
+      let listed = length-map-range_with_len new 0 (length new_files) in
+      ext_get_or no_head (put_numbers (table_head after v.per f) numbers heads) (heads_of after (with_table v f new_files)) (omega (arith, size, long, listed, length_files)) (λ m inside.
+      let below : m < count = omega (arith, inside, size, long) in
+      get_put (table_head after v.per f) numbers heads no_head m (omega (arith, below, long))
+      ∙ ap (λ (h : Head). cond (touched m) (table_head after v.per f m) h) (get_resized count no_head (heads_of c v) m below)
+      ∙ head_there (touched m) m below refl
+      ∙ sym (get_or-map-range_with_len new 0 (length new_files) m m no_head (omega (arith, below, length_files)) (omega arith)))

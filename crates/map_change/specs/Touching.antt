@@ -1,56 +1,54 @@
--- Which records changes may be of, and which changes leave all else of a volume.
-use Rattle.std.specs.Prelude.{◌≡◌, ℕ, ◌+◌, ◌-◌, ◌*◌, ◌/◌, ◌<◌, Bool, true, false, not, ◌||◌, ◌==◌, nat_lt, if◌then◌else◌, List, [], Option, Some, None}
-use Rattle.std.specs.List.{list_all, list_any, filter_map, flat_map}
+-- Which blocks of a stream changes may be of, and which records are read anew.
+use Rattle.std.specs.Prelude.{◌≡◌, ℕ, ◌+◌, ◌-◌, ◌*◌, ◌/◌, ◌<◌, ◌≤◌, Bool, ◌==◌, nat_le, nat_lt, if◌then◌else◌, List, [], ◌++◌, Option, Some, None, find}
+use Rattle.std.specs.List.{filter_map, flat_map, range_with_len}
 use Rattle.disk_model.specs.declared.block.Block.{Block}
 use Rattle.disk_model.specs.declared.block.Change.{Change}
-use Rattle.disk_model.specs.declared.block.BlockKind.TheVariants.{Plain, FileRec}
-use Rattle.disk_model.specs.Sectors.{same_block, same_kind}
+use Rattle.disk_model.specs.declared.block.BlockKind.{BlockKind}
+use Rattle.disk_model.specs.declared.block.BlockKind.TheVariants.{FileRec}
+use Rattle.disk_model.specs.Sectors.{sectors, same_kind}
 use Rattle.record_model.specs.declared.runs.Run.{Run}
-use Rattle.state_model.specs.declared.geometry.Geometry.{Geometry}
-use Rattle.state_model.specs.Loads.{boot_block}
-use Rattle.volume_model.specs.Volumes.{Volume, count_of, table_file, bitmap_file}
+use Rattle.state_model.specs.declared.stream.Extents.{Extents}
+use Rattle.state_model.specs.Streams.{block_at, holds, lcn_in}
+use Rattle.state_model.specs.Loads.{record_count}
 use Rattle.volume_model.specs.Owners.{covers}
-use Rattle.map_change.specs.Plain.{is_plain}
 
--- ---- records
+-- ---- blocks of a stream
 
-abbrev pub number_by : ℕ → ℕ → ℕ → ℕ → Option ℕ → Option ℕ
-number_by per count first vcn None = None
-number_by per count first vcn (Some lcn) = if nat_lt ((vcn * per + first - lcn * per) / 2) count then Some ((vcn * per + first - lcn * per) / 2) else None
+abbrev pub number_by : ℕ → ℕ → ℕ → ℕ → ℕ → Option ℕ → Option ℕ
+number_by size per count first vcn None = None
+number_by size per count first vcn (Some lcn) = if nat_lt ((vcn * per + first - lcn * per) / size) count then Some ((vcn * per + first - lcn * per) / size) else None
 
--- the record, below so many, that would lie in the block by this run of the file table
+-- the place, below so many of the size of the block's kind, at which a stream would have the block by this run
 unfoldable pub number_at : ℕ → ℕ → Block → Run → Option ℕ
-number_at per count b r = if covers (b.first / per) r then number_by per count b.first r.vcn r.lcn else None
+number_at per count b r = if covers (b.first / per) r then number_by (sectors b.kind) per count b.first r.vcn r.lcn else None
 
--- those that the change may be of
-unfoldable pub numbers_of : ℕ → ℕ → List Run → Change → List ℕ
-numbers_of per count runs c = if same_kind c.block.kind FileRec then filter_map (number_at per count c.block) runs else []
+-- those that the change may be of, where its block is of this kind
+unfoldable pub numbers_of : BlockKind → ℕ → ℕ → List Run → Change → List ℕ
+numbers_of kind per count runs c = if same_kind c.block.kind kind then filter_map (number_at per count c.block) runs else []
 
-unfoldable pub touched_numbers : ℕ → ℕ → List Run → List Change → List ℕ
-touched_numbers per count runs changes = flat_map (numbers_of per count runs) changes
+unfoldable pub touched_numbers : BlockKind → ℕ → ℕ → List Run → List Change → List ℕ
+touched_numbers kind per count runs changes = flat_map (numbers_of kind per count runs) changes
 
 abbrev pub is_number : ℕ → ℕ → Bool
 is_number n m = m == n
 
--- ---- all else
+-- ---- records
 
--- the change is to no sector in a cluster of these runs
-unfoldable pub spares : ℕ → List Run → Change → Bool
-spares per runs c = not (same_kind c.block.kind Plain) || not (list_any (covers (c.block.first / per)) runs)
+-- Below so many VCNs two lists of runs put what is in one run at the same clusters.
+abbrev pub AgreeBelow : List Run → List Run → ℕ → Type 0
+AgreeBelow old new n = (v w : ℕ) → v ≤ w → w < n → lcn_in v (find (holds v w) new) ≡ lcn_in v (find (holds v w) old)
 
-abbrev pub spares_all : ℕ → List Run → List Change → Bool
-spares_all per runs changes = list_all (spares per runs) changes
+-- no run begins below so many VCNs
+abbrev pub NoneBelow : List Run → ℕ → Type 0
+NoneBelow runs n = (v w : ℕ) → v ≤ w → w < n → find (holds v w) runs ≡ None
 
--- the change isn't of this block
-unfoldable pub leaves_boot : Block → Change → Bool
-leaves_boot b c = not (same_block b c.block)
+-- So many records lie by both extents of a file table at the same places, and begin below the initialised sizes of both, or of neither.
+pub record KeepsPlaces (per : ℕ) (e f : Extents) (n : ℕ) : Type 0 where
+  pub old : n ≤ record_count e
+  pub new : n ≤ record_count f
+  pub places : (m : ℕ) → m < n → block_at per f.runs FileRec m ≡ block_at per e.runs FileRec m
+  pub begun : (m : ℕ) → m < n → nat_le f.initialised (1024 * m) ≡ nat_le e.initialised (1024 * m)
 
--- These are the records that the changes may be of, and but for sectors of the bitmaps all that they change of a volume without
--- attribute lists.
-pub record Spares (v : Volume) (g : Geometry) (changes : List Change) (numbers : List ℕ) : Type 0 where
-  pub some : 0 < v.per
-  pub plain : list_all is_plain v.files ≡ true
-  pub boot : list_all (leaves_boot (boot_block g 0)) changes ≡ true
-  pub touched : numbers ≡ touched_numbers v.per (count_of v) v.table.runs changes
-  pub table : list_any (is_number table_file) numbers ≡ false
-  pub bitmap : list_any (is_number bitmap_file) numbers ≡ false
+-- of so many records that keep their places those that changes may be of, and all behind them
+abbrev pub changed_numbers : ℕ → Extents → Extents → ℕ → List Change → List ℕ
+changed_numbers per e f n changes = touched_numbers FileRec per n e.runs changes ++ range_with_len n (record_count f - n)

@@ -5,6 +5,7 @@ ghost use Rattle.map_change.specs.Plain.{is_plain};
 use crate::live::LiveMap;
 use bit_set::BitSet;
 use file_record::FileRec;
+use state_model::Extents;
 use volume_map::Head;
 
 /// What is put in the place of a record.
@@ -19,15 +20,37 @@ pub struct RecordChange {
     pub ghost listless: { is_plain file ≡ true },
 }
 
+/// Bits of one value, one behind the other.
+#[derive(Clone, Copy, Debug, PartialEq, Eq)]
+pub struct BitRun {
+    /// The first of them.
+    pub first: u64,
+    /// How many they are.
+    pub len: u64,
+    /// Their value.
+    pub value: bool,
+}
+
+/// What is put in the place of the bits of a bitmap.
+#[derive(Debug, Drop)]
+pub enum BitsChange {
+    /// All of them.
+    Whole(BitSet),
+    /// Some of them; of two runs that have one bit the first one holds.
+    Runs(Vec<BitRun>),
+}
+
 /// What is put in the place of parts of a map.
 #[derive(Debug, Drop)]
 pub struct PartsChange {
+    /// The clusters of the file table, and its sizes.
+    pub table: Extents,
     /// Some records; of two with one number the first one holds.
     pub records: Vec<RecordChange>,
-    /// The bits of the records, where these changed.
-    pub record_bits: Option<BitSet>,
-    /// The bits of the clusters, where these changed.
-    pub cluster_bits: Option<BitSet>,
+    /// The bits of the records.
+    pub record_bits: BitsChange,
+    /// The bits of the clusters.
+    pub cluster_bits: BitsChange,
 }
 
 /// What makes a map that of its volume after some changes.

@@ -1,4 +1,4 @@
-//! The records that changes may be of, by their numbers.
+//! The blocks of a stream that changes may be of, by their places.
 ghost use Rattle.std.specs.Prelude.{◌≡◌, ◌++◌, ◌/◌, [], IfOk, OnOk};
 ghost use Rattle.std.specs.List.{cons_option, filter_map, flat_map};
 ghost use Rattle.volume_model.specs.Owners.{covers};
@@ -10,7 +10,7 @@ use state_model::ClusterSize;
 use std::alloc::{AllocError, Global};
 
 // Whether the run has this cluster.
-pub fn covers(cluster: u64, run: &Run) -> bool
+fn covers(cluster: u64, run: &Run) -> bool
     ensures { result ≡ covers cluster run.now }
 {
     match run.lcn {
@@ -19,7 +19,7 @@ pub fn covers(cluster: u64, run: &Run) -> bool
     }
 }
 
-// The record, below so many, that would lie in the block by this run of the file table.
+// The place, below so many of its size, at which a stream would have the block by this run.
 #[tactic(auto, unfolding(crate::specs::Touching::number_at))]
 fn number_at(per: ClusterSize, count: u64, block: Block, run: &Run) -> Option<u64>
     ensures { result ≡ number_at per count block run.now }
@@ -30,7 +30,8 @@ fn number_at(per: ClusterSize, count: u64, block: Block, run: &Run) -> Option<u6
     }
     let lcn = run.lcn?;
     let place = u128::from(run.vcn) * u128::from(per) + u128::from(block.first);
-    let number = place.saturating_sub(u128::from(lcn) * u128::from(per)) / 2;
+    let sectors = place.saturating_sub(u128::from(lcn) * u128::from(per));
+    let number = sectors / block.kind.sectors() as u128;
     if number < u128::from(count) {
         Some(number as u64)
     } else {
@@ -47,7 +48,7 @@ fn push_some(numbers: &mut Vec<u64>, number: Option<u64>) -> Result<(), AllocErr
     Ok(())
 }
 
-// Appends the records that may lie in the block.
+// Appends the places at which a stream with these runs may have the block.
 fn push_block(
     per: ClusterSize,
     count: u64,
@@ -63,39 +64,41 @@ fn push_block(
     Ok(())
 }
 
-// The same of a change's block, where that is of the kind of records.
+// The same of a change's block, where that is of this kind.
 #[tactic(auto, unfolding(crate::specs::Touching::numbers_of))]
 fn push_change(
+    kind: BlockKind,
     per: ClusterSize,
     count: u64,
     runs: &[Run],
     change: &Change,
     numbers: &mut Vec<u64>,
 ) -> Result<(), AllocError>
-    ensures { OnOk result (numbers.new.items ≡ numbers.old.items ++ numbers_of per count runs.now change.now) }
+    ensures { OnOk result (numbers.new.items ≡ numbers.old.items ++ numbers_of kind per count runs.now change.now) }
 {
-    if change.block.kind == BlockKind::FileRec {
+    if change.block.kind == kind {
         push_block(per, count, runs, change.block, numbers)?;
     }
     Ok(())
 }
 
-/// The numbers below a count of the records that changes may be of, by the runs of the file table:
-/// each of these, in the order of the changes, once for each change. It takes time linear in the
-/// changes, for each of them in the runs.
+/// The places below a count, in the size of a block of this kind, at which a stream with these runs
+/// may have the blocks of changes, in the order of these. It takes time linear in the changes, for
+/// each of them in the runs.
 #[tactic(auto, unfolding(crate::specs::Touching::touched_numbers))]
 pub fn touched_numbers(
     alloc: Global,
+    kind: BlockKind,
     per: ClusterSize,
     count: u64,
     runs: &[Run],
     changes: &[Change],
 ) -> Result<Vec<u64>, AllocError>
-    ensures { IfOk result (λ numbers. numbers.items ≡ touched_numbers per count runs.now changes.now) }
+    ensures { IfOk result (λ numbers. numbers.items ≡ touched_numbers kind per count runs.now changes.now) }
 {
     let mut numbers = Vec::new(alloc);
     for change in changes {
-        push_change(per, count, runs, change, &mut numbers)?;
+        push_change(kind, per, count, runs, change, &mut numbers)?;
     }
     Ok(numbers)
 }

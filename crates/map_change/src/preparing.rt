@@ -1,28 +1,108 @@
 //! A change of a map, prepared.
-ghost use Rattle.std.specs.Prelude.{◌≡◌, ◌*◌, ◌^◌, ◌<◌, All, Ok, Some, IfOk, IfSome};
+ghost use Rattle.std.specs.Prelude.{◌≡◌, ◌*◌, ◌^◌, ◌<◌, ◌≤◌, All, Ok, true, IfOk, IfSome, OnOk, vec_capacity};
 ghost use Rattle.std.specs.Option.{option_map};
 ghost use Rattle.host_base.specs.Answers.{GivesOrFails};
-ghost use Rattle.disk_model.specs.Content.{Content as the_content, HasSizes};
+ghost use Rattle.disk_model.specs.declared.block.BlockKind.TheVariants.{FileRec};
+ghost use Rattle.state_model.specs.Streams.{has_cut_block};
+ghost use Rattle.state_model.specs.Loads.{record_count, table_of};
 ghost use Rattle.block_view.specs.Borrowed.{BorrowedView};
 ghost use Rattle.block_view.specs.Changes.{Fits, content_after};
 ghost use Rattle.block_view.specs.Views.{AsksView};
 ghost use Rattle.volume_map.specs.Errors.{map_cause, NeverRefused};
-ghost use Rattle.volume_map.specs.Maps.{volume_in};
 ghost use Rattle.map_change.specs.Parts.{map_of, live_parts, geometry_in};
-ghost use Rattle.map_change.specs.Applying.{applied};
+ghost use Rattle.map_change.specs.Applying.{applied, HasRoomFor, HasRoom};
 ghost use Rattle.map_change.specs.Reading.{AreFound};
-ghost use Rattle.map_change.specs.Preparing.{IsPrepared};
+ghost use Rattle.map_change.specs.Preparing.{IsTable, IsPrepared};
 
 use crate::bits::{changed_cluster_bits, changed_record_bits};
 use crate::change::{MapChange, PartsChange};
+use crate::keeping::{changed_numbers, kept_records};
 use crate::live::LiveMap;
 use crate::loading::load_live;
 use crate::reading::read_records;
-use crate::sparing::{geometry_of, spared_numbers};
 use block_view::{Overlay, View};
-use disk_model::{Body, Change};
-use std::alloc::Global;
-use volume_map::MapFault;
+use disk_model::{BlockKind, Body, Change};
+use host_base::Memory;
+use state_model::{ClusterSize, Extents, Geometry};
+use std::alloc::{AllocError, Global};
+use stream_map::has_cut_block;
+use volume_map::{MapFault, VolumeMap, table_of};
+
+// Where a map's file table is found.
+fn geometry_of(map: &VolumeMap) -> Geometry
+    ensures value { result ≡ geometry_in map.now }
+    ensures place { result.mft * result.per_cluster < 2 ^ 62 }
+{
+    Geometry {
+        per_cluster: map.per_cluster,
+        mft: map.mft,
+    }
+}
+
+// Whether a record of the table lies in two runs.
+fn is_cut(per: ClusterSize, table: &Extents) -> bool
+    ensures { result ≡ has_cut_block per FileRec (record_count table.now) table.now.runs }
+{
+    has_cut_block(
+        per,
+        BlockKind::FileRec,
+        table.real / 1024,
+        table.runs.as_slice(),
+    )
+}
+
+// The extents of the file table in the view, where nothing refuses them and no record lies in two
+// runs.
+fn new_table<V: View>(
+    alloc: Global,
+    map: &VolumeMap,
+    view: &mut V,
+    body: &mut Body,
+) -> Result<Option<Extents>, MapFault>
+    ensures value { IfSome (V.content view.old) (λ d. IfOk result (λ found. IfSome found (IsTable d (geometry_in map.now)))) }
+    ensures kept { AsksView V.content V.kept V.faults map_cause view.old view.new result }
+    ensures certain { NeverRefused result }
+{
+    match table_of(alloc, view, &geometry_of(map), body) {
+        Ok(table) if is_cut(map.per_cluster, &table) => Ok(None),
+        Ok(table) => Ok(Some(table)),
+        Err(MapFault::View) => Err(MapFault::View),
+        Err(MapFault::Memory) => Err(MapFault::Memory),
+        // The load refuses it, too.
+        Err(MapFault::Refused(_)) => Ok(None),
+    }
+}
+
+// What changes put in the place of parts of a map whose file table has these extents in the view,
+// which is the one after the changes; none where a record that is read anew doesn't stand alone.
+fn parts_by<V: View>(
+    alloc: Global,
+    live: &LiveMap,
+    view: &mut V,
+    changes: &[Change],
+    table: Extents,
+    body: &mut Body,
+) -> Result<Option<PartsChange>, MapFault>
+    requires plain { live.now.plain ≡ true }
+    ensures value { IfSome (V.content view.old) (λ d. IfOk result (λ found. IsTable d (geometry_in live.now.map) table → IfSome found (AreFound d (live_parts live.now) (geometry_in live.now.map) changes.now))) }
+    ensures kept { AsksView V.content V.kept V.faults map_cause view.old view.new result }
+    ensures certain { NeverRefused result }
+{
+    let per = live.map.per_cluster;
+    let kept = kept_records(per, &live.map.table, &table);
+    let numbers = changed_numbers(alloc, per, &live.map.table, &table, kept, changes)?;
+    let Some(records) = read_records(alloc, view, per, &table, &numbers, body)? else {
+        return Ok(None);
+    };
+    let record_bits = changed_record_bits(alloc, live, view, &table, &records, changes, body)?;
+    let cluster_bits = changed_cluster_bits(alloc, live, view, &table, &records, changes, body)?;
+    Ok(Some(PartsChange {
+        table,
+        records,
+        record_bits,
+        cluster_bits,
+    }))
+}
 
 // What changes put in the place of parts of a map, where these are all that they change: the view
 // is the one after the changes.
@@ -32,33 +112,18 @@ fn changed_parts<V: View>(
     view: &mut V,
     changes: &[Change],
 ) -> Result<Option<PartsChange>, MapFault>
-    ensures value { IfSome (V.content view.old) (λ d. IfOk result (λ found. IfSome found (AreFound d (volume_in live.now.map) (geometry_in live.now.map) changes.now))) }
+    ensures value { IfSome (V.content view.old) (λ d. IfOk result (λ found. IfSome found (AreFound d (live_parts live.now) (geometry_in live.now.map) changes.now))) }
     ensures kept { AsksView V.content V.kept V.faults map_cause view.old view.new result }
     ensures certain { NeverRefused result }
 {
-    let Some(numbers) = spared_numbers(alloc, live, changes)? else {
+    if !live.plain {
         return Ok(None);
-    };
-    let map = &live.map;
+    }
     let mut body = Body::empty(alloc)?;
-    let read = read_records(
-        alloc,
-        view,
-        map.per_cluster,
-        &map.table,
-        &numbers,
-        &mut body,
-    )?;
-    let Some(records) = read else {
-        return Ok(None);
-    };
-    let record_bits = changed_record_bits(alloc, map, view, changes, &mut body)?;
-    let cluster_bits = changed_cluster_bits(alloc, map, view, changes, &mut body)?;
-    Ok(Some(PartsChange {
-        records,
-        record_bits,
-        cluster_bits,
-    }))
+    match new_table(alloc, &live.map, view, &mut body)? {
+        Some(table) => parts_by(alloc, live, view, changes, table, &mut body),
+        None => Ok(None),
+    }
 }
 
 // The map of the view, for the volume of a map, loaded anew.
@@ -98,29 +163,75 @@ fn overlay<'a, V: View>(view: &'a mut V, changes: &'a [Change]) -> Overlay<'a, V
     Overlay { view, changes }
 }
 
+// Room for so many elements.
+fn reserve<T>(items: &mut Vec<T>, count: usize) -> Result<(), AllocError>
+    ensures items { items.new.items ≡ items.old.items }
+    ensures room { OnOk result (count ≤ vec_capacity items.new) }
+{
+    let more = count.saturating_sub(items.len());
+    items.reserve(more)
+}
+
+// Room in a map for as many records.
+fn reserve_records(live: &mut LiveMap, count: usize) -> Result<(), AllocError>
+    ensures stays { live_parts live.new ≡ live_parts live.old }
+    ensures room { OnOk result (HasRoomFor live.new count) }
+{
+    reserve(&mut live.map.files, count)?;
+    reserve(&mut live.map.heads, count)
+}
+
+// Room in a map for what a change puts there.
+fn make_room(live: &mut LiveMap, change: &MapChange) -> Result<(), AllocError>
+    ensures stays { live_parts live.new ≡ live_parts live.old }
+    ensures room { OnOk result (HasRoom live.new change.now) }
+{
+    match change {
+        MapChange::Anew(_) => Ok(()),
+        MapChange::Parts(parts) => reserve_records(live, (parts.table.real / 1024) as usize),
+    }
+}
+
+// The change, with room for it in the map.
+fn with_room(live: &mut LiveMap, change: MapChange) -> Result<MapChange, AllocError>
+    ensures value { IfOk result (λ ready. ready ≡ change) }
+    ensures stays { live_parts live.new ≡ live_parts live.old }
+    ensures room { IfOk result (HasRoom live.new) }
+{
+    make_room(live, &change)?;
+    Ok(change)
+}
+
 /// What makes a map that of its view after a list of changes, if it is that of the view now; the
-/// map stays as it is. All memory that [`apply`](crate::apply) would need is taken here.
+/// map stays as it is. All memory that [`apply`](crate::apply) needs is taken here, also room in
+/// the map's own lists where it gets more records.
 ///
 /// - [`MapFault::Refused`]: the first refusal of a load of the view after the changes.
 /// - [`MapFault::View`]: the view failed.
 /// - [`MapFault::Memory`]: want of memory.
 ///
-/// It reads each changed record once, and a bitmap of which a sector is changed, and takes time and
-/// memory linear in the changes, in these records and in the bits of that bitmap, and for each
-/// change in the runs of the file table and of the bitmaps. The map is loaded anew, at the cost of
-/// a load, where a file has an attribute list or gets one, where a changed record is refused by
-/// itself or has an index block in two runs, and where a change is of record 0 or 6.
+/// It reads record 0, each changed record and each changed sector of a bitmap once, and takes time
+/// and memory linear in these and in the changes, and for each of them in the runs of the file
+/// table or of the bitmap. Where record 0 gives the table other clusters or sizes, it reads all
+/// records behind those that keep their places: where runs are only added, those that are new. It
+/// reads a bitmap whole where its clusters or sizes change, and that of the records where their
+/// count does. The map is loaded anew, at the cost of a load, where a file has an attribute list or
+/// gets one, and where a record that is read is refused by itself or has an index block in two
+/// runs.
 pub fn prepare<V: View>(
     alloc: Global,
-    live: &LiveMap,
+    live: &mut LiveMap,
     view: &mut V,
     changes: &[Change],
 ) -> Result<MapChange, MapFault>
     requires fits { All Fits changes.now }
-    ensures answer { IfSome (V.content view.old) (λ c. map_of c (geometry_in live.now.map) live.now.map.clusters ≡ Ok (live_parts live.now)
-        → GivesOrFails (λ change. applied change (live_parts live.now)) map_cause result (map_of (content_after changes.now c) (geometry_in live.now.map) live.now.map.clusters)) }
+    ensures answer { IfSome (V.content view.old) (λ c. map_of c (geometry_in live.old.map) live.old.map.clusters ≡ Ok (live_parts live.old)
+        → GivesOrFails (λ change. applied change (live_parts live.old)) map_cause result (map_of (content_after changes.now c) (geometry_in live.old.map) live.old.map.clusters)) }
+    ensures stays { live_parts live.new ≡ live_parts live.old }
+    ensures room { IfOk result (HasRoom live.new) }
     ensures kept { AsksView V.content V.kept V.faults map_cause view.old view.new result }
 {
     let mut after = overlay(view, changes);
-    prepare_over(alloc, live, &mut after, changes)
+    let change = prepare_over(alloc, live, &mut after, changes)?;
+    Ok(with_room(live, change)?)
 }

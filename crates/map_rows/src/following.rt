@@ -4,7 +4,7 @@ ghost use Rattle.std.specs.Prelude.{◌≡◌};
 use crate::disks::Disk;
 use crate::layouts::Layout;
 use crate::seeds::Seed;
-use crate::steps::{Step, any_block, any_step, first_step};
+use crate::steps::{FRONT_RUNS, Step, USUAL_RUNS, any_block, any_step, first_step, table_step};
 use bit_set::BitSet;
 use file_record::FileRec;
 use map_change::{LiveMap, MapChange, MapFault, MapRefusal, VolumeMap, apply, load_live, prepare};
@@ -106,6 +106,28 @@ fn count(counter: &mut u32) {
     *counter = counter.saturating_add(1);
 }
 
+// How a map came to follow its volume.
+#[derive(Clone, Copy)]
+enum Way {
+    Parts,
+    Load,
+}
+
+fn way_of(change: &MapChange) -> Way {
+    match change {
+        MapChange::Parts(_) => Way::Parts,
+        MapChange::Anew(_) => Way::Load,
+    }
+}
+
+// Changes are prepared and put in place.
+fn put(alloc: Global, live: &mut LiveMap, disk: &mut Disk, step: &Step) -> Result<Way, MapFault> {
+    let change = prepare(alloc, live, disk, &step.changes)?;
+    let way = way_of(&change);
+    apply(live, change);
+    Ok(way)
+}
+
 impl Followed {
     // A block is torn, where the map stays as it is.
     fn tear(&mut self, alloc: Global, seed: &mut Seed) -> Result<(), Fail> {
@@ -121,13 +143,12 @@ impl Followed {
         Ok(())
     }
 
-    // What was prepared is put in place.
-    fn put(&mut self, change: MapChange, after: Disk, fresh: &LiveMap) {
-        match change {
-            MapChange::Parts(_) => count(&mut self.counts.parts),
-            MapChange::Anew(_) => count(&mut self.counts.loads),
+    // What was put in place is beside what a load gives.
+    fn compare(&mut self, way: Way, after: Disk, fresh: &LiveMap) {
+        match way {
+            Way::Parts => count(&mut self.counts.parts),
+            Way::Load => count(&mut self.counts.loads),
         }
-        apply(&mut self.live, change);
         self.disk = after;
         if !same_map(&self.live.map, &fresh.map) {
             count(&mut self.counts.other);
@@ -139,12 +160,12 @@ impl Followed {
         let mut after = self.disk.copy(alloc)?;
         after.put_all(alloc, &step.changes)?;
         let layout = self.layout;
-        let prepared = prepare(alloc, &self.live, &mut self.disk, &step.changes);
+        let put = put(alloc, &mut self.live, &mut self.disk, step);
         let fresh = load_live(alloc, &mut after, &layout.geometry(), layout.count());
         let refusal = refusal_of(&fresh);
-        match prepared {
-            Ok(change) => match fresh {
-                Ok(fresh) => self.put(change, after, &fresh),
+        match put {
+            Ok(way) => match fresh {
+                Ok(fresh) => self.compare(way, after, &fresh),
                 Err(_) => count(&mut self.counts.other),
             },
             Err(MapFault::Refused(fault)) if refusal == Some(fault) => {
@@ -169,34 +190,135 @@ fn counts_of(alloc: Global, layout: Layout, state: u64, steps: u16) -> Result<Co
     Ok(followed.counts)
 }
 
-// The sectors of a cluster, whether files may get attribute lists, a seed, and how many of 2,000
-// steps come at least to changes of parts, to loads and to refusals.
-struct Row(u8, bool, u64, (u32, u32, u32));
+// A run of steps, and how many of them come at least to each kind.
+struct Row {
+    // The sectors of a cluster.
+    per: u8,
+    // Whether files may get attribute lists.
+    lists: bool,
+    seed: u64,
+    steps: u16,
+    parts: u32,
+    loads: u32,
+    refused: u32,
+}
 
 static ROWS: [Row; 4] = [
-    Row(1, false, 1, (500, 100, 100)),
-    Row(8, false, 2, (500, 100, 100)),
-    Row(1, true, 3, (500, 100, 100)),
-    Row(8, true, 4, (500, 100, 100)),
+    Row {
+        per: 1,
+        lists: false,
+        seed: 1,
+        steps: 2000,
+        parts: 1500,
+        loads: 0,
+        refused: 100,
+    },
+    Row {
+        per: 8,
+        lists: false,
+        seed: 2,
+        steps: 2000,
+        parts: 1500,
+        loads: 0,
+        refused: 100,
+    },
+    Row {
+        per: 1,
+        lists: true,
+        seed: 3,
+        steps: 2000,
+        parts: 300,
+        loads: 100,
+        refused: 100,
+    },
+    Row {
+        per: 8,
+        lists: true,
+        seed: 4,
+        steps: 2000,
+        parts: 300,
+        loads: 100,
+        refused: 100,
+    },
 ];
 
 // Whether all steps came to what a load gives, and enough of them to each kind.
-fn are_followed(counts: Counts, least: (u32, u32, u32)) -> bool {
+fn are_followed(counts: Counts, row: &Row) -> bool {
     counts.other == 0
-        && least.0 <= counts.parts
-        && least.1 <= counts.loads
-        && least.2 <= counts.refused
+        && row.parts <= counts.parts
+        && row.loads <= counts.loads
+        && row.refused <= counts.refused
 }
 
 #[test]
 fn a_map_follows_its_volume(rt: HostRuntime) -> Result<(), Fail> {
     for row in &ROWS {
         let layout = Layout {
-            per: row.0,
-            lists: row.1,
+            per: row.per,
+            lists: row.lists,
         };
-        let counts = counts_of(rt.alloc(), layout, row.2, 2000)?;
-        assert!(rt; are_followed(counts, row.3), "seed {}: {counts:?}", row.2);
+        let counts = counts_of(rt.alloc(), layout, row.seed, row.steps)?;
+        assert!(rt; are_followed(counts, row), "seed {}: {counts:?}", row.seed);
+    }
+    Ok(())
+}
+
+// How many records a table has, and in which runs.
+struct Table {
+    records: u16,
+    runs: u16,
+}
+
+static TABLES: [Table; 7] = [
+    Table {
+        records: 28,
+        runs: USUAL_RUNS,
+    },
+    Table {
+        records: 28,
+        runs: FRONT_RUNS,
+    },
+    Table {
+        records: 32,
+        runs: FRONT_RUNS,
+    },
+    Table {
+        records: 36,
+        runs: USUAL_RUNS,
+    },
+    Table {
+        records: 48,
+        runs: USUAL_RUNS,
+    },
+    Table {
+        records: 20,
+        runs: FRONT_RUNS,
+    },
+    Table {
+        records: 40,
+        runs: USUAL_RUNS,
+    },
+];
+
+fn table_counts(alloc: Global, layout: Layout) -> Result<Counts, Fail> {
+    let mut followed = begin(alloc, layout)?;
+    for table in &TABLES {
+        let step = table_step(alloc, layout, table.records, table.runs)?;
+        followed.follow(alloc, &step)?;
+    }
+    Ok(followed.counts)
+}
+
+// A table that gets more records and runs, and fewer, is followed without a load.
+#[test]
+fn a_table_that_grows_is_followed(rt: HostRuntime) -> Result<(), Fail> {
+    for per in [1, 8] {
+        let layout = Layout { per, lists: false };
+        let counts = table_counts(rt.alloc(), layout)?;
+        assert!(rt;
+            counts.parts == 7 && counts.other == 0,
+            "per {per}: {counts:?}"
+        );
     }
     Ok(())
 }

@@ -62,9 +62,22 @@ impl Step {
     }
 }
 
-// The records of a table, how many of them lie before its initialised size, and its runs.
+// What record 0 says of the table.
 #[derive(Drop)]
-struct Shape(u16, u16, u16);
+struct Shape {
+    // How many records the table has.
+    records: u16,
+    // How many of them lie before its initialised size.
+    initialised: u16,
+    // Its runs, by their number.
+    runs: u16,
+}
+
+/// The number of the runs that a table has most often: room for 32 records, and for 16 behind them.
+pub const USUAL_RUNS: u16 = 9;
+
+/// The number of runs with a hole behind the room for 32 records.
+pub const FRONT_RUNS: u16 = 1;
 
 // Runs of the file table by a number: its first place, that with more behind, less of it with more
 // behind, with a hole behind, the second place alone, and one cluster less in front of more.
@@ -97,7 +110,7 @@ fn table_record(
         flags: 1,
         base: 0,
     };
-    let runs = runs_by(layout, shape.2);
+    let runs = runs_by(layout, shape.runs);
     let mut file = bare(alloc, named);
     file.push(in_clusters(
         alloc,
@@ -107,8 +120,8 @@ fn table_record(
             name: &[],
             runs: &runs,
             sizes: (
-                u64::from(shape.0).saturating_mul(1024),
-                u64::from(shape.1).saturating_mul(1024),
+                u64::from(shape.records).saturating_mul(1024),
+                u64::from(shape.initialised).saturating_mul(1024),
             ),
         },
     )?)?;
@@ -159,7 +172,12 @@ fn bitmap_record(
 /// The volume as it begins: record 0 with 24 records, the bitmaps, and some files.
 pub fn first_step(alloc: Global, layout: Layout) -> Result<Step, AllocError> {
     let mut step = Step::empty(alloc);
-    let table = table_record(alloc, layout, &Shape(24, 24, 9), None)?;
+    let shape = Shape {
+        records: 24,
+        initialised: 24,
+        runs: USUAL_RUNS,
+    };
+    let table = table_record(alloc, layout, &shape, None)?;
     step.put_record(alloc, 0, &table)?;
     step.put_record(alloc, 6, &bitmap_record(alloc, layout, 0, 40)?)?;
     for number in 8..20u16 {
@@ -172,6 +190,31 @@ pub fn first_step(alloc: Global, layout: Layout) -> Result<Step, AllocError> {
     }
     step.put(alloc, sector_block(MARKS_PIECE), 0, &[0x7f, 0xff, 0x0f])?;
     step.put(alloc, sector_block(BITMAP_PIECE), 0, &[0xff, 0x0f])?;
+    Ok(step)
+}
+
+/// Record 0 with so many records in these runs, and the last of them with a file.
+pub fn table_step(
+    alloc: Global,
+    layout: Layout,
+    records: u16,
+    runs: u16,
+) -> Result<Step, AllocError> {
+    let mut step = Step::empty(alloc);
+    let shape = Shape {
+        records,
+        initialised: records,
+        runs,
+    };
+    let named = Named {
+        number: records.saturating_sub(1),
+        flags: 1,
+        base: 0,
+    };
+    let table = table_record(alloc, layout, &shape, None)?;
+    step.put_record(alloc, 0, &table)?;
+    step.put_record(alloc, named.number, &with_data(alloc, named, &[6])?)?;
+    step.put(alloc, sector_block(MARKS_PIECE), 3, &[0xff, 0x80])?;
     Ok(step)
 }
 
@@ -213,9 +256,15 @@ fn change_table(
 ) -> Result<(), AllocError> {
     let count = any_count(seed);
     let less = if seed.is_one_of(6) { seed.below(8) } else { 0 };
-    let way = if seed.is_one_of(3) { seed.below(6) } else { 9 };
-    let real = if seed.is_one_of(24) { u16::MAX } else { count };
-    let shape = Shape(real, count.saturating_sub(less), way);
+    let shape = Shape {
+        records: if seed.is_one_of(24) { u16::MAX } else { count },
+        initialised: count.saturating_sub(less),
+        runs: if seed.is_one_of(3) {
+            seed.below(6)
+        } else {
+            USUAL_RUNS
+        },
+    };
     let bytes = any_bytes(seed);
     let marks = if seed.is_one_of(2) {
         Some(bytes.as_slice())
