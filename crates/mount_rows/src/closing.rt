@@ -15,10 +15,8 @@ use txn_close::{CloseFault, close};
 /// So many images are tried by a seed behind a close.
 const IMAGES: u64 = 5;
 
-/// The commits of a store that is closed, and fewer of them.
+/// The commits of a store that is closed.
 const COMMITS: u64 = 100;
-
-const FEW: u64 = 20;
 
 /// Makes so many commits, each of which brings the next byte into a sector, and goes on behind each
 /// eighth but the last ones; whether all went well.
@@ -166,7 +164,7 @@ fn a_close_leaves_a_clean_log(rt: HostRuntime) -> Result<(), Fail> {
 
 /// Whether a close of which this call fails answers so, and each image recovers.
 fn fails_well(alloc: Global, call: u64, tearing: usize) -> Result<bool, RecoveryFault> {
-    let Some(it) = close_behind(alloc, FEW, &[call], tearing)? else {
+    let Some(it) = close_behind(alloc, COMMITS, &[call], tearing)? else {
         return Ok(false);
     };
     Ok(it.result == Err(CloseFault::Fault) && are_left(alloc, &it.device, it.durable, it.commits)?)
@@ -175,7 +173,7 @@ fn fails_well(alloc: Global, call: u64, tearing: usize) -> Result<bool, Recovery
 /// The first call of a close whose failure isn't answered, or leaves an image that doesn't recover;
 /// none where there is none; the error is that nothing is closed.
 fn first_lost(alloc: Global, tearing: usize) -> Result<Result<Option<u64>, ()>, RecoveryFault> {
-    let Some(whole) = close_behind(alloc, FEW, &[], 0)? else {
+    let Some(whole) = close_behind(alloc, COMMITS, &[], 0)? else {
         return Ok(Err(()));
     };
     for call in whole.calls.saturating_add(1)..=whole.device.calls {
