@@ -227,8 +227,8 @@ static ROWS: [Row; 4] = [
         lists: true,
         seed: 3,
         steps: 2000,
-        parts: 300,
-        loads: 100,
+        parts: 1400,
+        loads: 20,
         refused: 100,
     },
     Row {
@@ -236,8 +236,8 @@ static ROWS: [Row; 4] = [
         lists: true,
         seed: 4,
         steps: 2000,
-        parts: 300,
-        loads: 100,
+        parts: 1400,
+        loads: 20,
         refused: 100,
     },
 ];
