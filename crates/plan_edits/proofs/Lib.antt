@@ -1,3 +1,4 @@
 pub mod Reading
 pub mod Putting
 pub mod Editing
+pub mod Bitmap

@@ -282,6 +282,9 @@ content_goes c bodies old new sized old_is new_is whole same =
     sym (contents_put c (bodies_of old) bodies sized were whole)
     ∙ sym (same_content c (bodies_of new) (put_bodies bodies (bodies_of old)) sized (are_bodies new new_is.rises new_is.whole) (both_are (bodies_of old) bodies were whole) same)
 
+kept_same : (bodies more : List NewBody) (old new : List Touched) → AreBodies more → PutSame (bodies_of old) bodies → PutSame (bodies_of new) (put_bodies more (bodies_of old)) → PutSame (bodies_of new) (put_bodies more bodies)
+kept_same bodies more old new are before behind b = behind b ∙ found_in (bodies_of old) more b are ∙ ap (option_or (body_in more b)) (before b) ∙ sym (found_in bodies more b are)
+
 pub drafts_put : DraftsPutBlocks
 drafts_put = record {
   bytes = λ c per runs fresh at bytes old sized kept. (bytes_go c per runs fresh at bytes old sized kept).blocks;
@@ -289,4 +292,5 @@ drafts_put = record {
   resized = resized_goes;
   joined = joined_same;
   content = content_goes;
+  kept = kept_same;
 }

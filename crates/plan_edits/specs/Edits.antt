@@ -21,6 +21,7 @@ use Rattle.plan_draft.specs.declared.touched.Touched.{Touched}
 use Rattle.plan_draft.specs.Touching.{bodies_of}
 use Rattle.plan_draft.specs.Drafts.{drafted}
 use Rattle.plan_draft.specs.Same.{PutSame}
+use Rattle.draft_streams.specs.Effects.{HasOwnSectors}
 use Rattle.draft_bits.specs.Effects.{stream_bit}
 use Rattle.draft_records.specs.Records.{record_block, written_record}
 use Rattle.resized_streams.specs.declared.resized.Resized.{Resized}
@@ -44,6 +45,11 @@ pub record HasBitmap (v : Volume) (bitmap : Extents) : Type 0 where
   pub lawful : bitmap.initialised ≤ bitmap.real
   pub below : v.clusters ≤ 8 * bitmap.initialised
   pub lies : (s : ℕ) → 512 * s < bitmap.initialised → is_some (block_at v.per bitmap.runs Plain s) ≡ true
+
+-- In a state no two sectors of $Bitmap's data share a block; and where each cluster has a bit below the initialised size, the bits stand so.
+pub record StateHasBitmap : Type 0 where
+  pub own : (c : Content) (g : Geometry) (clusters : ℕ) (v : Volume) (bitmap : Extents) → Stands c g clusters v → stream_at v bitmap_key ≡ Some (Placed bitmap) → HasOwnSectors v.per bitmap.runs
+  pub bits : (c : Content) (g : Geometry) (clusters : ℕ) (v : Volume) (bitmap : Extents) → g.per_cluster ≡ 8 → Stands c g clusters v → stream_at v bitmap_key ≡ Some (Placed bitmap) → HasSpelling 0 bitmap.runs → v.clusters ≤ 8 * bitmap.initialised → HasBitmap v bitmap
 
 -- A file of a volume is put into a draft, of which the bitmap, the file table and its mirror are these.
 pub record PutsOfVolume (c : Content) (v : Volume) (bitmap mirror : Extents) (n : ℕ) (z : Resized) (old new : List Touched) : Type 0 where

@@ -49,7 +49,8 @@ IsMirrored per table mirror n b = IsRecordOf per table n b ⊎ ((has_mirror mirr
 -- ---- the law
 
 -- Bytes that are put into a stream are such an edit; so is a record that is put, and a file with the bits of its clusters. Edits one behind
--- the other are one, and the content with the bodies over the draft before is that of the draft behind them.
+-- the other are one, the content with the bodies over the draft before is that of the draft behind them, and the list of a plan that put
+-- the same before puts the same with them.
 pub record DraftsPutBlocks : Type 0 where
   pub bytes : (c : Content) (per : ℕ) (runs : List Run) (fresh at : ℕ) (bytes : List ℕ) (old : List Touched) → HasSizes c → IsKept old → PutsBlocks (IsSectorOf per runs) (IsSectorWith per runs at (length bytes)) old (touch_bytes c per runs fresh at bytes old)
   pub file : (c : Content) (per : ℕ) (table mirror : Extents) (n : ℕ) (bytes : List ℕ) (old : List Touched) → HasSizes c → IsKept old → length bytes ≡ 1024 → PutsBlocks (IsMirrored per table mirror n) (IsMirrored per table mirror n) old (touch_record c per table mirror n bytes old)
@@ -58,3 +59,4 @@ pub record DraftsPutBlocks : Type 0 where
   pub joined : (first second : List NewBody) (old mid new : List Touched) → AreBodies first → AreBodies second → PutSame (bodies_of mid) (put_bodies first (bodies_of old)) → PutSame (bodies_of new) (put_bodies second (bodies_of mid))
       → PutSame (bodies_of new) (put_bodies (put_bodies second first) (bodies_of old))
   pub content : (c : Content) (bodies : List NewBody) (old new : List Touched) → HasSizes c → IsKept old → IsKept new → AreBodies bodies → PutSame (bodies_of new) (put_bodies bodies (bodies_of old)) → content_with (drafted old c) bodies ≡ drafted new c
+  pub kept : (bodies more : List NewBody) (old new : List Touched) → AreBodies more → PutSame (bodies_of old) bodies → PutSame (bodies_of new) (put_bodies more (bodies_of old)) → PutSame (bodies_of new) (put_bodies more bodies)

@@ -1,5 +1,5 @@
 //! The laws of these definitions.
-ghost use Rattle.plan_edits.specs.Edits.{ResizedIsEdit};
+ghost use Rattle.plan_edits.specs.Edits.{ResizedIsEdit, StateHasBitmap};
 ghost use Rattle.plan_edits.specs.Puts.{DraftsPutBlocks};
 ghost use Rattle.plan_edits.specs.Written.{WrittenIsRead};
 
@@ -17,4 +17,9 @@ pub fn drafts_put_blocks()
 /// that leads from a state to a state.
 pub fn resized_is_edit()
     ensures { ResizedIsEdit }
+{}
+
+/// Law: what a state says of the bitmap of clusters, for what is put into it.
+pub fn state_has_bitmap()
+    ensures { StateHasBitmap }
 {}

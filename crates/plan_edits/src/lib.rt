@@ -7,4 +7,4 @@
 
 mod laws;
 
-pub use laws::{drafts_put_blocks, resized_is_edit, written_is_read};
+pub use laws::{drafts_put_blocks, resized_is_edit, state_has_bitmap, written_is_read};
