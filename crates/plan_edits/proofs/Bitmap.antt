@@ -37,7 +37,7 @@ use Rattle.plan_edits.specs.Edits.{bitmap_key, HasBitmap, StateHasBitmap}
 
 -- ---- sectors in clusters that lie once
 
-shares_itself : (a b : Block) → same_block a b ≡ true → overlap a b ≡ true
+pub shares_itself : (a b : Block) → same_block a b ≡ true → overlap a b ≡ true
 shares_itself a b same =
     let some = has_sectors a.kind in
     ap (overlap a) (sym (same_block-is a b same)) ∙ and_from (ltb a.first (a.first + sectors a.kind)) (ltb a.first (a.first + sectors a.kind)) (lt-ltb a.first (a.first + sectors a.kind) (omega (arith, some))) (lt-ltb a.first (a.first + sectors a.kind) (omega (arith, some)))

@@ -66,7 +66,7 @@ bit_in c per e o x is within =
     ap (λ (s : Option Stream). byte_bit (bytes_or c per s) x) is
     ∙ ap (λ (y : ℕ). is_one y (x % 8)) (get_or-map-range_with_len (byte_at c per e) 0 e.real (x / 8) (x / 8) 0 within (omega arith))
 
-bit_is : (c : Content) (v : Volume) (bitmap : Extents) (x : ℕ) → HasBitmap v bitmap → x < v.clusters → bit (cluster_bits c v) x ≡ stream_bit c v.per bitmap x
+pub bit_is : (c : Content) (v : Volume) (bitmap : Extents) (x : ℕ) → HasBitmap v bitmap → x < v.clusters → bit (cluster_bits c v) x ≡ stream_bit c v.per bitmap x
 bit_is c v bitmap x has low =
     let below = has.below in
     let lawful = has.lawful in
@@ -108,7 +108,7 @@ module _ (c : Content) (v : Volume) (bitmap mirror : Extents) (n : ℕ) (z : Res
     lies = ap₂ (λ (runs : List Run) (kind : BlockKind). block_at v.per runs kind n) (same_runs (stream_at v mirror_key) mirror is.mirror_is) mirror_kind ∙ lies;
   }
 
-  in_bitmap : (b : Block) → IsSectorOf v.per bitmap.runs b → IsOwnedIn marks_streams v b
+  pub in_bitmap : (b : Block) → IsSectorOf v.per bitmap.runs b → IsOwnedIn marks_streams v b
   in_bitmap b lies = record {
     stream = bitmap_key;
     chosen = refl;
@@ -189,7 +189,7 @@ module _ (c : Content) (v : Volume) (bitmap mirror : Extents) (n : ℕ) (z : Res
       ∙ stream_marked x low
       ∙ ap (is_marked z x) (sym (bit_is d v bitmap x is.bits low))
 
-  edit_is : IsInUse z.file → is_some (record_block v.per v.table n) ≡ true → IsEdit c v n z old new
+  pub edit_is : IsInUse z.file → is_some (record_block v.per v.table n) ≡ true → IsEdit c v n z old new
   edit_is used some = record {
     bodies = puts.bodies;
     same = puts.same;
@@ -208,13 +208,21 @@ not_free : (t : Bool) (x : Slot) (r : Record) → cond t Free x ≡ Used r → x
 not_free true x r is = absurd cc
 not_free false x r is = is
 
-used_block : (c : Content) (per : ℕ) (e : Extents) (n : ℕ) (r : Record) → table_slot c per e n ≡ Used r → is_some (record_block per e n) ≡ true
+pub used_block : (c : Content) (per : ℕ) (e : Extents) (n : ℕ) (r : Record) → table_slot c per e n ≡ Used r → is_some (record_block per e n) ≡ true
 unfolding table_slot
 used_block c per e n r is = has_block c (record_block per e n) r (not_free (leb e.initialised (1024 * n)) (slot_at c (record_block per e n)) r is)
 
 uses-none : (x : ℕ) → uses [] x ≡ 0
 unfolding uses
 uses-none x = refl
+
+pub only_came : (z : Resized) (more : List Run) (x : ℕ) (was : Bool) → z.taken.items ≡ more → z.freed.items ≡ [] → is_marked z x was ≡ (leb 1 (uses more x) || was)
+only_came z more x was came none =
+    ap₂ (λ (freed taken : List Run). not (leb 1 (uses freed x)) && (leb 1 (uses taken x) || was)) none came ∙ ap (λ (k : ℕ). not (leb 1 k) && (leb 1 (uses more x) || was)) (uses-none x)
+
+only_went : (z : Resized) (x : ℕ) (was : Bool) → z.taken.items ≡ [] → is_marked z x was ≡ (not (leb 1 (uses z.freed.items x)) && was)
+only_went z x was none =
+    ap (λ (taken : List Run). not (leb 1 (uses z.freed.items x)) && (leb 1 (uses taken x) || was)) none ∙ ap (λ (k : ℕ). not (leb 1 (uses z.freed.items x)) && (leb 1 k || was)) (uses-none x)
 
 module _ (c : Content) (g : Geometry) (clusters : ℕ) (v : Volume) (bitmap mirror : Extents) (n kind : ℕ) (name : List ℕ) (e : Extents) (r : Record) (z : Resized) (old new : List Touched)
     (state : Stands (drafted old c) g clusters v) (own : IsOwnStream v n kind name r (Placed e)) (spelled : HasSpelling 0 e.runs) (is : PutsOfVolume c v bitmap mirror n z old new) where
@@ -226,16 +234,6 @@ module _ (c : Content) (g : Geometry) (clusters : ℕ) (v : Volume) (bitmap mirr
       edit_is c v bitmap mirror n z old new is
       (subst IsInUse (sym file) (written_read.placed v.per kind name f r follow (written_read.used (drafted old c) v.per v.table n r slot)))
       (used_block (drafted old c) v.per v.table n r slot)
-
-  only_came : (more : List Run) (x : ℕ) (was : Bool) → z.taken.items ≡ more → z.freed.items ≡ [] → is_marked z x was ≡ (leb 1 (uses more x) || was)
-  only_came more x was came none =
-      ap₂ (λ (freed taken : List Run). not (leb 1 (uses freed x)) && (leb 1 (uses taken x) || was)) none came
-      ∙ ap (λ (k : ℕ). not (leb 1 k) && (leb 1 (uses more x) || was)) (uses-none x)
-
-  only_went : (x : ℕ) (was : Bool) → z.taken.items ≡ [] → is_marked z x was ≡ (not (leb 1 (uses z.freed.items x)) && was)
-  only_went x was none =
-      ap (λ (taken : List Run). not (leb 1 (uses z.freed.items x)) && (leb 1 (uses taken x) || was)) none
-      ∙ ap (λ (k : ℕ). not (leb 1 (uses z.freed.items x)) && (leb 1 k || was)) (uses-none x)
 
   grown_is : (more : List Run) → IsGrown v.per kind name e r more z → MayTake v.clusters (cluster_bits (drafted old c) v) more → total_clusters e.runs + total_clusters more ≤ cluster_limit
       → (edit : IsEdit c v n z old new) × GrowsStream (drafted old c) v n kind name e r more z (written_record z.file) edit.bodies
@@ -250,7 +248,7 @@ module _ (c : Content) (g : Geometry) (clusters : ℕ) (v : Volume) (bitmap mirr
           room = room;
           written = written_read.written z.file;
           puts = edit.puts;
-          marked = λ x low. edit.marked x low ∙ only_came more x (bit (cluster_bits (drafted old c) v) x) grown.taken grown.freed;
+          marked = λ x low. edit.marked x low ∙ only_came z more x (bit (cluster_bits (drafted old c) v) x) grown.taken grown.freed;
         },
       )
 
@@ -266,7 +264,7 @@ module _ (c : Content) (g : Geometry) (clusters : ℕ) (v : Volume) (bitmap mirr
           less = less;
           written = written_read.written z.file;
           puts = edit.puts;
-          marked = λ x low. edit.marked x low ∙ only_went x (bit (cluster_bits (drafted old c) v) x) cut.taken;
+          marked = λ x low. edit.marked x low ∙ only_went z x (bit (cluster_bits (drafted old c) v) x) cut.taken;
         },
       )
 

@@ -2,3 +2,4 @@ pub mod Reading
 pub mod Putting
 pub mod Editing
 pub mod Bitmap
+pub mod Moving

@@ -71,17 +71,17 @@ or_again : (x y z : Option (List ℕ)) → option_or x (option_or y z) ≡ optio
 or_again None y z = refl
 or_again (Some bytes) y z = refl
 
-left_put : (x y : Option (List ℕ)) (bytes : List ℕ) → y ≡ Some bytes → (all : List ℕ) × (option_or x y ≡ Some all)
+pub left_put : (x y : Option (List ℕ)) (bytes : List ℕ) → y ≡ Some bytes → (all : List ℕ) × (option_or x y ≡ Some all)
 left_put None y bytes is = (bytes, is)
 left_put (Some all) y bytes is = (all, refl)
 
 right_put : (x y : Option (List ℕ)) (bytes : List ℕ) → x ≡ Some bytes → option_or x y ≡ Some bytes
 right_put x y bytes is = ap (λ (o : Option (List ℕ)). option_or o y) is
 
-found_in : (first second : List NewBody) (b : Block) → AreBodies second → body_in (put_bodies second first) b ≡ option_or (body_in second b) (body_in first b)
+pub found_in : (first second : List NewBody) (b : Block) → AreBodies second → body_in (put_bodies second first) b ≡ option_or (body_in second b) (body_in first b)
 found_in first second b are = either first second b are.own
 
-joined_same : (first second : List NewBody) (old mid new : List Touched) → AreBodies first → AreBodies second → PutSame (bodies_of mid) (put_bodies first (bodies_of old)) → PutSame (bodies_of new) (put_bodies second (bodies_of mid))
+pub joined_same : (first second : List NewBody) (old mid new : List Touched) → AreBodies first → AreBodies second → PutSame (bodies_of mid) (put_bodies first (bodies_of old)) → PutSame (bodies_of new) (put_bodies second (bodies_of mid))
     → PutSame (bodies_of new) (put_bodies (put_bodies second first) (bodies_of old))
 joined_same first second old mid new are_first are_second before behind b =
     behind b
@@ -109,7 +109,7 @@ one_behind among first second old mid new f s = record {
         let there = s.put b two in
         (there.0, found_in f.bodies s.bodies b s.whole ∙ right_put (body_in s.bodies b) (body_in f.bodies b) there.0 there.1)
 
-each_turned : (among more : Block → Type 0) (bodies : List NewBody) → ((b : Block) → among b → more b) → AllByRecursion (λ p. among p.block) bodies → AllByRecursion (λ p. more p.block) bodies
+pub each_turned : (among more : Block → Type 0) (bodies : List NewBody) → ((b : Block) → among b → more b) → AllByRecursion (λ p. among p.block) bodies → AllByRecursion (λ p. more p.block) bodies
 each_turned among more [] turn all = tt
 each_turned among more (w ∷ bodies) turn all = (turn w.block all.0, each_turned among more bodies turn all.1)
 
@@ -124,9 +124,9 @@ turned among more puts fewer old new turn less is = record {
 
 -- ---- an edit that keeps whole bodies in order
 
-record Goes (among puts : Block → Type 0) (old new : List Touched) : Type 0 where
-  blocks : PutsBlocks among puts old new
-  kept : IsKept new
+pub record Goes (among puts : Block → Type 0) (old new : List Touched) : Type 0 where
+  pub blocks : PutsBlocks among puts old new
+  pub kept : IsKept new
 
 goes_behind : (among first second puts : Block → Type 0) (old mid new : List Touched) → ((b : Block) → puts b → first b ⊎ second b) → Goes among first old mid → Goes among second mid new → Goes among puts old new
 goes_behind among first second puts old mid new which f s = record {
@@ -186,7 +186,7 @@ module _ (c : Content) (per : ℕ) (runs : List Run) (fresh at : ℕ) (bytes : L
       before
       (sector_goes c (IsSectorOf per runs) (block_at per runs Plain (first + n)) (nat_le fresh (first + n)) (offset_in at (first + n)) (bytes_in at (first + n) bytes) mid sized (λ b is. (first + n, is)) before.kept)
 
-  bytes_go : Goes (IsSectorOf per runs) (IsSectorWith per runs at (length bytes)) old (touch_bytes c per runs fresh at bytes old)
+  pub bytes_go : Goes (IsSectorOf per runs) (IsSectorWith per runs at (length bytes)) old (touch_bytes c per runs fresh at bytes old)
   bytes_go = sectors_go (first_sector at) (sector_count at (length bytes))
 
 -- ---- bits of clusters

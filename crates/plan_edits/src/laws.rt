@@ -1,5 +1,6 @@
 //! The laws of these definitions.
 ghost use Rattle.plan_edits.specs.Edits.{ResizedIsEdit, StateHasBitmap};
+ghost use Rattle.plan_edits.specs.Moves.{MovedIsEdit};
 ghost use Rattle.plan_edits.specs.Puts.{DraftsPutBlocks};
 ghost use Rattle.plan_edits.specs.Written.{WrittenIsRead};
 
@@ -22,4 +23,10 @@ pub fn resized_is_edit()
 /// Law: what a state says of the bitmap of clusters, for what is put into it.
 pub fn state_has_bitmap()
     ensures { StateHasBitmap }
+{}
+
+/// Law: a value that a draft has put, which left its record for clusters, is the edit of a plan that
+/// leads from a state to a state.
+pub fn moved_is_edit()
+    ensures { MovedIsEdit }
 {}

@@ -7,4 +7,6 @@
 
 mod laws;
 
-pub use laws::{drafts_put_blocks, resized_is_edit, state_has_bitmap, written_is_read};
+pub use laws::{
+    drafts_put_blocks, moved_is_edit, resized_is_edit, state_has_bitmap, written_is_read,
+};
