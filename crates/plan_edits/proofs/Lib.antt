@@ -1,0 +1,5 @@
+pub mod Reading
+pub mod Putting
+pub mod Editing
+pub mod Bitmap
+pub mod Moving

@@ -1,0 +1,4 @@
+pub mod Written
+pub mod Puts
+pub mod Edits
+pub mod Moves
