@@ -1,0 +1,29 @@
+-- Where an error of a file table that grows comes from.
+use Rattle.host_base.specs.Answers.{Cause, refused, no_memory, failed}
+use Rattle.std.specs.Prelude.{ℕ, ◌⊎◌}
+use Rattle.draft_records.specs.declared.fault.DraftFault.{DraftFault}
+use Rattle.draft_records.specs.declared.fault.DraftFault.TheVariants as draft
+use Rattle.plan_space.specs.declared.fault.SpaceFault.{SpaceFault}
+use Rattle.plan_space.specs.declared.fault.SpaceFault.TheVariants as space
+use Rattle.draft_growth.specs.declared.fault.GrowthFault.{GrowthFault}
+use Rattle.draft_growth.specs.declared.fault.GrowthFault.TheVariants.{Full, Short, Fault, Memory}
+
+-- a refusal is the bytes that a record would use, or the clusters that are free
+pub data Refusal : Type 0 where
+  record_full : ℕ → Refusal
+  no_space : ℕ → Refusal
+
+abbrev pub growth_cause : GrowthFault → Cause Refusal
+growth_cause (Full used) = refused (record_full used)
+growth_cause (Short room) = refused (no_space room)
+growth_cause Fault = failed
+growth_cause Memory = no_memory
+
+abbrev pub of_draft : DraftFault → GrowthFault
+of_draft (draft.Full used) = Full used
+of_draft draft.Fault = Fault
+of_draft draft.Memory = Memory
+
+abbrev pub of_space : SpaceFault → GrowthFault
+of_space (space.Short room) = Short room
+of_space space.Memory = Memory
