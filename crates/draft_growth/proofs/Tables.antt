@@ -12,7 +12,8 @@ use Rattle.space_model.proofs.Searching.{length-with_run}
 use Rattle.draft_bitmaps.specs.declared.bitmap.Bitmap.{Bitmap}
 use Rattle.draft_bitmaps.specs.Bitmaps.{bit_count}
 use Rattle.draft_growth.specs.Clusters.{IsInside}
-use Rattle.draft_growth.specs.Growing.{bytes_for, more_for, with_room}
+use Rattle.draft_growth.specs.declared.longer.Longer.{Longer}
+use Rattle.draft_growth.specs.Growing.{bytes_for, more_for, with_room, MayGrowIn, IsLonger}
 use Rattle.draft_growth.proofs.Chosen.{chosen_inside}
 
 zeros_long : (n : ℕ) → length (zeros n) ≡ n
@@ -36,3 +37,13 @@ pub length-with_runs : (runs : List Run) (bits : List Bool) → length (with_run
 unfolding with_runs
 length-with_runs [] bits = refl
 length-with_runs (r ∷ runs) bits = length-with_runs runs (with_clusters r.lcn r.len bits) ∙ length-clusters r.lcn r.len bits
+
+-- the bounds on a bitmap are those of the bits behind the runs that were taken, and of its stream wherever the bitmap is named
+pub grows_in : (m n size : ℕ) (s t : Stream) → m ≡ n → s ≡ t → MayGrowIn n size t → MayGrowIn m size s
+grows_in m n size s t is same grows = subst (λ (k : ℕ). MayGrowIn k size s) (sym is) (subst (λ (x : Stream). MayGrowIn n size x) (sym same) grows)
+
+pub has_room : (per size count : ℕ) (bits : List Bool) (b : Bitmap) (l : Longer) → size ≡ bytes_for count → IsLonger per size bits b l → count ≤ bit_count l.bitmap.stream
+has_room per size count bits b l is longer = subst (λ (x : Bitmap). count ≤ bit_count x.stream) (sym longer.bitmap) (room_for per size count (more_for per size bits b.stream) b.stream b is)
+
+pub taken_inside : (limit : ℕ) (runs more : List Run) → runs ≡ more → All (IsInside limit) more → All (IsInside limit) runs
+taken_inside limit runs more is inside = subst (λ (r : List Run). All (IsInside limit) r) (sym is) inside

@@ -47,8 +47,26 @@ fn put_table<V: View>(
     ensures reference { draft.new.view.ghost_name ≡ draft.old.view.ghost_name }
 {
     placed_fits();
-    put_file(draft, alloc, per, table, mirror, bitmap.number, &bitmap.file)?;
-    put_bits_of(draft, alloc, per, table, mirror, bitmap, first, TABLE_RECORDS, false)
+    put_file(
+        draft,
+        alloc,
+        per,
+        table,
+        mirror,
+        bitmap.number,
+        &bitmap.file,
+    )?;
+    put_bits_of(
+        draft,
+        alloc,
+        per,
+        table,
+        mirror,
+        bitmap,
+        first,
+        TABLE_RECORDS,
+        false,
+    )
 }
 
 // Sets the bits of the clusters that came.
@@ -103,7 +121,16 @@ fn put_grown<V: View>(
     ensures reference { draft.new.view.ghost_name ≡ draft.old.view.ghost_name }
 {
     put_table(draft, alloc, per, table, mirror, &mut longer.bitmap, first)?;
-    put_owners(draft, alloc, per, table, mirror, clusters, taken, &longer.taken)?;
+    put_owners(
+        draft,
+        alloc,
+        per,
+        table,
+        mirror,
+        clusters,
+        taken,
+        &longer.taken,
+    )?;
     put_empty_records(draft, alloc, per, table, first, TABLE_RECORDS)?;
     Ok(())
 }

@@ -16,6 +16,7 @@ ghost use Rattle.state_model.specs.declared.stream.Stream.TheVariants.{Held, Pla
 ghost use Rattle.draft_growth.specs.Growing.{table_clusters, larger, placed_in, roomier, with_room, more_for, MayGrow, MayGrowIn, IsTable, IsLonger, IsLongerData};
 
 use crate::table::Table;
+use crate::zeros::zero_bytes;
 use draft_bitmaps::Bitmap;
 use host_base::{Bytes, Memory};
 use plan_space::{FreeBits, SpaceFault};
@@ -35,6 +36,7 @@ pub struct Longer {
 
 // How many clusters the file table grows by, and how many bytes of records.
 const TABLE_CLUSTERS: u64 = 64;
+
 const TABLE_BYTES: u64 = 262_144;
 
 // The records' stream with these clusters, and of a size that has 256 records more.
@@ -52,7 +54,16 @@ fn larger_data(alloc: Global, per: ClusterSize, grown: Resized) -> Result<Resize
 {
     let real = grown.extents.real + TABLE_BYTES;
     let initialised = grown.extents.initialised + TABLE_BYTES;
-    let larger = sized(alloc, per, DATA, &[], &grown.extents, &grown.file, real, initialised)?;
+    let larger = sized(
+        alloc,
+        per,
+        DATA,
+        &[],
+        &grown.extents,
+        &grown.file,
+        real,
+        initialised,
+    )?;
     Ok(Resized {
         file: larger.file,
         extents: larger.extents,
@@ -97,18 +108,10 @@ fn longer_value(alloc: Global, value: &[u8], size: u64) -> Result<Bytes, AllocEr
     ensures value { IfOk result (λ bytes. bytes ≡ value.now ++ zeros (size - length value.now)) }
     ensures short { IfOk result (λ bytes. length bytes ≤ 2 ^ 16) }
 {
-    let more = no_bytes(alloc, (size as usize).saturating_sub(value.len()))?;
+    let more = zero_bytes(alloc, (size as usize).saturating_sub(value.len()))?;
     let mut bytes = Vec::from_slice(alloc, value)?;
     bytes.extend_from_slice(&more)?;
     Ok(Bytes::from(bytes))
-}
-
-#[tactic(auto, unfolding(disk_model::specs::Bytes::zeros))]
-fn no_bytes(alloc: Global, count: usize) -> Result<Vec<u8>, AllocError>
-    ensures value { IfOk result (λ bytes. bytes.items ≡ zeros count) }
-    ensures count { IfOk result (λ bytes. length bytes.items ≡ count) }
-{
-    vec![in alloc; 0u8; count]
 }
 
 // The bitmap with a longer value.
@@ -153,7 +156,16 @@ fn roomier(
     let kind = bitmap.kind;
     let extents = &grown.extents;
     let real = extents.real.max(size);
-    let new = sized(alloc, per, kind, &[], extents, &grown.file, real, extents.initialised)?;
+    let new = sized(
+        alloc,
+        per,
+        kind,
+        &[],
+        extents,
+        &grown.file,
+        real,
+        extents.initialised,
+    )?;
     Ok(Longer {
         bitmap: Bitmap {
             number: bitmap.number,
@@ -195,7 +207,16 @@ fn longer_placed<B: FreeBits>(
 {
     let has = total_clusters(extents.runs.as_slice());
     let wanted = clusters_for(per, size).saturating_sub(has);
-    let grown = grow(alloc, per, bits, bitmap.kind, &[], extents, &bitmap.file, wanted)?;
+    let grown = grow(
+        alloc,
+        per,
+        bits,
+        bitmap.kind,
+        &[],
+        extents,
+        &bitmap.file,
+        wanted,
+    )?;
     let longer = roomier(alloc, per, bitmap, size, grown)?;
     Ok(longer)
 }

@@ -72,7 +72,9 @@ pub fn put_runs_of<V: View>(
     ensures reference { draft.new.view.ghost_name ≡ draft.old.view.ghost_name }
 {
     for run in runs {
-        put_clusters_of(draft, alloc, per, table, mirror, bitmap, run.lcn, run.len, bit)?;
+        put_clusters_of(
+            draft, alloc, per, table, mirror, bitmap, run.lcn, run.len, bit,
+        )?;
     }
     Ok(())
 }

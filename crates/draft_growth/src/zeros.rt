@@ -13,12 +13,13 @@ use state_model::{ClusterSize, Extents};
 use std::alloc::{AllocError, Global};
 use stream_map::block_at;
 
-// The body of a record that was never used.
+// So many zeros, as in the body of a record that was never used.
 #[tactic(auto, unfolding(disk_model::specs::Bytes::zeros))]
-fn empty_record(alloc: Global, size: usize) -> Result<Vec<u8>, AllocError>
-    ensures { IfOk result (λ body. body.items ≡ zeros size) }
+pub fn zero_bytes(alloc: Global, count: usize) -> Result<Vec<u8>, AllocError>
+    ensures value { IfOk result (λ bytes. bytes.items ≡ zeros count) }
+    ensures count { IfOk result (λ bytes. length bytes.items ≡ count) }
 {
-    vec![in alloc; 0u8; size]
+    vec![in alloc; 0u8; count]
 }
 
 // Puts this body into the block of a record, if it has one; the block is fresh.
@@ -78,6 +79,6 @@ pub fn put_empty_records<V: View>(
     ensures asks { AsksView V.content V.kept V.faults fault_cause draft.old.view.now draft.new.view.now result }
     ensures reference { draft.new.view.ghost_name ≡ draft.old.view.ghost_name }
 {
-    let body = empty_record(alloc, 1024)?;
+    let body = zero_bytes(alloc, 1024)?;
     put_all(draft, alloc, per, table, first, count, &body)
 }

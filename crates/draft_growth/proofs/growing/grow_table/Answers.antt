@@ -1,13 +1,14 @@
-use Rattle.std.proofs.Common.{◌≡◌, ℕ, ◌+◌, ◌≤◌, Bool, List, length, refl, sym, ap, subst, ◌∙◌, arith}
-use Rattle.std.specs.Prelude.{All}
-use Rattle.std.proofs.lemmas.List.Elements.{All-same}
-use Rattle.record_model.specs.declared.runs.Run.{Run}
+use Rattle.std.proofs.Common.{◌≡◌, ℕ, ◌+◌, ◌≤◌, Bool, List, length, refl, sym, ap, subst, ◌∙◌}
+use Rattle.record_model.specs.Pairs.{cluster_limit}
 use Rattle.space_model.specs.Choosing.{chosen}
 use Rattle.stream_runs.specs.Runs.{last_cluster}
+use Rattle.draft_bitmaps.specs.declared.bitmap.Bitmap.{Bitmap}
 use Rattle.draft_bitmaps.specs.Bitmaps.{bit_count}
-use Rattle.draft_growth.specs.Clusters.{IsInside}
-use Rattle.draft_growth.specs.Growing.{table_clusters, IsLonger, in_file}
+use Rattle.draft_growth.specs.Growing.{table_clusters, table_records, record_count, bytes_for, more_for}
+use Rattle.draft_growth.proofs.Chosen.{chosen_inside}
 use Rattle.draft_growth.proofs.Joining.{table_grown}
+use Rattle.draft_growth.proofs.Tables.{length-with_runs, grows_in, has_room, taken_inside, more_inside}
+use Rattle.draft_growth.proofs.growing.grow_table.Given.{Over}
 use Rattle.draft_growth.proofs.growing.grow_table.Goals as goal
 
 pub returns-clause-put : goal.returns-clause-put
@@ -15,5 +16,34 @@ returns-clause-put g c =
     table_grown (g.V.View.content c.args.draft.now.view.now) c.args.per (g.B.FreeBits.bits c.args.bits.now) c.args.mirror.now c.args.table _ c.in_ok-records.records c.in_ok-longer.longer c.args.clusters.now _ c.args.draft.now.touched.items _
     c.in_ok-records.ensures.value
     (rw (c.in_ok-records.ensures.bits, c.in_file-bitmap.ensures) at c.in_ok-longer.ensures.value)
-    c.in_ok-put_grown.ensures.put
+    (rw c.deref.ensures.value at c.in_ok-put_grown.ensures.put)
     refl
+
+same_length : (g : Over) (c : goal.After-bitmap-1 g) → length (g.B.FreeBits.bits c.longer_data.new.bits) ≡ length (g.B.FreeBits.bits c.args.bits.now)
+same_length g c = ap length c.in_ok-records.ensures.bits ∙ length-with_runs c.in_ok-records.records.taken.items (g.B.FreeBits.bits c.args.bits.now)
+
+pub longer_bitmap-requires-clause-few : goal.longer_bitmap-requires-clause-few
+longer_bitmap-requires-clause-few g c = subst (λ (n : ℕ). n ≤ cluster_limit) (sym (same_length g c)) c.requires.table.few
+
+pub longer_bitmap-requires-clause-stream : goal.longer_bitmap-requires-clause-stream
+longer_bitmap-requires-clause-stream g c =
+    grows_in _ (length (g.B.FreeBits.bits c.args.bits.now)) (bytes_for (record_count c.args.table.extents + table_records)) c.in_file-bitmap.result.stream c.args.table.bitmap.stream (same_length g c) (ap (λ (b : Bitmap). b.stream) c.in_file-bitmap.ensures)
+    c.requires.table.stream
+
+pub put_grown-requires-clause-within : goal.put_grown-requires-clause-within
+put_grown-requires-clause-within g c =
+    has_room c.args.per (bytes_for (record_count c.args.table.extents + table_records)) (record_count c.args.table.extents + table_records) (g.B.FreeBits.bits c.longer_data.new.bits) c.in_file-bitmap.result c.in_ok-longer.longer refl c.in_ok-longer.ensures.value
+
+pub put_grown-requires-clause-inside : goal.put_grown-requires-clause-inside
+put_grown-requires-clause-inside g c =
+    taken_inside (bit_count c.args.clusters.now.stream) c.deref.result.now (chosen (g.B.FreeBits.bits c.args.bits.now) (last_cluster c.args.table.extents.runs) table_clusters) (c.deref.ensures.value ∙ c.in_ok-records.ensures.value.taken)
+    (chosen_inside (bit_count c.args.clusters.now.stream) (g.B.FreeBits.bits c.args.bits.now) (last_cluster c.args.table.extents.runs) table_clusters c.requires.within)
+
+pub put_grown-requires-clause-inside_more : goal.put_grown-requires-clause-inside_more
+put_grown-requires-clause-inside_more g c =
+    let limit = bit_count c.args.clusters.now.stream in
+    let size = bytes_for (record_count c.args.table.extents + table_records) in
+    let now = g.B.FreeBits.bits c.longer_data.new.bits in
+    let same = ap length c.in_ok-records.ensures.bits ∙ length-with_runs c.in_ok-records.records.taken.items (g.B.FreeBits.bits c.args.bits.now) in
+    taken_inside limit c.in_ok-longer.longer.taken.items (more_for c.args.per size now c.in_file-bitmap.result.stream) c.in_ok-longer.ensures.value.taken
+    (more_inside limit c.args.per size now c.in_file-bitmap.result.stream (subst (λ (n : ℕ). n ≤ limit) (sym same) c.requires.within))

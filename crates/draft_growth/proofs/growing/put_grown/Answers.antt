@@ -7,4 +7,4 @@ returns-clause-put g c =
     let first = c.in_ok-put_table.ensures.asks.same in
     let second = c.in_ok-put_owners.ensures.asks.same ∙ first in
     grown_put (g.V.View.content c.args.draft.now.view.now) c.args.per c.args.table.now c.args.mirror.now c.args.taken.now c.args.longer.now c.args.clusters.now c.args.first c.args.draft.now.touched.items _ _ _ _ _
-    c.in_ok-put_table.ensures.put (rw first at c.in_ok-put_owners.ensures.put) (rw second at c.in_ok-put_empty_records.ensures.touched)
+    c.in_ok-put_table.ensures.put (rw (c.deref.ensures.value, first) at c.in_ok-put_owners.ensures.put) (rw second at c.in_ok-put_empty_records.ensures.touched)
