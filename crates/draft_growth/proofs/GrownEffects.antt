@@ -1,5 +1,5 @@
 -- What is then read of a file table that grew.
-use Rattle.std.proofs.Common.{◌≡◌, ◌≢◌, ℕ, zero, suc, ◌+◌, ◌-◌, ◌*◌, ◌/◌, ◌<◌, ◌≤◌, Bool, true, false, cond, List, Option, Some, None, refl, sym, ap, subst, ◌∙◌, inl, inr, arith}
+use Rattle.std.proofs.Common.{◌≡◌, ℕ, zero, suc, ◌+◌, ◌*◌, ◌/◌, ◌<◌, ◌≤◌, Bool, true, false, cond, List, Option, Some, None, refl, sym, ap, subst, ◌∙◌, inl, inr, arith}
 use Rattle.std.proofs.lemmas.Bool.{cases_lt}
 use Rattle.disk_model.specs.declared.block.Block.{Block}
 use Rattle.disk_model.specs.Bodies.{BodyOf}
@@ -13,11 +13,8 @@ use Rattle.plan_draft.specs.declared.touched.Touched.{Touched}
 use Rattle.plan_draft.specs.Touching.{bodies_of, touch}
 use Rattle.plan_draft.proofs.Puts.{bodies_touch}
 use Rattle.plan_draft.proofs.Same.{one_in_order}
-use Rattle.resized_streams.specs.Resizing.{lengthened}
 use Rattle.draft_records.specs.Records.{record_block, touch_if}
-use Rattle.draft_bitmaps.specs.declared.bitmap.Bitmap.{Bitmap}
-use Rattle.draft_growth.specs.declared.table.Table.{Table}
-use Rattle.draft_growth.specs.Growing.{table_records, record_count, larger, with_empty_records, GrowsTable}
+use Rattle.draft_growth.specs.Growing.{table_records, record_count, with_empty_records}
 use Rattle.draft_growth.specs.Effects.{HasOwnRecords, GrownIsRead}
 
 after_touch : (touched : List Touched) (a b : Block) (fresh : Bool) (bytes : List ℕ) (old : BodyOf) → body_in (bodies_of (touch a fresh bytes old touched)) b ≡ cond (same_block b a) (Some bytes) (body_in (bodies_of touched) b)

@@ -1,5 +1,5 @@
 -- Streams of record 0 that become longer.
-use Rattle.std.proofs.Common.{◌≡◌, ℕ, ◌-◌, max, Bool, List, [], sym, ap, ap₂, ◌∙◌}
+use Rattle.std.proofs.Common.{◌≡◌, ℕ, max, List, [], ap, ap₂, ◌∙◌}
 use Rattle.record_model.specs.Constants.{data_type}
 use Rattle.record_model.specs.declared.runs.Run.{Run}
 use Rattle.record_model.specs.Records.{Record}

@@ -5,3 +5,4 @@ pub mod Empty
 pub mod Tables
 pub mod GrownEffects
 pub mod Lengths
+pub mod Space

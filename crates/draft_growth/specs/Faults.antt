@@ -1,6 +1,6 @@
 -- Where an error of a file table that grows comes from.
 use Rattle.host_base.specs.Answers.{Cause, refused, no_memory, failed}
-use Rattle.std.specs.Prelude.{ℕ, ◌⊎◌}
+use Rattle.std.specs.Prelude.{ℕ}
 use Rattle.draft_records.specs.declared.fault.DraftFault.{DraftFault}
 use Rattle.draft_records.specs.declared.fault.DraftFault.TheVariants as draft
 use Rattle.plan_space.specs.declared.fault.SpaceFault.{SpaceFault}
@@ -18,6 +18,17 @@ growth_cause (Full used) = refused (record_full used)
 growth_cause (Short room) = refused (no_space room)
 growth_cause Fault = failed
 growth_cause Memory = no_memory
+
+-- the clusters that are free are the one refusal of a choice, and a full record is another matter
+abbrev pub space_cause : SpaceFault → Cause ℕ
+space_cause (space.Short room) = refused room
+space_cause space.Memory = no_memory
+
+abbrev pub growth_space : GrowthFault → Cause ℕ
+growth_space (Full used) = failed
+growth_space (Short room) = refused room
+growth_space Fault = failed
+growth_space Memory = no_memory
 
 abbrev pub of_draft : DraftFault → GrowthFault
 of_draft (draft.Full used) = Full used

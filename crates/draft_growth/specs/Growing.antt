@@ -1,5 +1,6 @@
 -- A file table that grows by 64 clusters and 256 records.
-use Rattle.std.specs.Prelude.{◌≡◌, ℕ, zero, suc, ◌+◌, ◌-◌, ◌*◌, ◌/◌, ◌<◌, ◌≤◌, ◌^◌, max, true, false, Bool, IfSome, List, [], ◌++◌, length}
+use Rattle.std.specs.Prelude.{◌≡◌, ℕ, zero, suc, ◌+◌, ◌-◌, ◌*◌, ◌/◌, ◌<◌, ◌≤◌, ◌^◌, max, true, false, Bool, not, nat_le, IfSome, Result, List, [], ◌++◌, count_by, length}
+use Rattle.host_base.specs.Answers.{◌>>=◌, needs}
 use Rattle.disk_model.specs.Bytes.{zeros}
 use Rattle.disk_model.specs.Content.{Content}
 use Rattle.record_model.specs.Constants.{data_type}
@@ -18,7 +19,7 @@ use Rattle.resized_streams.specs.declared.resized.Resized.{Resized}
 use Rattle.resized_streams.specs.Resizing.{lengthened, clusters_for, with_sizes}
 use Rattle.draft_records.specs.Records.{record_block, touch_if}
 use Rattle.draft_bitmaps.specs.declared.bitmap.Bitmap.{Bitmap}
-use Rattle.draft_bitmaps.specs.Bitmaps.{with_value, with_record, bit_count, IsBitmap, PutsBitsOf}
+use Rattle.draft_bitmaps.specs.Bitmaps.{with_value, with_record, IsBitmap, PutsBitsOf}
 use Rattle.draft_growth.specs.declared.table.Table.{Table}
 use Rattle.draft_growth.specs.declared.longer.Longer.{Longer}
 use Rattle.draft_growth.specs.Clusters.{PutsRunsOf}
@@ -86,6 +87,33 @@ with_empty c per e body n touched = touch_if c (record_block per e n) true body 
 unfoldable pub with_empty_records : Content → ℕ → Extents → List ℕ → ℕ → ℕ → List Touched → List Touched
 with_empty_records c per e body first zero touched = touched
 with_empty_records c per e body first (suc n) touched = with_empty c per e body (first + n) (with_empty_records c per e body first n touched)
+
+-- ---- the clusters
+
+-- how many clusters a bitmap wants for so many bytes; a value wants none
+abbrev pub wanted_for : ℕ → ℕ → Stream → ℕ
+wanted_for per size (Held value) = 0
+wanted_for per size (Placed e) = clusters_for per size - total_clusters e.runs
+
+-- nothing, or how many bits are clear where these are fewer than are wanted
+abbrev pub space_for : ℕ → List Bool → Result (Unit {0}) ℕ
+space_for wanted bits = needs (nat_le wanted (count_by not bits)) (count_by not bits)
+
+-- the bits when the records' clusters are taken
+abbrev pub behind_records : List Bool → Table → List Bool
+behind_records bits t = with_runs (chosen bits (last_cluster t.extents.runs) table_clusters) bits
+
+-- the size of the bitmap of the numbers that there are then
+abbrev pub bitmap_size : Table → ℕ
+bitmap_size t = bytes_for (record_count t.extents + table_records)
+
+-- the bits when those of its bitmap are taken too
+abbrev pub behind_table : ℕ → List Bool → Table → List Bool
+behind_table per bits t = with_runs (more_for per (bitmap_size t) (behind_records bits t) t.bitmap.stream) (behind_records bits t)
+
+-- nothing, or how many bits are clear where these are fewer than the records want, or than their bitmap wants then
+abbrev pub space_of : ℕ → List Bool → Table → Result (Unit {0}) ℕ
+space_of per bits t = space_for table_clusters bits >>= λ _. space_for (wanted_for per (bitmap_size t) t.bitmap.stream) (behind_records bits t)
 
 -- ---- the table
 

@@ -1,5 +1,5 @@
 -- Numbers that are taken of a file table.
-use Rattle.std.specs.Prelude.{◌≡◌, ℕ, true, Bool, List, Option, MatchOption}
+use Rattle.std.specs.Prelude.{◌≡◌, ℕ, true, List, Option, MatchOption}
 use Rattle.host_base.specs.declared.file_ref.FileRef.{FileRef}
 use Rattle.disk_model.specs.Content.{Content}
 use Rattle.state_model.specs.declared.stream.Extents.{Extents}

@@ -1,13 +1,14 @@
 //! A file table that grows.
 ghost use Rattle.std.specs.Prelude.{◌≡◌, ◌+◌, ◌/◌, ◌<◌, ◌≤◌, ◌^◌, true, false, Err, All, IfOk, IfErr, IfSome, OnOk, OnErr, not, count_by, length};
+ghost use Rattle.host_base.specs.Answers.{GivesOrFails};
 ghost use Rattle.block_view.specs.Views.{AsksView};
 ghost use Rattle.stream_runs.specs.Runs.{IsNear};
 ghost use Rattle.draft_records.specs.Faults.{draft_cause};
 ghost use Rattle.draft_bitmaps.specs.Bitmaps.{with_record, bit_count, IsBitmap, PutsBitsOf};
 ghost use Rattle.draft_growth.specs.declared.fault.GrowthFault.TheVariants.{Short};
-ghost use Rattle.draft_growth.specs.Faults.{growth_cause};
+ghost use Rattle.draft_growth.specs.Faults.{growth_cause, growth_space};
 ghost use Rattle.draft_growth.specs.Clusters.{IsInside, PutsRunsOf};
-ghost use Rattle.draft_growth.specs.Growing.{table_clusters, table_records, record_count, IsTable, GrowsTable, bytes_for, in_file, IsLongerData, IsLonger, PutsTable, PutsOwners, PutsGrown};
+ghost use Rattle.draft_growth.specs.Growing.{behind_table, space_of, table_clusters, table_records, record_count, IsTable, GrowsTable, bytes_for, in_file, IsLongerData, IsLonger, PutsTable, PutsOwners, PutsGrown};
 
 use crate::fault::GrowthFault;
 use crate::longer::{Longer, longer_bitmap, longer_data};
@@ -158,7 +159,8 @@ fn in_file(bitmap: Bitmap, file: FileRec) -> Bitmap
 ///
 /// - [`GrowthFault::Full`]: record 0, or the record of `clusters`, would use these bytes, which are
 ///   above 1,024.
-/// - [`GrowthFault::Short`]: fewer clusters are clear than are needed, so many.
+/// - [`GrowthFault::Short`]: fewer clusters are clear than the 64, so many; or, when these are taken,
+///   fewer than the bitmap of the numbers needs, so many.
 /// - [`GrowthFault::Fault`]: the view failed, which is asked where a block wasn't touched.
 /// - [`GrowthFault::Memory`]: want of memory.
 ///
@@ -177,6 +179,8 @@ pub fn grow_table<V: View, B: FreeBits>(
     requires clusters { IsBitmap clusters.old }
     requires within { length (B.bits bits.old) ≤ bit_count clusters.old.stream }
     ensures put { IfOk result (λ t. IfSome (V.content draft.old.view.now) (λ c. GrowsTable c per (B.bits bits.old) mirror.now table clusters.old draft.old.touched.items draft.new.touched.items t clusters.new)) }
+    ensures bits { IfOk result (λ _. B.bits bits.new ≡ behind_table per (B.bits bits.old) table) }
+    ensures space { GivesOrFails (λ _. tt) growth_space result (space_of per (B.bits bits.old) table) }
     ensures short { count_by not (B.bits bits.old) < table_clusters → result ≡ Err (Short (count_by not (B.bits bits.old))) }
     ensures asks { AsksView V.content V.kept V.faults growth_cause draft.old.view.now draft.new.view.now result }
     ensures reference { draft.new.view.ghost_name ≡ draft.old.view.ghost_name }

@@ -1,6 +1,7 @@
 //! Streams of record 0 that become longer: the records' own clusters, and the bitmap of their
 //! numbers.
 ghost use Rattle.std.specs.Prelude.{◌≡◌, ◌+◌, ◌-◌, ◌*◌, ◌/◌, ◌<◌, ◌≤◌, ◌^◌, [], ◌++◌, Err, All, IfOk, IfErr, IfSome, not, max, count_by, length};
+ghost use Rattle.host_base.specs.Answers.{GivesOrFails};
 ghost use Rattle.disk_model.specs.Bytes.{zeros};
 ghost use Rattle.record_model.specs.Pairs.{cluster_limit, HasSpelling};
 ghost use Rattle.record_streams.specs.Fitting.{FitsButRoom, IsPlaceable};
@@ -10,10 +11,11 @@ ghost use Rattle.stream_runs.specs.Runs.{last_cluster, IsNear};
 ghost use Rattle.state_model.specs.Loads.{total_clusters};
 ghost use Rattle.record_model.specs.Constants.{data_type};
 ghost use Rattle.record_streams.specs.Placing.{placed_record};
-ghost use Rattle.resized_streams.specs.Resizing.{clusters_for, with_sizes};
+ghost use Rattle.resized_streams.specs.Resizing.{clusters_for, with_sizes, IsGrown};
 ghost use Rattle.draft_bitmaps.specs.Bitmaps.{with_value, IsBitmap, IsShortPlaced};
 ghost use Rattle.state_model.specs.declared.stream.Stream.TheVariants.{Held, Placed};
-ghost use Rattle.draft_growth.specs.Growing.{table_clusters, larger, placed_in, roomier, with_room, more_for, MayGrow, MayGrowIn, IsTable, IsLonger, IsLongerData};
+ghost use Rattle.draft_growth.specs.Faults.{space_cause};
+ghost use Rattle.draft_growth.specs.Growing.{wanted_for, space_for, table_clusters, larger, placed_in, roomier, with_room, more_for, MayGrow, MayGrowIn, IsTable, IsLonger, IsLongerData};
 
 use crate::table::Table;
 use crate::zeros::zero_bytes;
@@ -187,6 +189,41 @@ fn clusters_for(per: ClusterSize, size: u64) -> u64
     (size + (bytes - 1)) / bytes
 }
 
+// The clusters that a bitmap wants for so many bytes, taken.
+fn wider<B: FreeBits>(
+    alloc: Global,
+    per: ClusterSize,
+    bits: &mut B,
+    bitmap: &Bitmap,
+    extents: &Extents,
+    size: u64,
+) -> Result<Resized, SpaceFault>
+    requires stands { IsBitmap bitmap.now }
+    requires few { length (B.bits bits.old) ≤ cluster_limit }
+    requires stream { MayGrow (length (B.bits bits.old)) extents.now }
+    requires size { size ≤ 2 ^ 19 }
+    ensures value { IfOk result (λ z. IsGrown per bitmap.now.kind [] extents.now bitmap.now.file (more_for per size (B.bits bits.old) (Placed extents.now)) z) }
+    ensures bits { IfOk result (λ z. B.bits bits.new ≡ with_runs z.taken.items (B.bits bits.old)) }
+    ensures space { GivesOrFails (λ _. tt) space_cause result (space_for (wanted_for per size (Placed extents.now)) (B.bits bits.old)) }
+    ensures near { IfOk result (λ z. All IsNear z.taken.items) }
+    ensures fits { IfOk result (λ z. FitsButRoom z.file) }
+    ensures spelled { IfOk result (λ z. HasSpelling 0 z.extents.runs) }
+    ensures few { IfOk result (λ z. length z.extents.runs ≤ 2 ^ 16) }
+{
+    let has = total_clusters(extents.runs.as_slice());
+    let wanted = clusters_for(per, size).saturating_sub(has);
+    grow(
+        alloc,
+        per,
+        bits,
+        bitmap.kind,
+        &[],
+        extents,
+        &bitmap.file,
+        wanted,
+    )
+}
+
 // The bitmap in clusters with as many more as it needs for so many bytes.
 fn longer_placed<B: FreeBits>(
     alloc: Global,
@@ -202,6 +239,8 @@ fn longer_placed<B: FreeBits>(
     requires size { size ≤ 2 ^ 19 }
     ensures value { IfOk result (λ l. l.bitmap ≡ with_room per size (more_for per size (B.bits bits.old) (Placed extents.now)) (Placed extents.now) bitmap.now) }
     ensures taken { IfOk result (λ l. l.taken.items ≡ more_for per size (B.bits bits.old) (Placed extents.now)) }
+    ensures bits { IfOk result (λ l. B.bits bits.new ≡ with_runs l.taken.items (B.bits bits.old)) }
+    ensures space { GivesOrFails (λ _. tt) space_cause result (space_for (wanted_for per size (Placed extents.now)) (B.bits bits.old)) }
     ensures stands { IfOk result (λ l. IsBitmap l.bitmap) }
     ensures near { IfOk result (λ l. All IsNear l.taken.items) }
 {
@@ -234,6 +273,8 @@ pub fn longer_bitmap<B: FreeBits>(
     requires stream { MayGrowIn (length (B.bits bits.old)) size bitmap.now.stream }
     requires size { size ≤ 2 ^ 19 }
     ensures value { IfOk result (λ l. IsLonger per size (B.bits bits.old) bitmap.now l) }
+    ensures bits { IfOk result (λ l. B.bits bits.new ≡ with_runs l.taken.items (B.bits bits.old)) }
+    ensures space { GivesOrFails (λ _. tt) space_cause result (space_for (wanted_for per size bitmap.now.stream) (B.bits bits.old)) }
     ensures stands { IfOk result (λ l. IsBitmap l.bitmap) }
     ensures near { IfOk result (λ l. All IsNear l.taken.items) }
 {

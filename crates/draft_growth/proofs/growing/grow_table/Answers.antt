@@ -1,4 +1,5 @@
-use Rattle.std.proofs.Common.{◌≡◌, ℕ, ◌+◌, ◌≤◌, Bool, List, length, refl, sym, ap, subst, ◌∙◌}
+use Rattle.std.proofs.Common.{◌≡◌, ℕ, ◌+◌, ◌≤◌, length, refl, sym, ap, subst, ◌∙◌}
+use Rattle.std.proofs.lemmas.Result.{err_from_is_err_and}
 use Rattle.record_model.specs.Pairs.{cluster_limit}
 use Rattle.space_model.specs.Choosing.{chosen}
 use Rattle.stream_runs.specs.Runs.{last_cluster}
@@ -6,6 +7,7 @@ use Rattle.draft_bitmaps.specs.declared.bitmap.Bitmap.{Bitmap}
 use Rattle.draft_bitmaps.specs.Bitmaps.{bit_count}
 use Rattle.draft_growth.specs.Growing.{table_clusters, table_records, record_count, bytes_for, more_for}
 use Rattle.draft_growth.proofs.Chosen.{chosen_inside}
+use Rattle.draft_growth.proofs.Space.{behind, table_taken, records_ok, records_err, second_ok, second_err, other_fault}
 use Rattle.draft_growth.proofs.Joining.{table_grown}
 use Rattle.draft_growth.proofs.Tables.{length-with_runs, grows_in, has_room, taken_inside, more_inside}
 use Rattle.draft_growth.proofs.growing.grow_table.Given.{Over}
@@ -47,3 +49,37 @@ put_grown-requires-clause-inside_more g c =
     let same = ap length c.in_ok-records.ensures.bits ∙ length-with_runs c.in_ok-records.records.taken.items (g.B.FreeBits.bits c.args.bits.now) in
     taken_inside limit c.in_ok-longer.longer.taken.items (more_for c.args.per size now c.in_file-bitmap.result.stream) c.in_ok-longer.ensures.value.taken
     (more_inside limit c.args.per size now c.in_file-bitmap.result.stream (subst (λ (n : ℕ). n ≤ limit) (sym same) c.requires.within))
+
+pub returns-clause-bits : goal.returns-clause-bits
+returns-clause-bits g c =
+    let bits = g.B.FreeBits.bits c.args.bits.now in
+    let own = g.B.FreeBits.bits c.longer_data.new.bits in
+    let first = behind bits own c.args.table c.in_ok-records.records c.in_ok-records.ensures.value.taken c.in_ok-records.ensures.bits in
+    table_taken c.args.per bits own _ c.args.table c.in_file-bitmap.result c.in_ok-longer.longer first (ap (λ (b : Bitmap). b.stream) c.in_file-bitmap.ensures) c.in_ok-longer.ensures.value c.in_ok-longer.ensures.bits
+
+pub returns-clause-space : goal.returns-clause-space
+returns-clause-space g c =
+    let bits = g.B.FreeBits.bits c.args.bits.now in
+    let own = g.B.FreeBits.bits c.longer_data.new.bits in
+    let first = behind bits own c.args.table c.in_ok-records.records c.in_ok-records.ensures.value.taken c.in_ok-records.ensures.bits in
+    let enough = records_ok c.longer_data.result c.in_ok-records.records bits c.in_ok-records.was c.longer_data.ensures.short c.longer_data.ensures.enough in
+    second_ok c.args.per bits own c.args.table c.in_file-bitmap.result.stream enough first (ap (λ (b : Bitmap). b.stream) c.in_file-bitmap.ensures) c.in_ok-longer.ensures.space
+
+pub returns-in_err-records-clause-space : goal.returns-in_err-records-clause-space
+returns-in_err-records-clause-space g c =
+    let p = err_from_is_err_and c.from_residual.result c.from_residual.ensures.1 in
+    rw (p.1, p.2) (records_err c.longer_data.result c.in_err-records.field-0.0 c.args.per (g.B.FreeBits.bits c.args.bits.now) c.args.table c.in_err-records.was c.longer_data.ensures.short c.longer_data.ensures.enough)
+
+pub returns-in_err-longer-clause-space : goal.returns-in_err-longer-clause-space
+returns-in_err-longer-clause-space g c =
+    let bits = g.B.FreeBits.bits c.args.bits.now in
+    let own = g.B.FreeBits.bits c.longer_data.new.bits in
+    let first = behind bits own c.args.table c.in_ok-records.records c.in_ok-records.ensures.value.taken c.in_ok-records.ensures.bits in
+    let enough = records_ok c.longer_data.result c.in_ok-records.records bits c.in_ok-records.was c.longer_data.ensures.short c.longer_data.ensures.enough in
+    let p = err_from_is_err_and c.from_residual-in_err-longer.result c.from_residual-in_err-longer.ensures.1 in
+    rw (p.1, p.2) (second_err c.in_err-longer.field-0.0 c.args.per bits own c.args.table c.in_file-bitmap.result.stream enough first (ap (λ (b : Bitmap). b.stream) c.in_file-bitmap.ensures) c.in_err-longer.ensures.space)
+
+pub returns-in_err-put_grown-clause-space : goal.returns-in_err-put_grown-clause-space
+returns-in_err-put_grown-clause-space g c =
+    let p = err_from_is_err_and c.from_residual-in_err-put_grown.result c.from_residual-in_err-put_grown.ensures.1 in
+    rw (p.1, p.2) (other_fault c.in_err-put_grown.field-0.0 _)

@@ -1,5 +1,4 @@
-use Rattle.std.proofs.Common.{◌≡◌, List, ap}
-use Rattle.record_model.specs.declared.runs.Run.{Run}
+use Rattle.std.proofs.Common.{ap}
 use Rattle.space_model.specs.Choosing.{chosen}
 use Rattle.stream_runs.specs.Runs.{last_cluster}
 use Rattle.draft_growth.specs.Growing.{table_clusters}

@@ -1,7 +1,5 @@
-use Rattle.std.proofs.Common.{refl, None, sym, subst, ◌∙◌, ℕ, ◌≡◌, arith}
-use Rattle.std.specs.Prelude.{IfSome}
+use Rattle.std.proofs.Common.{refl, None, ◌∙◌, arith}
 use Rattle.record_model.specs.declared.runs.Run.{Run}
-use Rattle.draft_growth.specs.Clusters.{IsInside}
 use Rattle.draft_growth.proofs.Turns.{begins, step, ends}
 use Rattle.draft_growth.proofs.runs.put_runs_of.Goals as goal
 

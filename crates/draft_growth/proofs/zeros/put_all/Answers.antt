@@ -1,4 +1,4 @@
-use Rattle.std.proofs.Common.{◌≡◌, ℕ, refl, ◌∙◌, arith}
+use Rattle.std.proofs.Common.{refl, ◌∙◌, arith}
 use Rattle.draft_growth.proofs.Empty.{begins, step, ends}
 use Rattle.draft_growth.proofs.zeros.put_all.Goals as goal
 
