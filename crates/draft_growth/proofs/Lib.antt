@@ -6,3 +6,4 @@ pub mod Tables
 pub mod GrownEffects
 pub mod Lengths
 pub mod Space
+pub mod Fulls

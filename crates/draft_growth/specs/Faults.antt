@@ -30,6 +30,13 @@ growth_space (Short room) = refused room
 growth_space Fault = failed
 growth_space Memory = no_memory
 
+-- and here the bytes of a full record are the one refusal
+abbrev pub growth_room : GrowthFault → Cause ℕ
+growth_room (Full used) = refused used
+growth_room (Short room) = failed
+growth_room Fault = failed
+growth_room Memory = no_memory
+
 abbrev pub of_draft : DraftFault → GrowthFault
 of_draft (draft.Full used) = Full used
 of_draft draft.Fault = Fault

@@ -88,6 +88,12 @@ unfoldable pub with_empty_records : Content → ℕ → Extents → List ℕ →
 with_empty_records c per e body first zero touched = touched
 with_empty_records c per e body first (suc n) touched = with_empty c per e body (first + n) (with_empty_records c per e body first n touched)
 
+-- ---- record 0
+
+-- record 0 with the records' stream of these runs more
+abbrev pub with_records : ℕ → List Run → Table → Record
+with_records per more t = placed_record per data_type [] (larger (lengthened per more t.extents)) (placed_record per data_type [] (lengthened per more t.extents) t.bitmap.file)
+
 -- ---- the clusters
 
 -- how many clusters a bitmap wants for so many bytes; a value wants none
@@ -110,6 +116,11 @@ bitmap_size t = bytes_for (record_count t.extents + table_records)
 -- the bits when those of its bitmap are taken too
 abbrev pub behind_table : ℕ → List Bool → Table → List Bool
 behind_table per bits t = with_runs (more_for per (bitmap_size t) (behind_records bits t) t.bitmap.stream) (behind_records bits t)
+
+-- record 0 with both streams as they are then
+abbrev pub grown_record : ℕ → List Bool → Table → Record
+grown_record per bits t =
+    (with_room per (bitmap_size t) (more_for per (bitmap_size t) (behind_records bits t) t.bitmap.stream) t.bitmap.stream (in_file (with_records per (chosen bits (last_cluster t.extents.runs) table_clusters) t) t.bitmap)).file
 
 -- nothing, or how many bits are clear where these are fewer than the records want, or than their bitmap wants then
 abbrev pub space_of : ℕ → List Bool → Table → Result (Unit {0}) ℕ

@@ -4,11 +4,12 @@ ghost use Rattle.host_base.specs.Answers.{GivesOrFails};
 ghost use Rattle.block_view.specs.Views.{AsksView};
 ghost use Rattle.stream_runs.specs.Runs.{IsNear};
 ghost use Rattle.draft_records.specs.Faults.{draft_cause};
+ghost use Rattle.draft_records.specs.Records.{fits_room};
 ghost use Rattle.draft_bitmaps.specs.Bitmaps.{with_record, bit_count, IsBitmap, PutsBitsOf};
 ghost use Rattle.draft_growth.specs.declared.fault.GrowthFault.TheVariants.{Short};
-ghost use Rattle.draft_growth.specs.Faults.{growth_cause, growth_space};
+ghost use Rattle.draft_growth.specs.Faults.{growth_cause, growth_space, growth_room};
 ghost use Rattle.draft_growth.specs.Clusters.{IsInside, PutsRunsOf};
-ghost use Rattle.draft_growth.specs.Growing.{behind_table, space_of, table_clusters, table_records, record_count, IsTable, GrowsTable, bytes_for, in_file, IsLongerData, IsLonger, PutsTable, PutsOwners, PutsGrown};
+ghost use Rattle.draft_growth.specs.Growing.{behind_table, grown_record, space_of, table_clusters, table_records, record_count, IsTable, GrowsTable, bytes_for, in_file, IsLongerData, IsLonger, PutsTable, PutsOwners, PutsGrown};
 
 use crate::fault::GrowthFault;
 use crate::longer::{Longer, longer_bitmap, longer_data};
@@ -42,6 +43,7 @@ fn put_table<V: View>(
     requires stands { IsBitmap bitmap.old }
     requires place { first < 2 ^ 40 }
     requires within { first + table_records ≤ bit_count bitmap.old.stream }
+    ensures full { IfErr (fits_room bitmap.old.file) (λ used. GivesOrFails (λ _. tt {0}) draft_cause result (Err used)) }
     ensures put { OnOk result (IfSome (V.content draft.old.view.now) (λ c. PutsTable c per table.now mirror.now bitmap.old first draft.old.touched.items draft.new.touched.items bitmap.new)) }
     ensures stands { IsBitmap bitmap.new }
     ensures asks { AsksView V.content V.kept V.faults draft_cause draft.old.view.now draft.new.view.now result }
@@ -115,6 +117,7 @@ fn put_grown<V: View>(
     requires near_more { All IsNear longer.old.taken.items }
     requires inside { All (IsInside (bit_count clusters.old.stream)) taken.now }
     requires inside_more { All (IsInside (bit_count clusters.old.stream)) longer.old.taken.items }
+    ensures full { IfErr (fits_room longer.old.bitmap.file) (λ used. GivesOrFails (λ _. tt {0}) draft_cause result (Err used)) }
     ensures put { OnOk result (IfSome (V.content draft.old.view.now) (λ c. PutsGrown c per table.now mirror.now taken.now longer.old clusters.old first draft.old.touched.items draft.new.touched.items longer.new.bitmap clusters.new)) }
     ensures stands { IsBitmap longer.new.bitmap }
     ensures clusters { IsBitmap clusters.new }
@@ -181,6 +184,7 @@ pub fn grow_table<V: View, B: FreeBits>(
     ensures put { IfOk result (λ t. IfSome (V.content draft.old.view.now) (λ c. GrowsTable c per (B.bits bits.old) mirror.now table clusters.old draft.old.touched.items draft.new.touched.items t clusters.new)) }
     ensures bits { IfOk result (λ _. B.bits bits.new ≡ behind_table per (B.bits bits.old) table) }
     ensures space { GivesOrFails (λ _. tt) growth_space result (space_of per (B.bits bits.old) table) }
+    ensures full { IfErr (fits_room (grown_record per (B.bits bits.old) table)) (λ used. GivesOrFails (λ _. tt {0}) growth_room result (Err used)) }
     ensures short { count_by not (B.bits bits.old) < table_clusters → result ≡ Err (Short (count_by not (B.bits bits.old))) }
     ensures asks { AsksView V.content V.kept V.faults growth_cause draft.old.view.now draft.new.view.now result }
     ensures reference { draft.new.view.ghost_name ≡ draft.old.view.ghost_name }

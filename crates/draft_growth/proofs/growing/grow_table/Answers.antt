@@ -5,8 +5,10 @@ use Rattle.space_model.specs.Choosing.{chosen}
 use Rattle.stream_runs.specs.Runs.{last_cluster}
 use Rattle.draft_bitmaps.specs.declared.bitmap.Bitmap.{Bitmap}
 use Rattle.draft_bitmaps.specs.Bitmaps.{bit_count}
-use Rattle.draft_growth.specs.Growing.{table_clusters, table_records, record_count, bytes_for, more_for}
+use Rattle.draft_growth.specs.Growing.{table_clusters, table_records, record_count, bytes_for, more_for, grown_record}
+use Rattle.draft_records.specs.Records.{fits_room}
 use Rattle.draft_growth.proofs.Chosen.{chosen_inside}
+use Rattle.draft_growth.proofs.Fulls.{other_space, full_told, full_never, record_grown}
 use Rattle.draft_growth.proofs.Space.{behind, table_taken, records_ok, records_err, second_ok, second_err, other_fault}
 use Rattle.draft_growth.proofs.Joining.{table_grown}
 use Rattle.draft_growth.proofs.Tables.{length-with_runs, grows_in, has_room, taken_inside, more_inside}
@@ -83,3 +85,30 @@ pub returns-in_err-put_grown-clause-space : goal.returns-in_err-put_grown-clause
 returns-in_err-put_grown-clause-space g c =
     let p = err_from_is_err_and c.from_residual-in_err-put_grown.result c.from_residual-in_err-put_grown.ensures.1 in
     rw (p.1, p.2) (other_fault c.in_err-put_grown.field-0.0 _)
+
+pub returns-in_err-records-clause-full : goal.returns-in_err-records-clause-full
+returns-in_err-records-clause-full g c =
+    let p = err_from_is_err_and c.from_residual.result c.from_residual.ensures.1 in
+    rw (p.1, p.2) (other_space c.in_err-records.field-0.0 (fits_room (grown_record c.args.per (g.B.FreeBits.bits c.args.bits.now) c.args.table)))
+
+pub returns-in_err-longer-clause-full : goal.returns-in_err-longer-clause-full
+returns-in_err-longer-clause-full g c =
+    let p = err_from_is_err_and c.from_residual-in_err-longer.result c.from_residual-in_err-longer.ensures.1 in
+    rw (p.1, p.2) (other_space c.in_err-longer.field-0.0 (fits_room (grown_record c.args.per (g.B.FreeBits.bits c.args.bits.now) c.args.table)))
+
+pub returns-in_err-put_grown-clause-full : goal.returns-in_err-put_grown-clause-full
+returns-in_err-put_grown-clause-full g c =
+    let bits = g.B.FreeBits.bits c.args.bits.now in
+    let own = g.B.FreeBits.bits c.longer_data.new.bits in
+    let first = behind bits own c.args.table c.in_ok-records.records c.in_ok-records.ensures.value.taken c.in_ok-records.ensures.bits in
+    let same = record_grown c.args.per bits own c.args.table c.in_ok-records.records c.in_file-bitmap.result c.in_ok-longer.longer c.in_ok-records.ensures.value first c.in_file-bitmap.ensures c.in_ok-longer.ensures.value in
+    let p = err_from_is_err_and c.from_residual-in_err-put_grown.result c.from_residual-in_err-put_grown.ensures.1 in
+    rw (p.1, p.2) (full_told c.in_err-put_grown.field-0.0 c.in_ok-longer.longer.bitmap.file (grown_record c.args.per bits c.args.table) same c.in_err-put_grown.ensures.full)
+
+pub returns-clause-full : goal.returns-clause-full
+returns-clause-full g c =
+    let bits = g.B.FreeBits.bits c.args.bits.now in
+    let own = g.B.FreeBits.bits c.longer_data.new.bits in
+    let first = behind bits own c.args.table c.in_ok-records.records c.in_ok-records.ensures.value.taken c.in_ok-records.ensures.bits in
+    let same = record_grown c.args.per bits own c.args.table c.in_ok-records.records c.in_file-bitmap.result c.in_ok-longer.longer c.in_ok-records.ensures.value first c.in_file-bitmap.ensures c.in_ok-longer.ensures.value in
+    full_never _ c.in_ok-longer.longer.bitmap.file (grown_record c.args.per bits c.args.table) same c.in_ok-put_grown.ensures.full
