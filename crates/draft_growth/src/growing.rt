@@ -1,15 +1,15 @@
 //! A file table that grows.
-ghost use Rattle.std.specs.Prelude.{◌≡◌, ◌+◌, ◌/◌, ◌<◌, ◌≤◌, ◌^◌, true, false, Err, All, IfOk, IfErr, IfSome, OnOk, OnErr, not, count_by, length};
+ghost use Rattle.std.specs.Prelude.{◌≡◌, ◌+◌, ◌/◌, ◌<◌, ◌≤◌, ◌^◌, true, false, Err, All, IfOk, IfErr, IfSome, OnOk, not, count_by, length};
 ghost use Rattle.host_base.specs.Answers.{GivesOrFails};
 ghost use Rattle.block_view.specs.Views.{AsksView};
 ghost use Rattle.stream_runs.specs.Runs.{IsNear};
 ghost use Rattle.draft_records.specs.Faults.{draft_cause};
 ghost use Rattle.draft_records.specs.Records.{fits_room};
-ghost use Rattle.draft_bitmaps.specs.Bitmaps.{with_record, bit_count, IsBitmap, PutsBitsOf};
+ghost use Rattle.draft_bitmaps.specs.Bitmaps.{bit_count, IsBitmap};
 ghost use Rattle.draft_growth.specs.declared.fault.GrowthFault.TheVariants.{Short};
 ghost use Rattle.draft_growth.specs.Faults.{growth_cause, growth_space, growth_room};
-ghost use Rattle.draft_growth.specs.Clusters.{IsInside, PutsRunsOf};
-ghost use Rattle.draft_growth.specs.Growing.{behind_table, grown_record, space_of, table_clusters, table_records, record_count, IsTable, GrowsTable, bytes_for, in_file, IsLongerData, IsLonger, PutsTable, PutsOwners, PutsGrown};
+ghost use Rattle.draft_growth.specs.Clusters.{IsInside};
+ghost use Rattle.draft_growth.specs.Growing.{behind_table, grown_record, space_of, table_clusters, table_records, IsTable, GrowsTable, in_file, PutsTable, PutsOwners, PutsGrown};
 
 use crate::fault::GrowthFault;
 use crate::longer::{Longer, longer_bitmap, longer_data};

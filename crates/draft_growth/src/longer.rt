@@ -1,10 +1,10 @@
 //! Streams of record 0 that become longer: the records' own clusters, and the bitmap of their
 //! numbers.
-ghost use Rattle.std.specs.Prelude.{◌≡◌, ◌+◌, ◌-◌, ◌*◌, ◌/◌, ◌<◌, ◌≤◌, ◌^◌, [], ◌++◌, Err, All, IfOk, IfErr, IfSome, not, max, count_by, length};
+ghost use Rattle.std.specs.Prelude.{◌≡◌, ◌+◌, ◌-◌, ◌*◌, ◌/◌, ◌<◌, ◌≤◌, ◌^◌, [], ◌++◌, Err, All, IfOk, IfErr, not, max, count_by, length};
 ghost use Rattle.host_base.specs.Answers.{GivesOrFails};
 ghost use Rattle.disk_model.specs.Bytes.{zeros};
 ghost use Rattle.record_model.specs.Pairs.{cluster_limit, HasSpelling};
-ghost use Rattle.record_streams.specs.Fitting.{FitsButRoom, IsPlaceable};
+ghost use Rattle.record_streams.specs.Fitting.{FitsButRoom};
 ghost use Rattle.space_model.specs.Choosing.{chosen, with_runs};
 ghost use Rattle.plan_space.specs.declared.fault.SpaceFault.TheVariants.{Short, Memory as no_memory};
 ghost use Rattle.stream_runs.specs.Runs.{last_cluster, IsNear};
@@ -12,7 +12,7 @@ ghost use Rattle.state_model.specs.Loads.{total_clusters};
 ghost use Rattle.record_model.specs.Constants.{data_type};
 ghost use Rattle.record_streams.specs.Placing.{placed_record};
 ghost use Rattle.resized_streams.specs.Resizing.{clusters_for, with_sizes, IsGrown};
-ghost use Rattle.draft_bitmaps.specs.Bitmaps.{with_value, IsBitmap, IsShortPlaced};
+ghost use Rattle.draft_bitmaps.specs.Bitmaps.{with_value, IsBitmap};
 ghost use Rattle.state_model.specs.declared.stream.Stream.TheVariants.{Held, Placed};
 ghost use Rattle.draft_growth.specs.Faults.{space_cause};
 ghost use Rattle.draft_growth.specs.Growing.{wanted_for, space_for, table_clusters, larger, placed_in, roomier, with_room, more_for, MayGrow, MayGrowIn, IsTable, IsLonger, IsLongerData};

@@ -1,5 +1,5 @@
 //! Bits of the clusters of runs, in a bitmap wherever it stands.
-ghost use Rattle.std.specs.Prelude.{◌≡◌, ◌+◌, ◌<◌, ◌≤◌, ◌^◌, All, IfSome, OnOk, OnErr};
+ghost use Rattle.std.specs.Prelude.{◌≡◌, ◌+◌, ◌<◌, ◌≤◌, ◌^◌, All, IfSome, OnOk};
 ghost use Rattle.block_view.specs.Views.{AsksView};
 ghost use Rattle.stream_runs.specs.Runs.{IsNear};
 ghost use Rattle.draft_records.specs.Faults.{draft_cause};

@@ -1,9 +1,8 @@
 //! Records that come with a table that grows.
-ghost use Rattle.std.specs.Prelude.{◌≡◌, ◌+◌, ◌<◌, ◌≤◌, ◌^◌, IfOk, IfSome, OnOk, length};
+ghost use Rattle.std.specs.Prelude.{◌≡◌, ◌+◌, ◌<◌, ◌^◌, IfOk, IfSome, OnOk, length};
 ghost use Rattle.disk_model.specs.Bytes.{zeros};
 ghost use Rattle.block_view.specs.Views.{AsksView};
 ghost use Rattle.plan_draft.specs.Faults.{fault_cause};
-ghost use Rattle.draft_records.specs.Records.{record_block, touch_if};
 ghost use Rattle.draft_growth.specs.Growing.{with_empty, with_empty_records};
 
 use block_view::{View, ViewFault};
