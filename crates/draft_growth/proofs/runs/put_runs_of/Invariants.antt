@@ -1,0 +1,17 @@
+use Rattle.std.proofs.Common.{◌≡◌, drop}
+use Rattle.std.specs.Prelude.{IfSome}
+use Rattle.block_view.specs.Views.{KeepsView}
+use Rattle.draft_bitmaps.specs.Bitmaps.{bit_count, IsBitmap}
+use Rattle.draft_growth.proofs.Turns.{Leads}
+use Rattle.draft_growth.proofs.runs.put_runs_of.Given as goal
+
+-- what is put of the runs that are left leads to what is put of all
+abbrev pub invariant-loop-run : goal.invariant-loop-run
+invariant-loop-run g l = record {
+  leads : IfSome (g.V.View.content l.initial.draft.view.now) (λ c. Leads c l.per l.table l.mirror l.bit l.runs (drop l.run-index l.runs) l.initial.bitmap l.bitmap l.initial.draft.touched.items l.draft.touched.items);
+  stands : IsBitmap l.bitmap;
+  count : bit_count l.bitmap.stream ≡ bit_count l.initial.bitmap.stream;
+  kept : KeepsView g.V.View.content g.V.View.kept g.V.View.faults l.initial.draft.view.now l.draft.view.now;
+  counted : g.V.View.faults l.draft.view.now ≡ g.V.View.faults l.initial.draft.view.now;
+  reference : l.draft.view.ghost_name ≡ l.initial.draft.view.ghost_name;
+}

@@ -1,0 +1,5 @@
+pub mod Faults
+pub mod Clusters
+pub mod Growing
+pub mod Taking
+pub mod Effects

@@ -1,0 +1,25 @@
+//! A file table that grows in a plan while it is made: by 64 clusters and 256 records, with its
+//! bitmap and the bits of the clusters; and numbers that are taken of it.
+#![tactic(auto)]
+
+mod fault;
+mod growing;
+mod laws;
+mod longer;
+mod numbers;
+mod runs;
+mod table;
+mod zeros;
+
+pub use block_view::View;
+pub use draft_bitmaps::Bitmap;
+pub use fault::GrowthFault;
+pub use growing::grow_table;
+pub use host_base::FileRef;
+pub use laws::grown_is_read;
+pub use numbers::take_number_of;
+pub use plan_draft::Draft;
+pub use plan_space::FreeBits;
+pub use runs::put_runs_of;
+pub use state_model::{ClusterSize, Extents, Stream};
+pub use table::Table;

@@ -1,0 +1,285 @@
+//! Streams of record 0 that become longer: the records' own clusters, and the bitmap of their
+//! numbers.
+ghost use Rattle.std.specs.Prelude.{◌≡◌, ◌+◌, ◌-◌, ◌*◌, ◌/◌, ◌<◌, ◌≤◌, ◌^◌, [], ◌++◌, Err, All, IfOk, IfErr, not, max, count_by, length};
+ghost use Rattle.host_base.specs.Answers.{GivesOrFails};
+ghost use Rattle.disk_model.specs.Bytes.{zeros};
+ghost use Rattle.record_model.specs.Pairs.{cluster_limit, HasSpelling};
+ghost use Rattle.record_streams.specs.Fitting.{FitsButRoom};
+ghost use Rattle.space_model.specs.Choosing.{chosen, with_runs};
+ghost use Rattle.plan_space.specs.declared.fault.SpaceFault.TheVariants.{Short, Memory as no_memory};
+ghost use Rattle.stream_runs.specs.Runs.{last_cluster, IsNear};
+ghost use Rattle.state_model.specs.Loads.{total_clusters};
+ghost use Rattle.record_model.specs.Constants.{data_type};
+ghost use Rattle.record_streams.specs.Placing.{placed_record};
+ghost use Rattle.resized_streams.specs.Resizing.{clusters_for, with_sizes, IsGrown};
+ghost use Rattle.draft_bitmaps.specs.Bitmaps.{with_value, IsBitmap};
+ghost use Rattle.state_model.specs.declared.stream.Stream.TheVariants.{Held, Placed};
+ghost use Rattle.draft_growth.specs.Faults.{space_cause};
+ghost use Rattle.draft_growth.specs.Growing.{wanted_for, space_for, table_clusters, larger, placed_in, roomier, with_room, more_for, MayGrow, MayGrowIn, IsTable, IsLonger, IsLongerData};
+
+use crate::table::Table;
+use crate::zeros::zero_bytes;
+use draft_bitmaps::Bitmap;
+use host_base::{Bytes, Memory};
+use plan_space::{FreeBits, SpaceFault};
+use record_model::{DATA, Run};
+use record_values::valued_record;
+use resized_streams::{Resized, grow, sized};
+use state_model::{ClusterSize, Extents, Stream};
+use std::alloc::{AllocError, Global};
+use stream_runs::total_clusters;
+
+/// A bitmap that has become longer, and the clusters that it took.
+#[derive(Debug, Drop)]
+pub struct Longer {
+    pub bitmap: Bitmap,
+    pub taken: Vec<Run>,
+}
+
+// How many clusters the file table grows by, and how many bytes of records.
+const TABLE_CLUSTERS: u64 = 64;
+
+const TABLE_BYTES: u64 = 262_144;
+
+// The records' stream with these clusters, and of a size that has 256 records more.
+fn larger_data(alloc: Global, per: ClusterSize, grown: Resized) -> Result<Resized, SpaceFault>
+    requires spelled { HasSpelling 0 grown.extents.runs }
+    requires few { length grown.extents.runs ≤ 2 ^ 16 }
+    requires fits { FitsButRoom grown.file }
+    requires real { grown.extents.real < 2 ^ 50 }
+    requires initialised { grown.extents.initialised < 2 ^ 50 }
+    ensures extents { IfOk result (λ z. z.extents ≡ larger grown.extents) }
+    ensures file { IfOk result (λ z. z.file ≡ placed_record per data_type [] (larger grown.extents) grown.file) }
+    ensures taken { IfOk result (λ z. z.taken ≡ grown.taken) }
+    ensures fits { IfOk result (λ z. FitsButRoom z.file) }
+    ensures memory { IfErr result (λ e. e ≡ no_memory) }
+{
+    let real = grown.extents.real + TABLE_BYTES;
+    let initialised = grown.extents.initialised + TABLE_BYTES;
+    let larger = sized(
+        alloc,
+        per,
+        DATA,
+        &[],
+        &grown.extents,
+        &grown.file,
+        real,
+        initialised,
+    )?;
+    Ok(Resized {
+        file: larger.file,
+        extents: larger.extents,
+        taken: grown.taken,
+        freed: grown.freed,
+    })
+}
+
+// The records' stream with 64 clusters more and 256 records more, as record 0 then has it.
+pub fn longer_data<B: FreeBits>(
+    alloc: Global,
+    per: ClusterSize,
+    bits: &mut B,
+    table: &Table,
+) -> Result<Resized, SpaceFault>
+    requires table { IsTable (length (B.bits bits.old)) table.now }
+    ensures value { IfOk result (λ z. IsLongerData per table.now (chosen (B.bits bits.old) (last_cluster table.now.extents.runs) table_clusters) z) }
+    ensures bits { IfOk result (λ z. B.bits bits.new ≡ with_runs z.taken.items (B.bits bits.old)) }
+    ensures short { count_by not (B.bits bits.old) < table_clusters → result ≡ Err (Short (count_by not (B.bits bits.old))) }
+    ensures enough { table_clusters ≤ count_by not (B.bits bits.old) → IfErr result (λ e. e ≡ no_memory) }
+    ensures fits { IfOk result (λ z. FitsButRoom z.file) }
+    ensures near { IfOk result (λ z. All IsNear z.taken.items) }
+{
+    let grown = grow(
+        alloc,
+        per,
+        bits,
+        DATA,
+        &[],
+        &table.extents,
+        &table.bitmap.file,
+        TABLE_CLUSTERS,
+    )?;
+    let larger = larger_data(alloc, per, grown)?;
+    Ok(larger)
+}
+
+// A copy of the value with zeros behind it, so that it has as many bytes.
+fn longer_value(alloc: Global, value: &[u8], size: u64) -> Result<Bytes, AllocError>
+    requires short { length value.now ≤ 2 ^ 15 }
+    requires size { size ≤ 2 ^ 16 }
+    ensures value { IfOk result (λ bytes. bytes ≡ value.now ++ zeros (size - length value.now)) }
+    ensures short { IfOk result (λ bytes. length bytes ≤ 2 ^ 16) }
+{
+    let more = zero_bytes(alloc, (size as usize).saturating_sub(value.len()))?;
+    let mut bytes = Vec::from_slice(alloc, value)?;
+    bytes.extend_from_slice(&more)?;
+    Ok(Bytes::from(bytes))
+}
+
+// The bitmap with a longer value.
+fn longer_held(alloc: Global, bitmap: &Bitmap, value: &[u8], size: u64) -> Result<Longer, Memory>
+    requires stands { IsBitmap bitmap.now }
+    requires short { length value.now ≤ 2 ^ 15 }
+    requires size { size ≤ 2 ^ 16 }
+    ensures bitmap { IfOk result (λ l. l.bitmap ≡ with_value (value.now ++ zeros (size - length value.now)) bitmap.now) }
+    ensures taken { IfOk result (λ l. l.taken.items ≡ []) }
+    ensures stands { IfOk result (λ l. IsBitmap l.bitmap) }
+{
+    let bytes = longer_value(alloc, value, size)?;
+    let file = valued_record(alloc, bitmap.kind, &[], bytes.as_slice(), &bitmap.file)?;
+    Ok(Longer {
+        bitmap: Bitmap {
+            number: bitmap.number,
+            kind: bitmap.kind,
+            file,
+            stream: Stream::Held(bytes),
+        },
+        taken: Vec::new(alloc),
+    })
+}
+
+// The bitmap with the clusters that it took, and of at least this size.
+fn roomier(
+    alloc: Global,
+    per: ClusterSize,
+    bitmap: &Bitmap,
+    size: u64,
+    grown: Resized,
+) -> Result<Longer, Memory>
+    requires stands { IsBitmap bitmap.now }
+    requires spelled { HasSpelling 0 grown.extents.runs }
+    requires few { length grown.extents.runs ≤ 2 ^ 16 }
+    requires fits { FitsButRoom grown.file }
+    requires initialised { grown.extents.initialised < 2 ^ 61 }
+    ensures bitmap { IfOk result (λ l. l.bitmap ≡ placed_in per (with_sizes (max grown.extents.real size) grown.extents.initialised grown.extents) grown.file bitmap.now) }
+    ensures taken { IfOk result (λ l. l.taken ≡ grown.taken) }
+    ensures stands { IfOk result (λ l. IsBitmap l.bitmap) }
+{
+    let kind = bitmap.kind;
+    let extents = &grown.extents;
+    let real = extents.real.max(size);
+    let new = sized(
+        alloc,
+        per,
+        kind,
+        &[],
+        extents,
+        &grown.file,
+        real,
+        extents.initialised,
+    )?;
+    Ok(Longer {
+        bitmap: Bitmap {
+            number: bitmap.number,
+            kind,
+            file: new.file,
+            stream: Stream::Placed(new.extents),
+        },
+        taken: grown.taken,
+    })
+}
+
+// How many clusters have so many bytes.
+fn clusters_for(per: ClusterSize, size: u64) -> u64
+    requires { size < 2 ^ 63 }
+    ensures value { result ≡ clusters_for per size }
+    ensures few { result ≤ size / 512 + 1 }
+{
+    let bytes = 512 * per.sectors();
+    (size + (bytes - 1)) / bytes
+}
+
+// The clusters that a bitmap wants for so many bytes, taken.
+fn wider<B: FreeBits>(
+    alloc: Global,
+    per: ClusterSize,
+    bits: &mut B,
+    bitmap: &Bitmap,
+    extents: &Extents,
+    size: u64,
+) -> Result<Resized, SpaceFault>
+    requires stands { IsBitmap bitmap.now }
+    requires few { length (B.bits bits.old) ≤ cluster_limit }
+    requires stream { MayGrow (length (B.bits bits.old)) extents.now }
+    requires size { size ≤ 2 ^ 19 }
+    ensures value { IfOk result (λ z. IsGrown per bitmap.now.kind [] extents.now bitmap.now.file (more_for per size (B.bits bits.old) (Placed extents.now)) z) }
+    ensures bits { IfOk result (λ z. B.bits bits.new ≡ with_runs z.taken.items (B.bits bits.old)) }
+    ensures space { GivesOrFails (λ _. tt) space_cause result (space_for (wanted_for per size (Placed extents.now)) (B.bits bits.old)) }
+    ensures near { IfOk result (λ z. All IsNear z.taken.items) }
+    ensures fits { IfOk result (λ z. FitsButRoom z.file) }
+    ensures spelled { IfOk result (λ z. HasSpelling 0 z.extents.runs) }
+    ensures few { IfOk result (λ z. length z.extents.runs ≤ 2 ^ 16) }
+{
+    let has = total_clusters(extents.runs.as_slice());
+    let wanted = clusters_for(per, size).saturating_sub(has);
+    grow(
+        alloc,
+        per,
+        bits,
+        bitmap.kind,
+        &[],
+        extents,
+        &bitmap.file,
+        wanted,
+    )
+}
+
+// The bitmap in clusters with as many more as it needs for so many bytes.
+fn longer_placed<B: FreeBits>(
+    alloc: Global,
+    per: ClusterSize,
+    bits: &mut B,
+    bitmap: &Bitmap,
+    extents: &Extents,
+    size: u64,
+) -> Result<Longer, SpaceFault>
+    requires stands { IsBitmap bitmap.now }
+    requires few { length (B.bits bits.old) ≤ cluster_limit }
+    requires stream { MayGrow (length (B.bits bits.old)) extents.now }
+    requires size { size ≤ 2 ^ 19 }
+    ensures value { IfOk result (λ l. l.bitmap ≡ with_room per size (more_for per size (B.bits bits.old) (Placed extents.now)) (Placed extents.now) bitmap.now) }
+    ensures taken { IfOk result (λ l. l.taken.items ≡ more_for per size (B.bits bits.old) (Placed extents.now)) }
+    ensures bits { IfOk result (λ l. B.bits bits.new ≡ with_runs l.taken.items (B.bits bits.old)) }
+    ensures space { GivesOrFails (λ _. tt) space_cause result (space_for (wanted_for per size (Placed extents.now)) (B.bits bits.old)) }
+    ensures stands { IfOk result (λ l. IsBitmap l.bitmap) }
+    ensures near { IfOk result (λ l. All IsNear l.taken.items) }
+{
+    let has = total_clusters(extents.runs.as_slice());
+    let wanted = clusters_for(per, size).saturating_sub(has);
+    let grown = grow(
+        alloc,
+        per,
+        bits,
+        bitmap.kind,
+        &[],
+        extents,
+        &bitmap.file,
+        wanted,
+    )?;
+    let longer = roomier(alloc, per, bitmap, size, grown)?;
+    Ok(longer)
+}
+
+// The bitmap with room for so many bytes, wherever it stands.
+pub fn longer_bitmap<B: FreeBits>(
+    alloc: Global,
+    per: ClusterSize,
+    bits: &mut B,
+    bitmap: &Bitmap,
+    size: u64,
+) -> Result<Longer, SpaceFault>
+    requires stands { IsBitmap bitmap.now }
+    requires few { length (B.bits bits.old) ≤ cluster_limit }
+    requires stream { MayGrowIn (length (B.bits bits.old)) size bitmap.now.stream }
+    requires size { size ≤ 2 ^ 19 }
+    ensures value { IfOk result (λ l. IsLonger per size (B.bits bits.old) bitmap.now l) }
+    ensures bits { IfOk result (λ l. B.bits bits.new ≡ with_runs l.taken.items (B.bits bits.old)) }
+    ensures space { GivesOrFails (λ _. tt) space_cause result (space_for (wanted_for per size bitmap.now.stream) (B.bits bits.old)) }
+    ensures stands { IfOk result (λ l. IsBitmap l.bitmap) }
+    ensures near { IfOk result (λ l. All IsNear l.taken.items) }
+{
+    match &bitmap.stream {
+        Stream::Held(value) => Ok(longer_held(alloc, bitmap, value.as_slice(), size)?),
+        Stream::Placed(extents) => longer_placed(alloc, per, bits, bitmap, extents, size),
+    }
+}
