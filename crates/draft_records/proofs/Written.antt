@@ -14,22 +14,10 @@ use Rattle.record_model.proofs.RecordSpelling.{length-record_spelling}
 use Rattle.record_writer.specs.Edits.{form_length}
 use Rattle.record_writer.specs.Normal.{normal, normal_record}
 use Rattle.record_writer.specs.NormalLaws.{FitsByRoom}
-use Rattle.record_writer.proofs.Measures.{length-spelling}
+use Rattle.record_writer.proofs.Measures.{spelled_count}
 use Rattle.draft_records.specs.Records.{is_name, name_count, with_normal, written_record, written_bytes, fits_room, body_of_record}
 
 -- ---- how many attributes there are
-
-form_long : (name : ℕ) (form : OwnForm) → 24 ≤ form_length name form
-form_long name (Resident value indexed) = omega arith
-form_long name (Mapped sizes pairs) = omega arith
-
-spelled_count : (attrs : List Attr) → 24 * length attrs ≤ spelled_bytes attrs
-spelled_count [] = omega arith
-spelled_count (a ∷ attrs) =
-    let rest = spelled_count attrs in
-    let size = length-spelling a in
-    let long = form_long (length a.name) a.form in
-    omega (arith, rest, size, long)
 
 pub few_names : (attrs : List Attr) → used_of (map normal attrs) ≤ 1024 → name_count attrs < 2 ^ 16
 few_names attrs short =

@@ -4,6 +4,7 @@ ghost use Rattle.block_view.specs.Views.{AsksView};
 ghost use Rattle.state_model.specs.Loads.{table_extents};
 ghost use Rattle.plan_draft.specs.Drafts.{drafted};
 ghost use Rattle.plan_draft.specs.Faults.{fault_cause};
+ghost use Rattle.record_streams.specs.Fitting.{FitsButRoom};
 ghost use Rattle.draft_records.specs.Records.{is_past, read_in, file_of};
 
 use crate::records::record_of;
@@ -33,6 +34,7 @@ fn read_in<V: View>(
 ) -> Result<Option<FileRec>, ViewFault>
     requires { block.kind ≡ BlockKind.FileRec }
     ensures file { IfSome (V.content draft.old.view.now) (λ c. IfOk result (λ file. file ≡ read_in (drafted draft.old.touched.items c) block)) }
+    ensures fits { IfOk result (λ file. IfSome file FitsButRoom) }
     ensures touched { draft.new.touched.items ≡ draft.old.touched.items }
     ensures asks { AsksView V.content V.kept V.faults fault_cause draft.old.view.now draft.new.view.now result }
     ensures reference { draft.new.view.ghost_name ≡ draft.old.view.ghost_name }
@@ -45,7 +47,8 @@ fn read_in<V: View>(
 /// The record of that number as it is now in the draft, in a file table of these extents and of
 /// `per` sectors a cluster; none where it isn't in use, breaks one of the rules 1 to 6 and 8, or
 /// lies wholly past the table's initialised size. What the table has as a record in use is read, as
-/// [`reads_the_table`](crate::reads_the_table) says.
+/// [`reads_the_table`](crate::reads_the_table) says; it has a spelling but for its room, so that a
+/// stream of it can be placed, and it can be put again.
 ///
 /// - [`ViewFault::Fault`]: the view failed, which is asked where the record wasn't touched.
 /// - [`ViewFault::Memory`]: want of memory.
@@ -60,6 +63,7 @@ pub fn file<V: View>(
 ) -> Result<Option<FileRec>, ViewFault>
     requires number { number < 2 ^ 48 }
     ensures file { IfSome (V.content draft.old.view.now) (λ c. IfOk result (λ file. file ≡ file_of (drafted draft.old.touched.items c) per table.now number)) }
+    ensures fits { IfOk result (λ file. IfSome file FitsButRoom) }
     ensures touched { draft.new.touched.items ≡ draft.old.touched.items }
     ensures asks { AsksView V.content V.kept V.faults fault_cause draft.old.view.now draft.new.view.now result }
     ensures reference { draft.new.view.ghost_name ≡ draft.old.view.ghost_name }

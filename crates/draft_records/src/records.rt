@@ -4,6 +4,7 @@ ghost use Rattle.disk_model.specs.declared.block.BlockKind.TheVariants.{FileRec 
 ghost use Rattle.disk_model.specs.Content.{is_signed};
 ghost use Rattle.record_model.specs.Records.{record_at, record_spelling, FitsRecord};
 ghost use Rattle.record_writer.specs.NormalLaws.{FitsByRoom};
+ghost use Rattle.record_streams.specs.Fitting.{FitsButRoom};
 ghost use Rattle.record_writer.specs.Faults.{room_cause};
 ghost use Rattle.host_base.specs.Answers.{Gives};
 ghost use Rattle.state_model.specs.Loads.{slot_by, slot_in, used_record, is_used};
@@ -38,6 +39,7 @@ fn is_used(body: &[u8]) -> bool
 fn read_record(alloc: Global, body: &[u8]) -> Result<Option<FileRec>, AllocError>
     requires { length body.now ≡ 1024 }
     ensures { IfOk result (λ file. file ≡ used_record (slot_in (record_at body.now))) }
+    ensures fits { IfOk result (λ file. IfSome file FitsButRoom) }
 {
     match FileRec::read(alloc, body) {
         Ok(file) => Ok(Some(file)),
@@ -52,6 +54,7 @@ fn read_record(alloc: Global, body: &[u8]) -> Result<Option<FileRec>, AllocError
 pub fn record_of(alloc: Global, body: &Body) -> Result<Option<FileRec>, AllocError>
     requires { length body.now.bytes ≡ 1024 }
     ensures { IfOk result (λ file. file ≡ used_record (slot_by record_at body.now)) }
+    ensures fits { IfOk result (λ file. IfSome file FitsButRoom) }
 {
     if body.torn() {
         return Ok(None);

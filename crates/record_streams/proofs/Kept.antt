@@ -5,29 +5,18 @@ use Rattle.std.proofs.lemmas.Bool.{cases_Bool}
 use Rattle.std.proofs.lemmas.List.{length-map}
 use Rattle.std.proofs.lemmas.List.Elements.{All-nil, All-cons, All-head, All-tail, All-filter, All-map, All-weaker}
 use Rattle.record_model.specs.declared.attribute.Attr.{Attr}
-use Rattle.record_model.specs.declared.attribute.OwnForm.{OwnForm}
-use Rattle.record_model.specs.declared.attribute.OwnForm.TheVariants.{Resident, Mapped}
 use Rattle.record_model.specs.Attributes.{spelling, FitsAttr}
 use Rattle.record_model.specs.Constants.{end_mark}
 use Rattle.record_model.specs.Records.{Record, spelled_bytes, used_of, TypesRise, FitsRecord}
 use Rattle.record_model.specs.Values.{has_lawful_value}
-use Rattle.record_writer.specs.Edits.{form_length}
 use Rattle.record_writer.specs.Normal.{normal, normal_record}
 use Rattle.record_writer.specs.NormalLaws.{FitsByRoom}
-use Rattle.record_writer.proofs.Measures.{length-spelling}
+use Rattle.record_writer.proofs.Measures.{spelled_count}
 use Rattle.state_model.specs.Streams.{first_vcn, is_attribute_of, with_attribute, sorted_into, attributes_of}
 use Rattle.record_streams.specs.Placing.{without_stream, with_stream}
 use Rattle.record_streams.specs.Fitting.{IsShort, FitsButRoom}
 
 -- ---- what has a spelling but for its room
-
-form_long : (name : ℕ) (form : OwnForm) → 24 ≤ form_length name form
-form_long name (Resident value indexed) = omega arith
-form_long name (Mapped sizes pairs) = omega arith
-
-spelled_count : (attrs : List Attr) → 24 * length attrs ≤ spelled_bytes attrs
-spelled_count [] = omega arith
-spelled_count (a ∷ attrs) = omega (arith, spelled_count attrs, length-spelling a, form_long (length a.name) a.form)
 
 abbrev HasKind : Attr → Type 0
 HasKind a = a.head.kind < end_mark

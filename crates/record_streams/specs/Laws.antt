@@ -1,8 +1,9 @@
 -- What a record keeps in which a stream is placed.
-use Rattle.std.specs.Prelude.{◌≡◌, ◌≢◌, ◌⊎◌, ℕ, ◌+◌, ◌<◌, ◌≤◌, ◌^◌, List, [], ◌∷◌, length, Some}
+use Rattle.std.specs.Prelude.{◌≡◌, ◌≢◌, ◌⊎◌, ℕ, ◌+◌, ◌<◌, ◌≤◌, ◌^◌, List, [], ◌∷◌, length, Some, Ok}
+use Rattle.disk_model.specs.Bytes.{AreBytes}
 use Rattle.record_model.specs.declared.attribute.Attr.{Attr}
 use Rattle.record_model.specs.Pairs.{HasSpelling}
-use Rattle.record_model.specs.Records.{Record, FitsRecord}
+use Rattle.record_model.specs.Records.{Record, record_at, FitsRecord}
 use Rattle.record_writer.specs.Normal.{normal_record}
 use Rattle.record_writer.specs.NormalLaws.{FitsByRoom}
 use Rattle.state_model.specs.declared.stream.Extents.{Extents}
@@ -11,9 +12,11 @@ use Rattle.state_model.specs.Streams.{attributes_of, stream_of}
 use Rattle.record_streams.specs.Placing.{placed_attr, placed_record}
 use Rattle.record_streams.specs.Fitting.{FitsButRoom}
 
--- A record that has a spelling has one but for its room; and one that has one but for its room has one exactly where it has room.
+-- A record that has a spelling has one but for its room; so does one that is read of a body, of which the normal form may use more than the
+-- body's bytes; and one that has one but for its room has one exactly where it has room.
 pub record PlacedFits : Type 0 where
   pub spelled : (r : Record) → FitsRecord (normal_record r) → FitsButRoom r
+  pub read : (body : List ℕ) (r : Record) → length body ≡ 1024 → AreBytes body → record_at body ≡ Ok r → FitsButRoom r
   pub by_room : (r : Record) → FitsButRoom r → FitsByRoom r
 
 -- The stream stands in one attribute, with these runs and sizes. Other streams stay, and what is read of attributes of other types.

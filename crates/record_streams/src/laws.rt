@@ -1,7 +1,8 @@
 //! The laws of these definitions.
 ghost use Rattle.record_streams.specs.Laws.{PlacedFits, StreamsArePlaced};
 
-/// Law: a record that has a spelling but for its room keeps one where a stream is placed.
+/// Law: a record that was read has a spelling but for its room, as one that has a spelling; and where
+/// it has room it has one.
 pub fn placed_fits()
     ensures { PlacedFits }
 {}

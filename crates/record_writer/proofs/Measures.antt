@@ -1,5 +1,5 @@
 -- How many bytes spellings take.
-use Rattle.std.proofs.Common.{◌≡◌, ℕ, ◌+◌, ◌^◌, ◌<◌, ◌≤◌, Bool, true, false, List, [], ◌∷◌, ◌++◌, length, take, drop, get_or, Option, Some, None, Ok, Err, refl, sym, ap, ◌∙◌, arith}
+use Rattle.std.proofs.Common.{◌≡◌, ℕ, ◌+◌, ◌*◌, ◌^◌, ◌<◌, ◌≤◌, Bool, true, false, List, [], ◌∷◌, ◌++◌, length, take, drop, get_or, Option, Some, None, Ok, Err, refl, sym, ap, ◌∙◌, arith}
 use Rattle.std.specs.Prelude.{is_some, if◌then◌else◌, nat_le}
 use Rattle.std.specs.List.{flat_map}
 use Rattle.std.proofs.lemmas.Bool.{le-leb, lt-leb}
@@ -32,6 +32,15 @@ form_spelled a (Mapped sizes pairs) = length-mapped_spelling a sizes pairs
 
 pub length-spelling : (a : Attr) → length (spelling a) ≡ form_length (length a.name) a.form
 length-spelling a = form_spelled a a.form
+
+pub form_long : (name : ℕ) (form : OwnForm) → 24 ≤ form_length name form
+form_long name (Resident value indexed) = omega arith
+form_long name (Mapped sizes pairs) = omega arith
+
+-- attributes take 24 bytes each, or more
+pub spelled_count : (attrs : List Attr) → 24 * length attrs ≤ spelled_bytes attrs
+spelled_count [] = omega arith
+spelled_count (a ∷ attrs) = omega (arith, spelled_count attrs, length-spelling a, form_long (length a.name) a.form)
 
 -- the attributes before a place, and the one there, take no more than all
 pub spelled_part : (attrs : List Attr) (i : ℕ) (d : Attr) → i < length attrs → spelled_bytes (take i attrs) + length (spelling (get_or attrs i d)) ≤ spelled_bytes attrs

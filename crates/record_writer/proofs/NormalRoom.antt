@@ -23,7 +23,7 @@ use Rattle.state_model.specs.Loads.{has_all_pairs, whole_record}
 use Rattle.record_writer.specs.Edits.{form_length}
 use Rattle.record_writer.specs.Normal.{normal_form, normal}
 use Rattle.record_writer.specs.NormalLaws.{FitsByRoom, NormalFitsByRoom}
-use Rattle.record_writer.proofs.Measures.{held_short, length-spelling}
+use Rattle.record_writer.proofs.Measures.{form_long, held_short, length-spelling}
 
 -- ---- bytes
 
@@ -112,12 +112,13 @@ attr_fits s a each short is =
       bytes = omega (arith, length-spelling (normal a), form.bytes);
     }
 
-record EachFits (size : ℕ) (attrs : List Attr) : Type 0 where
-  fits : AllByRecursion FitsAttr (map normal attrs)
-  bytes : spelled_bytes (map normal attrs) ≤ 100 * size
+pub record EachFits (size : ℕ) (attrs : List Attr) : Type 0 where
+  pub fits : AllByRecursion FitsAttr (map normal attrs)
+  pub bytes : spelled_bytes (map normal attrs) ≤ 100 * size
+  pub few : length attrs ≤ size
 
 each_fits : (spellings : List (List ℕ)) (attrs : List Attr) (behind : List ℕ) → AreBytes (concat spellings ++ behind) → length (concat spellings) ≤ 1024 → SpellEach spellings attrs → EachFits (length (concat spellings)) attrs
-each_fits [] [] behind bytes short each = record { fits = tt; bytes = omega arith }
+each_fits [] [] behind bytes short each = record { fits = tt; bytes = omega arith; few = omega arith }
 each_fits [] (a ∷ attrs) behind bytes short each = absurd each
 each_fits (s ∷ spellings) [] behind bytes short each = absurd each
 each_fits (s ∷ spellings) (a ∷ attrs) behind bytes short each =
@@ -125,11 +126,13 @@ each_fits (s ∷ spellings) (a ∷ attrs) behind bytes short each =
     let size = length-append s (concat spellings) in
     let here = attr_fits s a (front_bytes s (concat spellings ++ behind) whole) (omega (arith, size)) each.0 in
     let later = each_fits spellings attrs behind (back_bytes s (concat spellings ++ behind) whole) (omega (arith, size)) each.1 in
-    record { fits = (here.fits, later.fits); bytes = omega (arith, size, here.bytes, later.bytes) }
+    let long = form_long (length a.name) (normal_form a.form) in
+    let some : 1 ≤ length s = omega (arith, here.bytes, length-spelling (normal a), long) in
+    record { fits = (here.fits, later.fits); bytes = omega (arith, size, here.bytes, later.bytes); few = omega (arith, size, some, later.few) }
 
 -- ---- the record
 
-head_fits : (body : List ℕ) → AreBytes body → FitsHead (rec_head_of body)
+pub head_fits : (body : List ℕ) → AreBytes body → FitsHead (rec_head_of body)
 unfolding rec_head_of
 head_fits body each = record {
   lsn = field-lt 0x08 8 body each;
@@ -154,23 +157,28 @@ resident_stays test (Mapped sizes pairs) = refl
 lawful_by : ℕ → Bool → Bool → Bool
 lawful_by kind information name = cond (eqb kind 0x10) information (cond (eqb kind 0x30) name true)
 
-lawful_stays : (a : Attr) → has_lawful_value (normal a) ≡ has_lawful_value a
+pub lawful_stays : (a : Attr) → has_lawful_value (normal a) ≡ has_lawful_value a
 unfolding has_lawful_value lawful_by
 lawful_stays a =
     ap (λ (b : Bool). lawful_by a.head.kind b (is_resident_and is_file_name (normal_form a.form))) (resident_stays is_standard_information a.form)
     ∙ ap (λ (b : Bool). lawful_by a.head.kind (is_resident_and is_standard_information a.form) b) (resident_stays is_file_name a.form)
 
-by_room : (body : List ℕ) (r : Record) → length body ≡ 1024 → AreBytes body → IsFileRecord body r → FitsByRoom r
-by_room body r long each t =
-    let behind = t.placed in
+-- the attributes of a record that is read, of which there are no more than it has bytes
+pub read_fits : (body : List ℕ) (r : Record) → length body ≡ 1024 → AreBytes body → IsFileRecord body r → EachFits 1024 r.attrs
+read_fits body r long each t =
     let size = ap length t.placed ∙ length-append (concat t.spellings) _ in
     let short = attribute_bytes_short body in
     let within : length (concat t.spellings) ≤ 1024 = omega (arith, size, short, long) in
     let fit = each_fits t.spellings r.attrs _ (subst AreBytes t.placed (AreBytes-attribute_bytes body each)) within t.spelled in
+    record { fits = fit.fits; bytes = omega (arith, within, fit.bytes); few = omega (arith, within, fit.few) }
+
+by_room : (body : List ℕ) (r : Record) → length body ≡ 1024 → AreBytes body → IsFileRecord body r → FitsByRoom r
+by_room body r long each t =
+    let fit = read_fits body r long each t in
     let attrs = All-from_recursion FitsAttr (map normal r.attrs) fit.fits in
     record {
       attrs = attrs;
-      countable = omega (arith, fit.bytes, within);
+      countable = omega (arith, fit.bytes);
       fits = (
         λ fits. fits.used,
         λ room. record {
