@@ -1,5 +1,5 @@
 -- Records that have a spelling are normal.
-use Rattle.std.proofs.Common.{◌≡◌, ℕ, ◌+◌, ◌-◌, ◌*◌, ◌/◌, ◌%◌, ◌<◌, ◌≤◌, ◌^◌, List, [], ◌∷◌, ◌++◌, length, replicate, refl, sym, ap, subst, ◌∙◌, arith}
+use Rattle.std.proofs.Common.{◌≡◌, ℕ, ◌+◌, ◌-◌, ◌%◌, ◌≤◌, List, [], ◌∷◌, ◌++◌, length, replicate, refl, sym, ap, subst, ◌∙◌, arith}
 use Rattle.std.specs.Prelude.{map, All}
 use Rattle.std.proofs.lemmas.List.{append-nil}
 use Rattle.std.proofs.lemmas.List.Elements.{All-head, All-tail}
@@ -8,9 +8,8 @@ use Rattle.record_model.specs.declared.attribute.Attr.{Attr}
 use Rattle.record_model.specs.declared.attribute.OwnForm.{OwnForm}
 use Rattle.record_model.specs.declared.attribute.OwnForm.TheVariants.{Resident, Mapped}
 use Rattle.record_model.specs.Attributes.{filled, FitsAttr, FitsForm}
-use Rattle.record_model.specs.Records.{Record, used_of, FitsRecord}
-use Rattle.record_writer.specs.Normal.{normal, normal_form, normal_record}
-use Rattle.record_writer.specs.NormalLaws.{FitsByRoom}
+use Rattle.record_model.specs.Records.{used_of, FitsRecord}
+use Rattle.record_writer.specs.Normal.{normal, normal_form}
 use Rattle.draft_records.specs.Records.{SpelledFitsByRoom}
 
 pairs_same : (pairs : List ℕ) → length pairs % 8 ≡ 0 → filled 0 pairs ≡ pairs

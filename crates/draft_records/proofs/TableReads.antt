@@ -1,15 +1,13 @@
 -- What a table has as a record in use is read as this record.
-use Rattle.std.proofs.Common.{◌≡◌, ℕ, ◌*◌, Bool, true, false, cond, leb, List, Option, Some, None, Result, Ok, Err, refl, sym, ap, ◌∙◌, inl, inr}
-use Rattle.std.proofs.lemmas.Bool.{cases_Bool}
+use Rattle.std.proofs.Common.{◌≡◌, ℕ, Bool, true, false, cond, List, Option, Some, None, Result, Ok, Err, ap, ◌∙◌}
 use Rattle.host_base.specs.Answers.{◌>>=◌, needs}
 use Rattle.disk_model.specs.declared.block.Block.{Block}
 use Rattle.disk_model.specs.Bodies.{BodyOf}
 use Rattle.disk_model.specs.Content.{Content}
 use Rattle.record_model.specs.Records.{Record, record_at, shaped_at, has_lawful_values}
 use Rattle.record_model.proofs.Shapes.{is_shaped}
-use Rattle.state_model.specs.declared.stream.Extents.{Extents}
-use Rattle.state_model.specs.Loads.{Slot, Torn, Free, Broken, Used, slot_in, slot_by, slot_of, slot_at, is_used, used_record, whole_record, has_all_pairs, table_slot}
-use Rattle.draft_records.specs.Records.{record_block, is_past, read_in, file_in, file_of, ReadsTheTable}
+use Rattle.state_model.specs.Loads.{Slot, Torn, Free, slot_in, slot_by, slot_of, slot_at, is_used, used_record, whole_record, has_all_pairs, table_slot}
+use Rattle.draft_records.specs.Records.{record_block, is_past, file_in, ReadsTheTable}
 
 -- rule 7 is the only one more
 chosen : (pairs lawful : Bool) (s r : Record) → used_record (slot_in (needs pairs 7 >>= λ x. needs lawful 8 >>= λ y. Ok s)) ≡ Some r → used_record (slot_in (needs lawful 8 >>= λ y. Ok s)) ≡ Some r

@@ -38,7 +38,7 @@ fn is_used(body: &[u8]) -> bool
 // The record that these bytes spell, if they do.
 fn read_record(alloc: Global, body: &[u8]) -> Result<Option<FileRec>, AllocError>
     requires { length body.now ≡ 1024 }
-    ensures { IfOk result (λ file. file ≡ used_record (slot_in (record_at body.now))) }
+    ensures file { IfOk result (λ file. file ≡ used_record (slot_in (record_at body.now))) }
     ensures fits { IfOk result (λ file. IfSome file FitsButRoom) }
 {
     match FileRec::read(alloc, body) {
@@ -53,7 +53,7 @@ fn read_record(alloc: Global, body: &[u8]) -> Result<Option<FileRec>, AllocError
 /// memory linear in the body.
 pub fn record_of(alloc: Global, body: &Body) -> Result<Option<FileRec>, AllocError>
     requires { length body.now.bytes ≡ 1024 }
-    ensures { IfOk result (λ file. file ≡ used_record (slot_by record_at body.now)) }
+    ensures file { IfOk result (λ file. file ≡ used_record (slot_by record_at body.now)) }
     ensures fits { IfOk result (λ file. IfSome file FitsButRoom) }
 {
     if body.torn() {

@@ -1,0 +1,9 @@
+use Rattle.std.proofs.Common.{ℕ, arith}
+use Rattle.disk_model.specs.Bytes.{AreBytes}
+use Rattle.record_streams.proofs.Read.{read_but_room}
+use Rattle.draft_records.proofs.records.read_record.Goals as goal
+
+pub returns-in-Ok-clause-fits : goal.returns-in-Ok-clause-fits
+returns-in-Ok-clause-fits c =
+    let small : AreBytes c.args.body.now = λ (i : ℕ). omega (arith, c.type_inv.body i) in
+    read_but_room c.args.body.now c.in-Ok.file c.requires small c.in-Ok.ensures.value
