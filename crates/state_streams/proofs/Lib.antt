@@ -1,0 +1,4 @@
+pub mod Following
+pub mod Counting
+pub mod Lying
+pub mod Few
