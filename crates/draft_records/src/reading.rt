@@ -5,7 +5,7 @@ ghost use Rattle.state_model.specs.Loads.{table_extents};
 ghost use Rattle.plan_draft.specs.Drafts.{drafted};
 ghost use Rattle.plan_draft.specs.Faults.{fault_cause};
 ghost use Rattle.record_streams.specs.Fitting.{FitsButRoom};
-ghost use Rattle.draft_records.specs.Records.{is_past, read_in, file_of};
+ghost use Rattle.draft_records.specs.Records.{is_past, read_in, file_of, written_bytes};
 
 use crate::records::record_of;
 use block_view::{View, ViewFault};
@@ -35,6 +35,7 @@ fn read_in<V: View>(
     requires { block.kind ≡ BlockKind.FileRec }
     ensures file { IfSome (V.content draft.old.view.now) (λ c. IfOk result (λ file. file ≡ read_in (drafted draft.old.touched.items c) block)) }
     ensures fits { IfOk result (λ file. IfSome file FitsButRoom) }
+    ensures short { IfOk result (λ file. IfSome file (λ r. written_bytes r ≤ 102500)) }
     ensures touched { draft.new.touched.items ≡ draft.old.touched.items }
     ensures asks { AsksView V.content V.kept V.faults fault_cause draft.old.view.now draft.new.view.now result }
     ensures reference { draft.new.view.ghost_name ≡ draft.old.view.ghost_name }
@@ -48,7 +49,8 @@ fn read_in<V: View>(
 /// `per` sectors a cluster; none where it isn't in use, breaks one of the rules 1 to 6 and 8, or
 /// lies wholly past the table's initialised size. What the table has as a record in use is read, as
 /// [`reads_the_table`](crate::reads_the_table) says; it has a spelling but for its room, so that a
-/// stream of it can be placed, and it can be put again.
+/// stream of it can be placed, and it can be put again; as it is written it may use more than the 1,024
+/// bytes of its block, but not more than a hundred times as many.
 ///
 /// - [`ViewFault::Fault`]: the view failed, which is asked where the record wasn't touched.
 /// - [`ViewFault::Memory`]: want of memory.
@@ -64,6 +66,7 @@ pub fn file<V: View>(
     requires number { number < 2 ^ 48 }
     ensures file { IfSome (V.content draft.old.view.now) (λ c. IfOk result (λ file. file ≡ file_of (drafted draft.old.touched.items c) per table.now number)) }
     ensures fits { IfOk result (λ file. IfSome file FitsButRoom) }
+    ensures short { IfOk result (λ file. IfSome file (λ r. written_bytes r ≤ 102500)) }
     ensures touched { draft.new.touched.items ≡ draft.old.touched.items }
     ensures asks { AsksView V.content V.kept V.faults fault_cause draft.old.view.now draft.new.view.now result }
     ensures reference { draft.new.view.ghost_name ≡ draft.old.view.ghost_name }

@@ -8,7 +8,7 @@ ghost use Rattle.record_streams.specs.Fitting.{FitsButRoom};
 ghost use Rattle.record_writer.specs.Faults.{room_cause};
 ghost use Rattle.host_base.specs.Answers.{Gives};
 ghost use Rattle.state_model.specs.Loads.{slot_by, slot_in, used_record, is_used};
-ghost use Rattle.draft_records.specs.Records.{name_count, with_links, with_normal, body_of_record};
+ghost use Rattle.draft_records.specs.Records.{name_count, with_links, with_normal, written_bytes, body_of_record};
 
 use disk_model::{Body, u16_at};
 use file_record::{FileRec, RecFault};
@@ -40,6 +40,7 @@ fn read_record(alloc: Global, body: &[u8]) -> Result<Option<FileRec>, AllocError
     requires { length body.now ≡ 1024 }
     ensures file { IfOk result (λ file. file ≡ used_record (slot_in (record_at body.now))) }
     ensures fits { IfOk result (λ file. IfSome file FitsButRoom) }
+    ensures short { IfOk result (λ file. IfSome file (λ r. written_bytes r ≤ 102500)) }
 {
     match FileRec::read(alloc, body) {
         Ok(file) => Ok(Some(file)),
@@ -55,6 +56,7 @@ pub fn record_of(alloc: Global, body: &Body) -> Result<Option<FileRec>, AllocErr
     requires { length body.now.bytes ≡ 1024 }
     ensures file { IfOk result (λ file. file ≡ used_record (slot_by record_at body.now)) }
     ensures fits { IfOk result (λ file. IfSome file FitsButRoom) }
+    ensures short { IfOk result (λ file. IfSome file (λ r. written_bytes r ≤ 102500)) }
 {
     if body.torn() {
         return Ok(None);

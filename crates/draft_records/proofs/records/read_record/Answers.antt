@@ -1,5 +1,7 @@
 use Rattle.std.proofs.Common.{ℕ, arith}
 use Rattle.disk_model.specs.Bytes.{AreBytes}
+use Rattle.record_model.proofs.Records.{read_is_table}
+use Rattle.record_writer.proofs.NormalRoom.{read_fits}
 use Rattle.record_streams.proofs.Read.{read_but_room}
 use Rattle.draft_records.proofs.records.read_record.Goals as goal
 
@@ -7,3 +9,9 @@ pub returns-in-Ok-clause-fits : goal.returns-in-Ok-clause-fits
 returns-in-Ok-clause-fits c =
     let small : AreBytes c.args.body.now = λ (i : ℕ). omega (arith, c.type_inv.body i) in
     read_but_room c.args.body.now c.in-Ok.file c.requires small c.in-Ok.ensures.value
+
+pub returns-in-Ok-clause-short : goal.returns-in-Ok-clause-short
+returns-in-Ok-clause-short c =
+    let small : AreBytes c.args.body.now = λ (i : ℕ). omega (arith, c.type_inv.body i) in
+    let fit = read_fits c.args.body.now c.in-Ok.file c.requires small (read_is_table c.args.body.now c.in-Ok.file small c.in-Ok.ensures.value) in
+    omega (arith, fit.bytes)
