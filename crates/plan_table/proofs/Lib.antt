@@ -1,0 +1,5 @@
+pub mod Values
+pub mod Remade
+pub mod Behind
+pub mod Bits
+pub mod Grown
