@@ -648,9 +648,14 @@ module _ (c : Content) (g : Geometry) (clusters : ℕ) (v : Volume) (r : Record)
 
   bits_now : (m : ℕ) → m < count_of v → bit (record_bits d w) m ≡ bit (record_bits c v) m
   bits_now m low =
-      record_bit d w m (let same = count_w in omega (arith, low, same))
-      ∙ sym (record_bit d u m (let size = count_u in omega (arith, low, size, counted, count_now)) ∙ ap (λ (o : Option Stream). byte_bit (bytes_or d v.per o) m) bitmap_longer)
-      ∙ k.numbers m (omega (arith, low, counted))
+      record_bit d w m (let same = count_w in omega (arith, low, same)) ∙ ap (λ (o : Option Stream). byte_bit (bytes_or d v.per o) m) bitmap_now ∙ k.numbers m (omega (arith, low, counted))
+
+  bits_clear : (m : ℕ) → count_of v ≤ m → m < record_count f → bit (record_bits d u) m ≡ false
+  bits_clear m past low =
+      record_bit d u m (let size = count_u in omega (arith, low, size))
+      ∙ ap (λ (o : Option Stream). byte_bit (bytes_or d v.per o) m) (bitmap_longer ∙ bitmap_now)
+      ∙ k.numbers m (omega (arith, low, count_now))
+      ∙ past_records c v m past
 
   agrees : AgreesElsewhere touched c d v w
   agrees = planned_agrees touched table_streams records c g clusters v w writes within spares (λ m low other. bits_now m low)
@@ -926,7 +931,7 @@ module _ (c : Content) (g : Geometry) (clusters : ℕ) (v : Volume) (r : Record)
     goes_on = goes_on;
     bitmap = (let size = size_now in let enough = k.enough in omega (arith, size, enough, count_now));
     blank = λ m past low. blank_unsigned d u m (λ b at. blank m b (let same = count_w in omega (arith, past, same, counted)) low at);
-    clear = λ m past low. k.numbers m (omega (arith, low, count_now)) ∙ past_records c v m (let same = count_w in omega (arith, past, same));
+    clear = λ m past low. bits_clear m (let same = count_w in omega (arith, past, same)) low;
   }
 
   replaces : ReplacesFiles inside c g v f writes edits

@@ -11,12 +11,13 @@ use Rattle.record_model.specs.Pairs.{cluster_limit, HasSpelling}
 use Rattle.record_model.specs.Records.{Record}
 use Rattle.file_tree.specs.declared.tree.Tree.{Tree}
 use Rattle.bit_set.specs.Bits.{bit}
+use Rattle.bit_set.specs.Words.{byte_bit}
 use Rattle.state_model.specs.declared.geometry.Geometry.{Geometry}
 use Rattle.state_model.specs.declared.stream.Extents.{Extents}
 use Rattle.state_model.specs.declared.stream.Stream.{Stream}
 use Rattle.state_model.specs.declared.stream.Stream.TheVariants.{Held, Placed}
 use Rattle.state_model.specs.Loads.{most_records, record_count, total_clusters}
-use Rattle.state_model.specs.Streams.{block_at, real_size, stream_of}
+use Rattle.state_model.specs.Streams.{block_at, real_size, stream_bytes, stream_of}
 use Rattle.volume_model.specs.Volumes.{Volume, cluster_bits, file_in, record_bits, table_file}
 use Rattle.volume_model.specs.Owners.{uses}
 use Rattle.volume_state.specs.Trees.{tree_of}
@@ -113,7 +114,8 @@ pub record IsPutBlank (bodies : List NewBody) (b : Block) : Type 0 where
 -- The file table of record 0 takes 64 clusters, which are clear, and has 256 records more; the bitmap of numbers becomes one with a bit for
 -- each, and takes these clusters, which are clear too. Record 0 is put so; all else that is put goes to the bitmap of clusters, the mirror,
 -- the bitmap of numbers and the new records. Each block of these is put whole and doesn't begin FILE, and so is each sector of the bitmap that comes to be
--- initialised. The bits of the clusters that came become set, and the others stay. The bits of the numbers stay; past the old count they are clear.
+-- initialised. The bits of the clusters that came become set, and the others stay. The new
+-- bitmap has the bits of the old one, and those of the new numbers clear.
 pub record GrowsVolumeTable (c : Content) (v : Volume) (r : Record) (more : List Run) (old : Stream) (bits_more : List Run) (new : Stream) (s : Record) (bodies : List NewBody) : Type 0 where
   pub file : file_in v table_file ≡ Some r
   pub bitmap : stream_of bitmap_type [] r.attrs ≡ Some old
@@ -133,7 +135,7 @@ pub record GrowsVolumeTable (c : Content) (v : Volume) (r : Record) (more : List
   pub records : (m : ℕ) (b : Block) → record_count v.table ≤ m → 1024 * m < (longer_table v.per more v.table).initialised → block_at v.per (longer_table v.per more v.table).runs FileRec m ≡ Some b → IsPutBlank bodies b
   pub covers : (m : ℕ) (b : Block) → block_at v.per (runs_in (Some new)) Plain m ≡ Some b → initialised_in (Some old) ≤ 512 * m → 512 * m < initialised_in (Some new) → IsPut bodies b
   pub marked : (x : ℕ) → x < v.clusters → bit (cluster_bits (content_with c bodies) v) x ≡ (nat_le 1 (uses more x) || nat_le 1 (uses bits_more x) || bit (cluster_bits c v) x)
-  pub numbers : (m : ℕ) → m < record_count v.table + new_records → bit (record_bits (content_with c bodies) (longer_volume v more s)) m ≡ bit (record_bits c v) m
+  pub numbers : (m : ℕ) → m < record_count v.table + new_records → byte_bit (stream_bytes (content_with c bodies) v.per new) m ≡ bit (record_bits c v) m
 
 -- the trees are the same, but for the count of records, the new numbers, which are spare and have the sequence 1, and the room
 pub record HasLongerTable (t u : Tree) : Type 0 where
