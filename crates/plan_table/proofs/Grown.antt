@@ -14,7 +14,6 @@ use Rattle.disk_model.specs.declared.block.BlockKind.TheVariants.{Plain, FileRec
 use Rattle.disk_model.specs.Sectors.{sectors, same_block, same_kind}
 use Rattle.disk_model.specs.Content.{Content, HasSizes, is_signed}
 use Rattle.disk_model.specs.Writes.{Write}
-use Rattle.record_model.specs.declared.attribute.Attr.{Attr}
 use Rattle.record_model.specs.declared.runs.Run.{Run}
 use Rattle.record_model.specs.declared.values.StdInfo.{StdInfo}
 use Rattle.record_model.specs.Records.{Record, shaped_at, has_lawful_values}
@@ -35,7 +34,7 @@ use Rattle.state_model.specs.declared.stream.Extents.{Extents}
 use Rattle.state_model.specs.declared.stream.Stream.{Stream}
 use Rattle.state_model.specs.declared.stream.Stream.TheVariants.{Held, Placed}
 use Rattle.state_model.specs.Files.{file_at, reference, file_links, only_base, links_at, record_links, is_base_record, is_directory_record, has_type, info_of, why_by}
-use Rattle.state_model.specs.Loads.{Slot, Free, Used, slot_of, slot_at, is_used, whole_record, boot_block, total_clusters, record_count, most_records, table_of, table_extents, table_slot, table_in, extents_or, data_stream, all_attrs, has_fitting_pairs, has_all_pairs, has_cut_index_block}
+use Rattle.state_model.specs.Loads.{Slot, Free, Used, slot_of, slot_at, is_used, whole_record, boot_block, total_clusters, record_count, most_records, table_of, table_extents, table_slot, table_in, extents_or, data_stream, has_fitting_pairs, has_all_pairs, has_cut_index_block}
 use Rattle.state_model.specs.Rules.{implies, at_file, is_directory_with, keeps_names, keeps_1, keeps_2, keeps_8}
 use Rattle.state_model.specs.Streams.{attributes_of, real_size, stream_of, block_at, is_inside_block, has_cut_block}
 use Rattle.state_model.specs.Trees.{is_nameless, is_system}
@@ -43,7 +42,7 @@ use Rattle.volume_model.specs.Volumes.{Volume, count_of, file_in, files_by_numbe
 use Rattle.volume_model.specs.Indexes.{void_block, index_place, index_links, index_stream, stream_blocks, links_below, lists_names, keeps_index}
 use Rattle.volume_model.specs.Nodes.{valid_or, clusters_or, data_flags, has_sparse_run, sparse_if, why_not, kind_in, shows_data, data_shown, node_with, node_by, some_node, node_at, nodes_by, spare_at, spare_numbers}
 use Rattle.volume_model.specs.Owners.{file_runs, volume_runs, uses, keeps_record_bit}
-use Rattle.volume_model.specs.Sizes.{are_joined, lies_inside, has_sizes, fits_volume, keeps_stream, has_hole, is_torn_at, begun, has_torn, stream_has_torn, is_initialised, keeps_bitmaps, keeps_streams, keeps_sizes}
+use Rattle.volume_model.specs.Sizes.{are_joined, lies_inside, has_sizes, fits_volume, keeps_stream, has_hole, is_torn_at, begun, has_torn, stream_has_torn, keeps_bitmaps, keeps_streams, keeps_sizes}
 use Rattle.volume_state.specs.Journals.{entries_name, limits_name, entries_flags, file_or_none, journal_file, journal_of_streams, journal_of_file, journal_of, fault_of, some_journal}
 use Rattle.volume_state.specs.Rules.{broken_1, broken_3, broken_9}
 use Rattle.volume_state.specs.Trees.{Holds, tree_with, tree_of, volume_journal}
@@ -59,9 +58,9 @@ use Rattle.stream_laws.proofs.Editing.{length-with_edits, other_file, edited_fil
 use Rattle.stream_laws.proofs.Framing.{same_links}
 use Rattle.stream_laws.proofs.Placing.{lies}
 use Rattle.stream_laws.proofs.Replacing.{clusters_replaced}
-use Rattle.stream_laws.proofs.Rewriting.{attrs_alone, volume_parts, count_is, goes_on_whole, blank_free, blank_unsigned, none_behind}
+use Rattle.stream_laws.proofs.Rewriting.{volume_parts, count_is, goes_on_whole, blank_free, blank_unsigned, none_behind}
 use Rattle.stream_laws.proofs.Sharing.{same_key}
-use Rattle.stream_laws.proofs.Tabling.{inside_list, no_list_stream, read_in_use, table_by_record, table_extents_is}
+use Rattle.stream_laws.proofs.Tabling.{inside_list, no_list_stream, read_in_use, table_by_record}
 use Rattle.tree_laws.specs.Changed.{TouchesFiles, AgreesElsewhere, KeepsTouched}
 use Rattle.tree_laws.specs.Growth.{GrowsTable, new_numbers}
 use Rattle.tree_laws.specs.Keeping.{KeepsNames, KeepsDirectory}
@@ -87,21 +86,21 @@ use Rattle.stream_runs.proofs.Places.{places-grown}
 use Rattle.plan_owners.specs.States.{Stands, IsOwnRecord}
 use Rattle.plan_owners.specs.Kinds.{OwnsAs}
 use Rattle.plan_owners.proofs.Outside.{once}
-use Rattle.plan_owners.proofs.Standing.{slots, file_parts, some_file, as_file, rule_4_at, streams_at, begins}
-use Rattle.plan_owners.proofs.Unnamed.{no_list_of_table, unnamed}
+use Rattle.plan_owners.proofs.Standing.{some_file, as_file, rule_4_at, begins}
+use Rattle.plan_owners.proofs.Unnamed.{unnamed}
 use Rattle.plan_bodies.specs.Bodies.{NewBody, whole_write, writes_in, content_with, body_in, body_or}
 use Rattle.plan_bodies.proofs.Putting.{body_put}
 use Rattle.plan_model.specs.Drafts.{FollowsOwners, GoesOn, IsPut, gives_runs}
 use Rattle.plan_model.specs.Informed.{with_record}
 use Rattle.plan_model.proofs.Drafting.{per_is}
 use Rattle.plan_model.proofs.Informing.{slot_in_use, marked_in_use, implied}
-use Rattle.plan_model.proofs.OneRecord.{streams_test, by_test, OwnRecord, own_record, slot_begins, slot_put, file_slot}
+use Rattle.plan_model.proofs.OneRecord.{streams_test, by_test, OwnRecord, slot_begins, slot_put, file_slot}
 use Rattle.plan_model.proofs.Quiet.{record_owned, given_here, given_before, given_clear}
 use Rattle.plan_growth.specs.Growing.{MayGive}
 use Rattle.plan_growth.specs.Streams.{marks_streams}
 use Rattle.plan_growth.proofs.Alike.{begun_in}
 use Rattle.plan_growth.proofs.Growing.{total-grown, uses-grown}
-use Rattle.plan_growth.proofs.Placed.{same_or_other, some_attributes, stream_rule}
+use Rattle.plan_growth.proofs.Placed.{same_or_other}
 use Rattle.plan_growth.proofs.Ruled.{sizes_lawful}
 use Rattle.plan_growth.proofs.Runs.{grown_inside, grown_whole}
 use Rattle.plan_growth.proofs.Sizing.{none_from}
@@ -109,6 +108,7 @@ use Rattle.plan_growth.proofs.Written.{Reads, all_read}
 use Rattle.plan_table.specs.Growing.{longer_table, numbers_key, longer_volume, IsOfTable, GrowsVolumeTable, HasLongerTable, gives_table, TableIsGrown}
 use Rattle.plan_table.proofs.Behind.{in_one, old_or_free}
 use Rattle.plan_table.proofs.Bits.{IsWider, becomes_wider}
+use Rattle.plan_table.proofs.Table.{table_no_list, table_own, table_records, table_each, table_fits, table_initialised, table_whole, numbers_fit, numbers_whole}
 use Rattle.plan_table.proofs.Remade.{IsAnother, IsRemade, table_remade}
 
 -- ---- tests
@@ -209,14 +209,6 @@ no_allocation t mark =
     let own_file : Bool = eqb t.file bitmap_file || eqb t.file mirror_file in
     let kind_is : eqb t.kind data_type ≡ true = (and_parts own_file (eqb t.kind data_type) (and_parts (own_file && eqb t.kind data_type) (pointwise nat_eq t.name []) mark).0).1 in
     plain_or_record (holds_records t) (eqb t.kind index_allocation) (ne_eqb t.kind index_allocation (λ e. (let data_is : t.kind ≡ data_type = eqb-true t.kind data_type kind_is in omega (arith, e, data_is))))
-
--- ---- the table's own stream
-
-placed_by : (per : ℕ) (o : Option Stream) (e : Extents) (b : Block) → extents_or o ≡ e → block_at per e.runs FileRec 0 ≡ Some b → o ≡ Some (Placed e)
-unfolding block_at
-placed_by per None e b is at = (let none : None ≡ Some b = ap (λ (x : Extents). block_at per x.runs FileRec 0) is ∙ at in absurd cc)
-placed_by per (Some (Held value)) e b is at = (let none : None ≡ Some b = ap (λ (x : Extents). block_at per x.runs FileRec 0) is ∙ at in absurd cc)
-placed_by per (Some (Placed x)) e b is at = ap (λ (y : Extents). Some (Placed y)) is
 
 -- at eight sectors a cluster none is cut
 inside_none : (kind : BlockKind) (count k : ℕ) → is_inside_block kind count (8 * k) ≡ false
@@ -387,56 +379,29 @@ module _ (c : Content) (g : Geometry) (clusters : ℕ) (v : Volume) (r : Record)
 
   -- ---- record 0 as it was
 
-  no_list : has_type attribute_list r ≡ false
-  no_list =
-      let parts = file_parts c g clusters v table_file r state.loaded (some_file v table_file r k.file) in
-      let none = no_list_of_table c g clusters v parts.base state parts.slot in
-      let alone : all_attrs c v.per (slots c v) (record_count v.table) table_file parts.base ≡ parts.base.attrs = attrs_alone c v.per (slots c v) (record_count v.table) table_file parts.base (no_list_stream parts.base none) in
-      let same : r ≡ parts.base = parts.whole ∙ ap (λ (l : List Attr). record { head = parts.base.head; attrs = l }) alone in
-      ap (has_type attribute_list) same ∙ none
-
   own : OwnRecord c v table_file r
-  own = own_record c g clusters v table_file r state k.file no_list
+  own = table_own c g clusters v r state k.file
 
   records_were : stream_of data_type [] r.attrs ≡ Some (Placed v.table)
-  records_were =
-      placed_by v.per (stream_of data_type [] r.attrs) v.table (boot_block g 0) (sym (ap (λ (o : Option Record). extents_or (file_stream data_type [] o)) k.file) ∙ table_extents_is c g clusters v start) start.first
-
-  old_streams : keeps_streams c v table_file r ≡ true
-  old_streams = streams_at c g clusters v table_file r state k.file
+  records_were = table_records c g clusters v r state k.file
 
   old_each : list_all (keeps_stream v.per v.clusters r.attrs) r.attrs ≡ true
-  unfolding keeps_streams
-  old_each = (and_parts _ _ (and_parts _ _ (and_parts _ _ old_streams).0).0).0
+  old_each = table_each c g clusters v r state k.file
 
   data_rule : fits_volume v.per v.clusters (Some (Placed v.table)) ≡ true
-  unfolding stream_of
-  data_rule =
-      let some : (a : Attr) × (others : List Attr) × (attributes_of data_type [] r.attrs ≡ a ∷ others) = some_attributes (attributes_of data_type [] r.attrs) (Placed v.table) records_were in
-      sym (ap (fits_volume v.per v.clusters) records_were) ∙ (stream_rule v.per v.clusters data_type [] r some.0 some.1 (λ e. omega (arith, e)) some.2 old_each).1
+  data_rule = table_fits c g clusters v r state k.file
 
   bitmap_rule : (are_joined (attributes_of bitmap_type [] r.attrs) ≡ true) × (fits_volume v.per v.clusters (Some old) ≡ true)
-  unfolding stream_of
-  bitmap_rule =
-      let some : (a : Attr) × (others : List Attr) × (attributes_of bitmap_type [] r.attrs ≡ a ∷ others) = some_attributes (attributes_of bitmap_type [] r.attrs) old k.bitmap in
-      let rule = stream_rule v.per v.clusters bitmap_type [] r some.0 some.1 (λ e. omega (arith, e)) some.2 old_each in
-      (rule.0, sym (ap (fits_volume v.per v.clusters) k.bitmap) ∙ rule.1)
+  bitmap_rule = numbers_fit c g clusters v r state k.file old k.bitmap
 
   sizes_old : (v.table.initialised ≤ v.table.real) × (v.table.real ≤ total_clusters v.table.runs * (512 * v.per))
   sizes_old = sizes_lawful v.per v.clusters v.table data_rule
 
-  -- its data is initialised, its streams are whole
-  old_test : streams_test c v.per table_file (list_all (keeps_stream v.per v.clusters r.attrs) r.attrs) (is_directory_record r) (stream_of data_type [] r.attrs) (stream_of bitmap_type [] r.attrs) (stream_of index_allocation names_index r.attrs) (stream_of bitmap_type names_index r.attrs) ≡ true
-  old_test = sym (by_test c v table_file r) ∙ old_streams
-
   initialised_old : v.table.initialised ≡ v.table.real
-  initialised_old = eqb-true v.table.initialised v.table.real (sym (ap is_initialised records_were) ∙ (and_parts _ _ (and_parts _ _ old_test).0).1)
+  initialised_old = table_initialised c g clusters v r state k.file
 
   whole_old : (has_hole (Some (Placed v.table)) ≡ false) × (has_hole (Some old) ≡ false)
-  whole_old =
-      let holes = (and_parts _ _ (and_parts _ _ (and_parts _ _ old_test).0).0).1 in
-      let both = and_parts _ _ (and_parts _ _ holes).0 in
-      (sym (ap has_hole records_were) ∙ negated (has_hole (stream_of data_type [] r.attrs)) both.0, sym (ap has_hole k.bitmap) ∙ negated (has_hole (stream_of bitmap_type [] r.attrs)) both.1)
+  whole_old = (table_whole c g clusters v r state k.file, numbers_whole c g clusters v r state k.file old k.bitmap)
 
   -- ---- the longer table
 
@@ -488,7 +453,7 @@ module _ (c : Content) (g : Geometry) (clusters : ℕ) (v : Volume) (r : Record)
   base = now.base ∙ own.base
 
   no_list_now : has_type attribute_list s ≡ false
-  no_list_now = now.types attribute_list ∙ no_list
+  no_list_now = now.types attribute_list ∙ table_no_list c g clusters v r state k.file
 
   begun_0 : 1024 * table_file < v.table.initialised
   begun_0 = slot_begins c v table_file r own.slot

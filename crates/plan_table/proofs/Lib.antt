@@ -2,4 +2,5 @@ pub mod Values
 pub mod Remade
 pub mod Behind
 pub mod Bits
+pub mod Table
 pub mod Grown
