@@ -1,0 +1,6 @@
+pub mod Again
+pub mod Taken
+pub mod Steps
+pub mod Chosen
+pub mod Numbers
+pub mod Edit
