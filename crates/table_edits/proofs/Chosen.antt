@@ -16,7 +16,7 @@ use Rattle.stream_laws.proofs.Sharing.{uses-none}
 use Rattle.stream_laws.specs.Places.{AreApart}
 use Rattle.stream_runs.specs.Runs.{last_cluster}
 use Rattle.resized_streams.specs.Resizing.{clusters_for}
-use Rattle.resized_streams.proofs.Chosen.{total_chosen}
+use Rattle.resized_streams.proofs.Chosen.{chosen_count, total_chosen}
 use Rattle.plan_growth.specs.Streams.{MayTake}
 use Rattle.plan_growth.proofs.Choosing.{may_be_taken}
 use Rattle.draft_growth.specs.declared.table.Table.{Table}
@@ -74,6 +74,14 @@ module _ (per : ℕ) (bits others : List Bool) (t : Table) (few : length bits �
   numbers_size e is =
       total_chosen behind (last_cluster e.runs) (clusters_for per (bitmap_size t) - total_clusters e.runs)
       (leb-true (wanted_for per (bitmap_size t) (Placed e)) (count_by not behind) (subst (λ (s : Stream). leb (wanted_for per (bitmap_size t) s) (count_by not behind) ≡ true) is room.1))
+
+  pub own_count : length own ≤ 64
+  own_count = chosen_count bits (last_cluster t.extents.runs) table_clusters (leb-true table_clusters (count_by not bits) room.0) few (omega arith)
+
+  pub numbers_count : (e : Extents) → t.bitmap.stream ≡ Placed e → clusters_for per (bitmap_size t) ≤ cluster_limit → length (more_for per (bitmap_size t) behind (Placed e)) ≤ clusters_for per (bitmap_size t) - total_clusters e.runs
+  numbers_count e is most =
+      chosen_count behind (last_cluster e.runs) (clusters_for per (bitmap_size t) - total_clusters e.runs)
+      (leb-true (wanted_for per (bitmap_size t) (Placed e)) (count_by not behind) (subst (λ (s : Stream). leb (wanted_for per (bitmap_size t) s) (count_by not behind) ≡ true) is room.1)) (omega (arith, few, long)) (omega (arith, most))
 
   by_stream : (s : Stream) → t.bitmap.stream ≡ s → ((e : Extents) → s ≡ Placed e → clusters_for per (bitmap_size t) ≤ cluster_limit) → MayTake (length bits) others (more_for per (bitmap_size t) behind s) × ((x : ℕ) → 0 < uses (more_for per (bitmap_size t) behind s) x → bit behind x ≡ false)
   by_stream (Held value) is fits = (none_taken (length bits) others, λ x some. absurd (omega (arith, some, uses-none x)))

@@ -1,5 +1,5 @@
 -- What a draft has put of a file table that grew is an edit of a plan.
-use Rattle.std.proofs.Common.{◌≡◌, ◌≢◌, ◌⊎◌, ℕ, ◌+◌, ◌-◌, ◌*◌, ◌/◌, ◌%◌, ◌<◌, ◌≤◌, Bool, true, false, ◌||◌, cond, leb, ltb, List, [], ◌∷◌, length, Option, Some, None, refl, sym, ap, ap₂, subst, ◌∙◌, inl, inr, arith}
+use Rattle.std.proofs.Common.{◌≡◌, ◌≢◌, ◌⊎◌, ℕ, ◌+◌, ◌-◌, ◌*◌, ◌/◌, ◌%◌, ◌^◌, ◌<◌, ◌≤◌, Bool, true, false, ◌||◌, cond, leb, ltb, List, [], ◌∷◌, length, Option, Some, None, Ok, refl, sym, ap, ap₂, subst, ◌∙◌, inl, inr, arith}
 use Rattle.std.specs.Prelude.{find, All, not, slice_index}
 use Rattle.std.specs.List.{list_all, list_any, AllByRecursion}
 use Rattle.std.specs.Option.{is_some, option_map, option_or}
@@ -74,7 +74,7 @@ use Rattle.disk_model.proofs.Frames.{same_block-is}
 use Rattle.draft_streams.specs.Effects.{HasOwnSectors}
 use Rattle.draft_bits.specs.Effects.{IsKept, stream_bit}
 use Rattle.draft_bits.proofs.BitEffects.{byte_of, same_bit}
-use Rattle.draft_records.specs.Records.{has_mirror, record_block, written_record}
+use Rattle.draft_records.specs.Records.{fits_room, has_mirror, record_block, written_record}
 use Rattle.draft_runs.specs.Clusters.{PutsRuns}
 use Rattle.draft_runs.proofs.RunEffects.{runs_put}
 use Rattle.draft_bitmaps.specs.declared.bitmap.Bitmap.{Bitmap}
@@ -95,8 +95,14 @@ use Rattle.plan_edits.proofs.Putting.{content_goes, Goes}
 use Rattle.plan_edits.proofs.Reading.{written_read}
 use Rattle.table_edits.specs.Grown.{GrownIsEdit, GrowsOfVolume, numbers_runs, table_runs}
 use Rattle.table_edits.proofs.Again.{placed_again}
-use Rattle.table_edits.proofs.Chosen.{both_apart, numbers_size, numbers_taken, own_size, own_taken}
+use Rattle.table_edits.proofs.Chosen.{both_apart, numbers_count, numbers_size, numbers_taken, own_count, own_size, own_taken}
 use Rattle.table_edits.proofs.Numbers.{IsLongerNumbers, longer_numbers, MayBecome}
+use Rattle.table_edits.proofs.Spelled.{both_spelled, IsSpelled, MayBeLonger}
+use Rattle.record_streams.specs.Fitting.{FitsButRoom, HasFields, IsPlaceable}
+use Rattle.record_streams.proofs.Fits.{fits_placed}
+use Rattle.resized_streams.proofs.Chosen.{grown_count, total_grown}
+use Rattle.draft_bitmaps.specs.Bitmaps.{IsBitmap}
+use Rattle.draft_growth.proofs.Fulls.{record_grown}
 use Rattle.table_edits.proofs.Steps.{away, behind, bitmap_file_goes, bitmap_goes, empties_go, IsComing, IsNone, IsOfBitmap, IsRecordFrom, runs_as, runs_go, turned}
 
 -- ---- small facts
@@ -324,6 +330,12 @@ module _ (c : Content) (g : Geometry) (clusters : ℕ) (v : Volume) (bits : List
   size : total_clusters more ≡ 64
   size = own_size per bits (cluster_bits d v) t few k.free k.space k.stands
 
+  few_clusters : clusters_for per (bitmap_size t) ≤ 2048
+  few_clusters = (let most = k.few in let is_size = size_of in subst (λ (p : ℕ). clusters_for p (bitmap_size t) ≤ 2048) (sym per_8) (omega (arith, is_size, most)))
+
+  bytes_few : (runs : List Run) → total_clusters runs ≤ cluster_limit → total_clusters runs * (512 * per) < 2 ^ 64
+  bytes_few runs low = subst (λ (p : ℕ). total_clusters runs * (512 * p) < 2 ^ 64) (sym per_8) (omega (arith, low))
+
   may_by : (x : Stream) → was ≡ x → fits_volume v.per v.clusters (Some x) ≡ true → MayBecome per (bitmap_size t) (more_for per (bitmap_size t) (behind_records bits t) x) x
   may_by (Held value) same fits = refl
   may_by (Placed e) same fits =
@@ -337,9 +349,6 @@ module _ (c : Content) (g : Geometry) (clusters : ℕ) (v : Volume) (bits : List
         lawful = sizes.0;
         room = sizes.1;
       }
-    where
-      few_clusters : clusters_for per (bitmap_size t) ≤ 2048
-      few_clusters = (let most = k.few in let size = size_of in subst (λ (p : ℕ). clusters_for p (bitmap_size t) ≤ 2048) (sym per_8) (omega (arith, size, most)))
 
   may : MayBecome per (bitmap_size t) bits_more was
   may = may_by was refl bitmap_fits
@@ -399,6 +408,66 @@ module _ (c : Content) (g : Geometry) (clusters : ℕ) (v : Volume) (bits : List
       subst (λ (n : ℕ). PutsInto lb.stream c per f mirror lb n 256 false first cleared after.bitmap) (ap record_count k.table)
       (subst (λ (e : Extents). PutsTable c per e mirror lb (record_count t.extents) old cleared after.bitmap) records_are k.grows.put.2)
 
+  -- ---- record 0 has a spelling, each time that it is put
+
+  first_room : fits_room lb.file ≡ Ok tt
+  first_room =
+      ap fits_room (record_grown per bits (with_runs k.grows.records.taken.items bits) t k.grows.records (in_file k.grows.records.file t.bitmap) k.grows.longer k.grows.is_records (ap (λ (runs : List Run). with_runs runs bits) k.grows.is_records.taken) refl k.grows.is_longer)
+      ∙ k.room
+
+  is_data : IsPlaceable data_type
+  is_data = record { not_info = refl; not_name = refl }
+
+  table_spelled : HasSpelling 0 f.runs
+  table_spelled = follow-grown v.table.runs more spelled taken.spelled (let few_all = room in let sum = size in omega (arith, few_all, sum))
+
+  table_fields : HasFields f
+  table_fields =
+      let real : v.table.real < 2 ^ 31 = subst (λ (e : Extents). e.real < 2 ^ 31) k.table k.stands.records.real in
+      let initialised : v.table.initialised < 2 ^ 31 = subst (λ (e : Extents). e.initialised < 2 ^ 31) k.table k.stands.records.initialised in
+      record { allocated = bytes_few (grown v.table.runs more) (let few_all = room in let sum = size in omega (arith, total_grown v.table.runs more, few_all, sum)); real = omega (arith, real); initialised = omega (arith, initialised) }
+
+  table_count : length f.runs ≤ 2 ^ 16
+  table_count =
+      let few_runs : length v.table.runs + 2048 ≤ 2 ^ 16 = subst (λ (e : Extents). length e.runs + 2048 ≤ 2 ^ 16) k.table k.stands.records.few in
+      let came = own_count per bits (cluster_bits d v) t few k.free k.space k.stands in
+      omega (arith, few_runs, came, grown_count v.table.runs more)
+
+  base_is : IsBitmap (in_file k.grows.records.file t.bitmap)
+  base_is = record {
+    number = k.stands.bitmap.number;
+    kind = k.stands.bitmap.kind;
+    fits = subst FitsButRoom (sym file_1_is) (fits_placed per data_type [] f t.bitmap.file (let eight_is = per_8 in omega (arith, eight_is)) table_spelled table_count table_fields is_data k.stands.bitmap.fits);
+    stream = k.stands.bitmap.stream;
+  }
+
+  longer_by : (x : Stream) → was ≡ x → MayBecome per (bitmap_size t) (more_for per (bitmap_size t) (behind_records bits t) x) x → HasSpelling 0 (more_for per (bitmap_size t) (behind_records bits t) x) → MayBeLonger per (bitmap_size t) (more_for per (bitmap_size t) (behind_records bits t) x) x
+  longer_by (Held value) same became follow = (subst (λ (x : Stream). MayGrowIn (length bits) (bitmap_size t) x) same k.stands.stream).0
+  longer_by (Placed e) same became follow =
+      let grows = subst (λ (x : Stream). MayGrowIn (length bits) (bitmap_size t) x) same k.stands.stream in
+      let most = wants_few e same in
+      let came = numbers_count per bits (cluster_bits d v) t few k.free k.space k.stands e same most in
+      let few_runs = grows.few in
+      let few_more = few_clusters in
+      record {
+        spelled = follow-grown e.runs (more_for per (bitmap_size t) (behind_records bits t) (Placed e)) grows.spelled follow became.few;
+        few = omega (arith, few_runs, came, few_more, grown_count e.runs (more_for per (bitmap_size t) (behind_records bits t) (Placed e)));
+        allocated = bytes_few (grown e.runs (more_for per (bitmap_size t) (behind_records bits t) (Placed e))) (let all_few = became.few in omega (arith, total_grown e.runs (more_for per (bitmap_size t) (behind_records bits t) (Placed e)), all_few));
+        real = grows.real;
+        initialised = grows.initialised;
+      }
+
+  small : bitmap_size t ≤ 2 ^ 18
+  small = (let most = k.few in let is_size = size_of in omega (arith, is_size, most))
+
+  short_for : (value : List ℕ) → was ≡ Held value → bitmap_size t ≤ 2 ^ 16
+  short_for value same = (subst (λ (x : Stream). MayGrowIn (length bits) (bitmap_size t) x) same k.stands.stream).1
+
+  spelled_both : IsSpelled per count lb after.bitmap
+  spelled_both =
+      both_spelled c per f mirror (bitmap_size t) count bits_more (in_file k.grows.records.file t.bitmap) some_bits.0 some_bits.1 (ap₂ (λ (kind : ℕ) (x : Record). attributes_of kind [] x.attrs) k.kind file_1_is ∙ some_bits.2) per_8 first cleared small base_is (let is_size = size_of in omega (arith, is_size)) was lb
+      after.bitmap longer_is (longer_by was refl may bits_taken.spelled) short_for first_room put_numbers
+
   put_owners : PutsOwners c per f mirror more bits_more b cleared marks marked
   put_owners =
       subst (λ (l : List Run). PutsOwners c per f mirror more l b cleared marks marked) more_are
@@ -420,7 +489,7 @@ module _ (c : Content) (g : Geometry) (clusters : ℕ) (v : Volume) (bits : List
   numbers : IsLongerNumbers per (count + 256) bits_more was q lb after.bitmap
   numbers =
       longer_numbers c per f mirror (count + 256) count bits_more q some_bits.0 some_bits.1 some_bits.2 per_8 first cleared refl (in_file k.grows.records.file t.bitmap) k.kind file_1_is was lb after.bitmap
-      (longer_is ∙ ap (λ (n : ℕ). with_room per n bits_more was (in_file k.grows.records.file t.bitmap)) size_of) (subst (λ (n : ℕ). MayBecome per n bits_more was) size_of may) k.first_room k.last_room put_numbers
+      (longer_is ∙ ap (λ (n : ℕ). with_room per n bits_more was (in_file k.grows.records.file t.bitmap)) size_of) (subst (λ (n : ℕ). MayBecome per n bits_more was) size_of may) first_room spelled_both.room put_numbers
 
   wider : IsWider v bits_more was is
   wider = becomes_wider d g clusters v bits_more eight state bits_taken was is numbers.becomes bitmap_fits
@@ -462,10 +531,10 @@ module _ (c : Content) (g : Geometry) (clusters : ℕ) (v : Volume) (bits : List
   -- ---- what is put, as bodies
 
   step_1 : Goes (IsMirrored per f mirror 0) (IsMirrored per f mirror 0) old first
-  step_1 = subst (λ (n : ℕ). Goes (IsMirrored per f mirror n) (IsMirrored per f mirror n) old first) number (bitmap_file_goes c per f mirror lb old k.sized k.kept k.first k.first_room)
+  step_1 = subst (λ (n : ℕ). Goes (IsMirrored per f mirror n) (IsMirrored per f mirror n) old first) number (bitmap_file_goes c per f mirror lb old k.sized k.kept spelled_both.first_is first_room)
 
   step_2 : Goes (IsOfBitmap per f mirror 0 lb.stream) (IsComing per lb.stream is) first cleared
-  step_2 = subst (λ (n : ℕ). Goes (IsOfBitmap per f mirror n lb.stream) (IsComing per lb.stream is) first cleared) number (bitmap_goes c per f mirror lb count 256 false first cleared k.sized step_1.kept lb.stream after.bitmap refl k.last k.last_room put_numbers)
+  step_2 = subst (λ (n : ℕ). Goes (IsOfBitmap per f mirror n lb.stream) (IsComing per lb.stream is) first cleared) number (bitmap_goes c per f mirror lb count 256 false first cleared k.sized step_1.kept lb.stream after.bitmap refl spelled_both.last_is spelled_both.room put_numbers)
 
   step_3 : Goes (IsSectorOf per bitmap.runs) IsNone cleared between
   step_3 = runs_go c per bitmap true more cleared between k.sized step_2.kept own_runs.0
@@ -556,7 +625,7 @@ module _ (c : Content) (g : Geometry) (clusters : ℕ) (v : Volume) (bits : List
   boot_kind = record_kind per f 0 boot boot_lies
 
   numbers_bitmap : PutsBitmap c per f mirror lb count 256 false first cleared after.bitmap
-  numbers_bitmap = record { sized = k.sized; kept = step_1.kept; stands = k.last; room = k.last_room; own = own_sectors; put = put_numbers }
+  numbers_bitmap = record { sized = k.sized; kept = step_1.kept; stands = spelled_both.last_is; room = spelled_both.room; own = own_sectors; put = put_numbers }
 
   lies_0 : record_block per f lb.number ≡ Some boot
   lies_0 = ap (record_block per f) number ∙ boot_lies
@@ -589,7 +658,7 @@ module _ (c : Content) (g : Geometry) (clusters : ℕ) (v : Volume) (bits : List
     place = start.first;
     bytes = own_bytes after.bitmap;
     put = put_here boot (own_bytes after.bitmap) (inl (inl boot_lies)) boot_now;
-    reads = written_read.reads after.bitmap.file (but_room_fits after.bitmap.file k.last.fits) numbers.room used;
+    reads = written_read.reads after.bitmap.file (but_room_fits after.bitmap.file spelled_both.last_is.fits) numbers.room used;
   }
 
   written : IsWritten (table_record per f is t.bitmap.file) s

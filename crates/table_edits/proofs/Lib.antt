@@ -3,4 +3,5 @@ pub mod Taken
 pub mod Steps
 pub mod Chosen
 pub mod Numbers
+pub mod Spelled
 pub mod Edit

@@ -20,10 +20,8 @@ use Rattle.plan_draft.specs.Drafts.{drafted}
 use Rattle.draft_bits.specs.Effects.{IsKept}
 use Rattle.draft_records.specs.Records.{fits_room, written_record}
 use Rattle.draft_bitmaps.specs.declared.bitmap.Bitmap.{Bitmap}
-use Rattle.draft_bitmaps.specs.Bitmaps.{IsBitmap}
-use Rattle.draft_bitmaps.specs.Effects.{room_of}
 use Rattle.draft_growth.specs.declared.table.Table.{Table}
-use Rattle.draft_growth.specs.Growing.{behind_records, bitmap_size, GrowsTable, IsTable, more_for, space_of, table_clusters, table_records}
+use Rattle.draft_growth.specs.Growing.{behind_records, bitmap_size, grown_record, GrowsTable, IsTable, more_for, space_of, table_clusters, table_records}
 use Rattle.plan_edits.specs.Edits.{HasBitmap, mirror_key}
 use Rattle.plan_edits.specs.Moves.{EditsDraft}
 use Rattle.plan_table.specs.Growing.{GrowsVolumeTable}
@@ -36,7 +34,7 @@ abbrev pub numbers_runs : ℕ → List Bool → Table → List Run
 numbers_runs per bits t = more_for per (bitmap_size t) (behind_records bits t) t.bitmap.stream
 
 -- A file table grows in a draft, in a volume of which the table, the bitmap of clusters and the mirror are these. What is free is clear in
--- the volume, and is enough; the table's size is one of whole records; and record 0 has room and a spelling, each time that it is put.
+-- the volume, and is enough; the table has whole records, and not too many then; and record 0 has room.
 pub record GrowsOfVolume (c : Content) (v : Volume) (bits : List Bool) (bitmap mirror : Extents) (t : Table) (b : Bitmap) (old new : List Touched) (after : Table) (clusters : Bitmap) : Type 0 where
   pub sized : HasSizes c
   pub kept : IsKept old
@@ -54,10 +52,7 @@ pub record GrowsOfVolume (c : Content) (v : Volume) (bits : List Bool) (bitmap m
   pub marks_are : b.stream ≡ Placed bitmap
   pub mirror_is : extents_or (stream_at v mirror_key) ≡ mirror
   pub grows : GrowsTable c v.per bits mirror t b old new after clusters
-  pub first : IsBitmap grows.longer.bitmap
-  pub first_room : fits_room grows.longer.bitmap.file ≡ Ok tt
-  pub last : IsBitmap after.bitmap
-  pub last_room : room_of v.per grows.longer.bitmap (record_count v.table) table_records ≡ Ok tt
+  pub room : fits_room (grown_record v.per bits t) ≡ Ok tt
 
 -- In a state that the draft before stands for, what is put is the edit that leads to a state with the longer table.
 abbrev pub GrownIsEdit : Type 0
