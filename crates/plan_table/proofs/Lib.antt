@@ -4,3 +4,4 @@ pub mod Behind
 pub mod Bits
 pub mod Table
 pub mod Grown
+pub mod First

@@ -9,7 +9,9 @@ use Rattle.record_model.specs.declared.runs.Run.{Run}
 use Rattle.record_model.specs.Constants.{bitmap_type, data_type}
 use Rattle.record_model.specs.Pairs.{cluster_limit, HasSpelling}
 use Rattle.record_model.specs.Records.{Record}
+use Rattle.host_base.specs.declared.file_ref.FileRef.{FileRef}
 use Rattle.file_tree.specs.declared.tree.Tree.{Tree}
+use Rattle.file_tree.specs.Walks.{first_user_record}
 use Rattle.bit_set.specs.Bits.{bit}
 use Rattle.bit_set.specs.Words.{byte_bit}
 use Rattle.state_model.specs.declared.geometry.Geometry.{Geometry}
@@ -25,7 +27,7 @@ use Rattle.stream_laws.specs.Owners.{initialised_in}
 use Rattle.stream_laws.specs.Places.{AreApart}
 use Rattle.stream_laws.specs.Sharing.{runs_in, stream_at, StreamKey}
 use Rattle.stream_laws.specs.Tables.{table_key}
-use Rattle.tree_laws.specs.Growth.{new_numbers}
+use Rattle.tree_laws.specs.Growth.{new_number, new_numbers}
 use Rattle.tree_laws.specs.Steps.{stepped}
 use Rattle.stream_runs.specs.Runs.{grown}
 use Rattle.record_streams.specs.Placing.{placed_record}
@@ -167,3 +169,8 @@ pub record TableIsGrown : Type 0 where
   pub goes_on : (first : Content) (start : Volume) (c : Content) (g : Geometry) (clusters : ℕ) (v : Volume) (r : Record) (more : List Run) (old : Stream) (bits_more : List Run) (new : Stream) (s : Record) (bodies : List NewBody) (gave : ℕ → Option BlockKind) → HasSizes c → g.per_cluster ≡ 8
       → Stands c g clusters v → GrowsVolumeTable c v r more old bits_more new s bodies → MayGive first start FileRec more gave → MayGive first start Plain bits_more gave
       → GoesOn first start c g clusters v bodies (longer_volume v more s) gave (gives_table more bits_more gave)
+
+-- Where no number was spare, and the table had those of the volume's own files, the lowest that is spare then is the old count, of
+-- sequence 1.
+abbrev pub NewNumberIsFirst : Type 0
+NewNumberIsFirst = (t u : Tree) → HasLongerTable t u → t.spare ≡ [] → first_user_record ≤ t.count → (others : List FileRef) × (u.spare ≡ new_number t.count ∷ others)

@@ -1,9 +1,9 @@
 //! A file table that grows, as an edit of a plan that leads from a state to a state.
 //!
-//! The contract: the law of these definitions, as a function with no body. The layouts are those of
+//! The contract: the laws of these definitions, as functions with no body. The layouts are those of
 //! the Linux-NTFS documentation, "$MFT", "Data runs" and "$Bitmap".
 #![tactic(auto)]
 
 mod laws;
 
-pub use laws::table_is_grown;
+pub use laws::{new_number_is_first, table_is_grown};

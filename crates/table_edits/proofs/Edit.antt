@@ -1,5 +1,5 @@
 -- What a draft has put of a file table that grew is an edit of a plan.
-use Rattle.std.proofs.Common.{◌≡◌, ◌≢◌, ◌⊎◌, ℕ, ◌+◌, ◌-◌, ◌*◌, ◌/◌, ◌%◌, ◌^◌, ◌<◌, ◌≤◌, Bool, true, false, ◌||◌, cond, leb, ltb, List, [], ◌∷◌, length, Option, Some, None, Ok, refl, sym, ap, ap₂, subst, ◌∙◌, inl, inr, arith}
+use Rattle.std.proofs.Common.{◌≡◌, ◌≢◌, ◌⊎◌, ℕ, ◌+◌, ◌-◌, ◌*◌, ◌/◌, ◌%◌, ◌^◌, ◌<◌, ◌≤◌, Bool, true, false, ◌&&◌, ◌||◌, cond, eqb, leb, ltb, List, [], ◌∷◌, length, Option, Some, None, Ok, refl, sym, ap, ap₂, subst, ◌∙◌, inl, inr, arith}
 use Rattle.std.specs.Prelude.{find, All, not, slice_index}
 use Rattle.std.specs.List.{list_all, list_any, AllByRecursion}
 use Rattle.std.specs.Option.{is_some, option_map, option_or}
@@ -10,7 +10,9 @@ use Rattle.disk_model.specs.declared.block.Block.{Block}
 use Rattle.disk_model.specs.declared.block.BlockKind.{BlockKind}
 use Rattle.disk_model.specs.declared.block.BlockKind.TheVariants.{Plain, FileRec}
 use Rattle.disk_model.specs.Bytes.{zeros}
-use Rattle.disk_model.specs.Content.{Content, HasSizes}
+use Rattle.disk_model.specs.Numbers.{field}
+use Rattle.volume_model.specs.Nodes.{spare_sequence}
+use Rattle.disk_model.specs.Content.{Content, HasSizes, is_signed}
 use Rattle.disk_model.specs.Sectors.{overlap, same_block, same_kind}
 use Rattle.record_model.specs.declared.attribute.Attr.{Attr}
 use Rattle.record_model.specs.declared.runs.Run.{Run}
@@ -26,7 +28,7 @@ use Rattle.state_model.specs.declared.stream.Stream.{Stream}
 use Rattle.state_model.specs.declared.stream.Stream.TheVariants.{Held, Placed}
 use Rattle.state_model.specs.Loads.{boot_block, extents_or, has_all_pairs, has_fitting_pairs, record_count, total_clusters}
 use Rattle.state_model.specs.Streams.{attributes_of, block_at, byte_at, extent_bytes, holds, lcn_in, real_size, sector_bytes, stream_bytes, stream_of}
-use Rattle.volume_model.specs.Volumes.{Volume, bytes_or, cluster_bits, count_of, file_stream, record_bitmap, record_bits, size_or, table_file}
+use Rattle.volume_model.specs.Volumes.{Volume, block_bytes, bytes_or, cluster_bits, count_of, file_stream, record_bitmap, record_bits, size_or, table_file}
 use Rattle.volume_model.specs.Owners.{uses, volume_runs}
 use Rattle.volume_model.specs.Sizes.{fits_volume, has_hole, is_hole}
 use Rattle.stream_laws.specs.Owners.{initialised_in, stream_kind}
@@ -73,8 +75,9 @@ use Rattle.plan_growth.proofs.Placed.{some_attributes}
 use Rattle.disk_model.proofs.Frames.{same_block-is}
 use Rattle.draft_streams.specs.Effects.{HasOwnSectors}
 use Rattle.draft_bits.specs.Effects.{IsKept, stream_bit}
-use Rattle.draft_bits.proofs.BitEffects.{byte_of, same_bit}
-use Rattle.draft_records.specs.Records.{fits_room, has_mirror, record_block, written_record}
+use Rattle.draft_bits.proofs.BitEffects.{byte_of, drafted_body, same_bit}
+use Rattle.draft_numbers.specs.Numbers.{new_sequence}
+use Rattle.draft_records.specs.Records.{fits_room, is_past, has_mirror, record_block, written_record}
 use Rattle.draft_runs.specs.Clusters.{PutsRuns}
 use Rattle.draft_runs.proofs.RunEffects.{runs_put}
 use Rattle.draft_bitmaps.specs.declared.bitmap.Bitmap.{Bitmap}
@@ -93,7 +96,7 @@ use Rattle.plan_edits.proofs.Bitmap.{shares_itself, state_bitmap}
 use Rattle.plan_edits.proofs.Editing.{bit_is}
 use Rattle.plan_edits.proofs.Putting.{content_goes, Goes}
 use Rattle.plan_edits.proofs.Reading.{written_read}
-use Rattle.table_edits.specs.Grown.{GrownIsEdit, GrowsOfVolume, numbers_runs, table_runs}
+use Rattle.table_edits.specs.Grown.{GrownIsEdit, GrowsOfVolume, NewSequences, numbers_runs, table_runs}
 use Rattle.table_edits.proofs.Again.{placed_again}
 use Rattle.table_edits.proofs.Chosen.{both_apart, numbers_count, numbers_size, numbers_taken, own_count, own_size, own_taken}
 use Rattle.table_edits.proofs.Numbers.{IsLongerNumbers, longer_numbers, MayBecome}
@@ -861,5 +864,26 @@ module _ (c : Content) (g : Geometry) (clusters : ℕ) (v : Volume) (bits : List
   result : (others : List NewBody) × (EditsDraft c old new others × GrowsVolumeTable d v t.bitmap.file more was bits_more is s others)
   result = (bodies, (record { same = all.blocks.same; content = content_is }, edit))
 
+  -- ---- the new numbers
+
+  unsigned : (o : Option Block) → ((a : Block) → o ≡ Some a → body_in (bodies_of new) a ≡ Some (zeros 1024)) → spare_sequence (block_bytes (drafted new c) o) ≡ 1
+  unfolding spare_sequence
+  unsigned None zeroed = refl
+  unsigned (Some a) zeroed =
+      let body : (drafted new c a).bytes ≡ zeros 1024 = drafted_body c new a (zeros 1024) k.sized all.kept (zeroed a refl) in
+      let none : is_signed FileRec (drafted new c a).bytes ≡ false = ap (is_signed FileRec) body ∙ (zeros_blank 1024).unsigned in
+      ap (λ (t : Bool). cond (t && not (eqb (field 0x10 2 (drafted new c a).bytes) 0)) (field 0x10 2 (drafted new c a).bytes) 1) none
+
+  past_or : (t : Bool) (o : Option Block) → spare_sequence (block_bytes (drafted new c) o) ≡ 1 → spare_sequence (cond t [] (block_bytes (drafted new c) o)) ≡ 1
+  unfolding spare_sequence
+  past_or true o is_one_there = refl
+  past_or false o is_one_there = is_one_there
+
+  sequence : (n : ℕ) → count ≤ n → n < count + 256 → new_sequence (drafted new c) per after.extents n ≡ 1
+  sequence n low high = past_or (is_past after.extents n) (record_block per after.extents n) (unsigned (record_block per after.extents n) (λ a there. empty_now n a low high (subst (λ (e : Extents). record_block per e n ≡ Some a) (k.grows.lies ∙ records_are) there)))
+
 pub grown_edit : GrownIsEdit
 grown_edit c g clusters v bits bitmap mirror t b old new after marked eight state k = result c g clusters v bits bitmap mirror t b old new after marked eight state k
+
+pub new_sequences : NewSequences
+new_sequences c g clusters v bits bitmap mirror t b old new after marked n eight state k low high = sequence c g clusters v bits bitmap mirror t b old new after marked eight state k n low high

@@ -1,5 +1,5 @@
 -- A file table that a draft has let grow is an edit of a plan.
-use Rattle.std.specs.Prelude.{◌≡◌, ◌+◌, ◌%◌, ◌≤◌, ℕ, false, Bool, length, List, [], Ok, Some}
+use Rattle.std.specs.Prelude.{◌≡◌, ◌+◌, ◌%◌, ◌<◌, ◌≤◌, ℕ, false, Bool, length, List, [], Ok, Some}
 use Rattle.disk_model.specs.Content.{Content, HasSizes}
 use Rattle.record_model.specs.declared.runs.Run.{Run}
 use Rattle.record_model.specs.Constants.{bitmap_type}
@@ -18,6 +18,7 @@ use Rattle.plan_owners.specs.States.{Stands}
 use Rattle.plan_draft.specs.declared.touched.Touched.{Touched}
 use Rattle.plan_draft.specs.Drafts.{drafted}
 use Rattle.draft_bits.specs.Effects.{IsKept}
+use Rattle.draft_numbers.specs.Numbers.{new_sequence}
 use Rattle.draft_records.specs.Records.{fits_room, written_record}
 use Rattle.draft_bitmaps.specs.declared.bitmap.Bitmap.{Bitmap}
 use Rattle.draft_growth.specs.declared.table.Table.{Table}
@@ -59,3 +60,8 @@ abbrev pub GrownIsEdit : Type 0
 GrownIsEdit = (c : Content) (g : Geometry) (clusters : ℕ) (v : Volume) (bits : List Bool) (bitmap mirror : Extents) (t : Table) (b : Bitmap) (old new : List Touched) (after : Table) (marked : Bitmap) → g.per_cluster ≡ 8 → Stands (drafted old c) g clusters v
     → GrowsOfVolume c v bits bitmap mirror t b old new after marked
     → (bodies : List NewBody) × (EditsDraft c old new bodies × GrowsVolumeTable (drafted old c) v t.bitmap.file (table_runs bits t) t.bitmap.stream (numbers_runs v.per bits t) after.bitmap.stream (written_record after.bitmap.file) bodies)
+
+-- Each new number is taken with the sequence 1.
+abbrev pub NewSequences : Type 0
+NewSequences = (c : Content) (g : Geometry) (clusters : ℕ) (v : Volume) (bits : List Bool) (bitmap mirror : Extents) (t : Table) (b : Bitmap) (old new : List Touched) (after : Table) (marked : Bitmap) (n : ℕ) → g.per_cluster ≡ 8 → Stands (drafted old c) g clusters v
+    → GrowsOfVolume c v bits bitmap mirror t b old new after marked → record_count v.table ≤ n → n < record_count v.table + table_records → new_sequence (drafted new c) v.per after.extents n ≡ 1
