@@ -1,0 +1,7 @@
+pub mod Values
+pub mod Remade
+pub mod Behind
+pub mod Bits
+pub mod Table
+pub mod Grown
+pub mod First

@@ -1,0 +1,7 @@
+pub mod Again
+pub mod Taken
+pub mod Steps
+pub mod Chosen
+pub mod Numbers
+pub mod Spelled
+pub mod Edit
