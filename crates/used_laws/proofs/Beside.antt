@@ -128,7 +128,7 @@ one_more more new r =
     omega (arith, all, parts, left)
 
 -- so many bytes of one attribute of the same stream
-alike : (more : List Attr) (x y : Attr) (r : Record) → x.head.kind ≡ y.head.kind → x.name ≡ y.name → length (spelling x) ≡ length (spelling y) → used_after (more ++ x ∷ []) r ≡ used_after (more ++ y ∷ []) r
+pub alike : (more : List Attr) (x y : Attr) (r : Record) → x.head.kind ≡ y.head.kind → x.name ≡ y.name → length (spelling x) ≡ length (spelling y) → used_after (more ++ x ∷ []) r ≡ used_after (more ++ y ∷ []) r
 alike more x y r kinds names sizes =
     let one = one_more more x r in
     let two = one_more more y r in

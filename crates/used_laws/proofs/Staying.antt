@@ -291,9 +291,9 @@ each_checked : (attrs : List Attr) → AllByRecursion MayBeRead attrs → AllByR
 each_checked [] may bytes = tt
 each_checked (a ∷ attrs) may bytes = (form_checked a.head.flags a.form may.0.fitting may.0.fits.form bytes.0, each_checked attrs may.1 bytes.1)
 
-checked : (kind : ℕ) (name : List ℕ) (r : Record) → FitsButRoom r → has_all_pairs r ≡ true → AllByRecursion HasBytes (attributes_of kind name r.attrs) → AllByRecursion IsReadAttr (attributes_of kind name r.attrs)
+checked : (kind : ℕ) (name : List ℕ) (r : Record) → FitsButRoom r → has_all_pairs r ≡ true → All HasBytes r.attrs → AllByRecursion IsReadAttr (attributes_of kind name r.attrs)
 unfolding has_all_pairs
-checked kind name r fits fitting bytes = each_checked (attributes_of kind name r.attrs) (all_of MayBeRead kind name r (each_may r.attrs fitting fits.attrs)) bytes
+checked kind name r fits fitting bytes = each_checked (attributes_of kind name r.attrs) (all_of MayBeRead kind name r (each_may r.attrs fitting fits.attrs)) (all_of HasBytes kind name r bytes)
 
 pub sizes : SizesUsed
 sizes = record { read = read_body; own = own_read; checked = checked; stays = stays; again = again }

@@ -1,5 +1,5 @@
 -- The used bytes that an operation's plan says are those of the record that is written.
-use Rattle.std.specs.Prelude.{◌≡◌, ◌≢◌, ◌⊎◌, ⊤, ℕ, ◌≤◌, true, List, [], ◌∷◌, ◌++◌, length, Option, Some, None, Result, Ok, Err}
+use Rattle.std.specs.Prelude.{◌≡◌, ◌≢◌, ◌⊎◌, ⊤, ℕ, ◌≤◌, true, All, List, [], ◌∷◌, ◌++◌, length, Option, Some, None, Result, Ok, Err}
 use Rattle.std.specs.List.{AllByRecursion}
 use Rattle.std.specs.List.Sorted.{IsPermutation}
 use Rattle.disk_model.specs.Bytes.{AreBytes}
@@ -99,7 +99,7 @@ IsReadAttr a = IsReadForm a.head.flags a.form
 pub record SizesUsed : Type 0 where
   pub read : (body : List ℕ) (r : Record) → length body ≡ 1024 → AreBytes body → whole_record body ≡ Ok r → AllByRecursion IsReadAttr r.attrs
   pub own : (kind : ℕ) (name : List ℕ) (r : Record) → AllByRecursion IsReadAttr r.attrs → AllByRecursion IsReadAttr (attributes_of kind name r.attrs)
-  pub checked : (kind : ℕ) (name : List ℕ) (r : Record) → FitsButRoom r → has_all_pairs r ≡ true → AllByRecursion HasBytes (attributes_of kind name r.attrs) → AllByRecursion IsReadAttr (attributes_of kind name r.attrs)
+  pub checked : (kind : ℕ) (name : List ℕ) (r : Record) → FitsButRoom r → has_all_pairs r ≡ true → All HasBytes r.attrs → AllByRecursion IsReadAttr (attributes_of kind name r.attrs)
   pub stays : (per kind : ℕ) (name : List ℕ) (e f : Extents) (r : Record) (a : Attr) (others : List Attr) → attributes_of kind name r.attrs ≡ a ∷ others → AllByRecursion IsReadAttr (a ∷ others) → first_vcn a ≡ 0 → stream_of kind name r.attrs ≡ Some (Placed e) → f.runs ≡ e.runs
       → written_bytes (placed_record per kind name f r) ≤ used_of r.attrs
   pub again : (per kind : ℕ) (name : List ℕ) (e f : Extents) (r : Record) (a : Attr) (others : List Attr) → attributes_of kind name r.attrs ≡ a ∷ others → f.runs ≡ e.runs → written_bytes (placed_record per kind name f (placed_record per kind name e r)) ≡ written_bytes (placed_record per kind name e r)
