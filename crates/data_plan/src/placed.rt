@@ -1,0 +1,126 @@
+//! Data that stands in clusters.
+ghost use Rattle.std.specs.Prelude.{◌≡◌, ◌<◌, ◌≤◌, ◌^◌, false, List, Bool, Some, length};
+ghost use Rattle.record_model.specs.Pairs.{cluster_limit};
+ghost use Rattle.state_model.specs.declared.stream.Stream.TheVariants.{Placed};
+ghost use Rattle.tree_model.specs.Effects.{clusters_after};
+ghost use Rattle.tree_model.specs.Steps.{IsWithinBounds};
+ghost use Rattle.data_plan.specs.Changes.{data_in, ShowsData, HasData, GrowsLittle, DataAfter};
+
+use crate::change::DataChange;
+use crate::fault::DataFault;
+use crate::resizing::{MOST_USED, grown, have_bytes, used, with_room};
+use crate::sizes::{clusters_after, size_after, valid_after};
+use file_record::FileRec;
+use file_tree::Node;
+use plan_space::FreeBits;
+use record_model::DATA;
+use resized_streams::{cut, sized};
+use state_model::{ClusterSize, Extents};
+use std::alloc::Global;
+use tree_model::Op;
+
+// Data takes clusters behind its own.
+fn grows<B: FreeBits>(
+    alloc: Global,
+    per: ClusterSize,
+    bits: &mut B,
+    extents: &Extents,
+    file: &FileRec,
+    op: &Op,
+    node: &Node,
+) -> Result<DataChange, DataFault>
+    requires per { per ≡ 8 }
+    requires clusters { length (B.bits bits.old) ≤ cluster_limit }
+    requires bounds { IsWithinBounds op.now }
+    requires has { HasData (length (B.bits bits.old)) file.now }
+    requires shows { ShowsData node.now file.now }
+    requires little { GrowsLittle op.now node.now }
+    requires placed { data_in file.now ≡ Some (Placed extents.now) }
+    requires more { node.now.clusters < clusters_after false op.now node.now }
+    ensures { DataAfter (B.bits bits.old) (B.bits bits.new) file.now op.now node.now result }
+{
+    let wanted = clusters_after(op, node) - node.clusters;
+    let z = grown(alloc, per, bits, extents, file, wanted)?;
+    Ok(DataChange::Grows(z))
+}
+
+// Data is cut off, and gives clusters back.
+fn cuts(
+    alloc: Global,
+    per: ClusterSize,
+    clusters: u64,
+    extents: &Extents,
+    file: &FileRec,
+    op: &Op,
+    node: &Node,
+) -> Result<DataChange, DataFault>
+    requires per { per ≡ 8 }
+    requires bounds { IsWithinBounds op.now }
+    requires has { HasData clusters file.now }
+    requires shows { ShowsData node.now file.now }
+    requires placed { data_in file.now ≡ Some (Placed extents.now) }
+    requires fewer { clusters_after false op.now node.now < node.now.clusters }
+    ensures { (bits : List Bool) → DataAfter bits bits file.now op.now node.now result }
+{
+    let z = cut(alloc, per, DATA, &[], extents, file, size_after(op, node))?;
+    let whole = with_room(z)?;
+    Ok(DataChange::Cut(whole))
+}
+
+// Data has other sizes in its clusters.
+fn changes_sizes(
+    alloc: Global,
+    per: ClusterSize,
+    clusters: u64,
+    extents: &Extents,
+    file: &FileRec,
+    op: &Op,
+    node: &Node,
+) -> Result<DataChange, DataFault>
+    requires per { per ≡ 8 }
+    requires bounds { IsWithinBounds op.now }
+    requires has { HasData clusters file.now }
+    requires shows { ShowsData node.now file.now }
+    requires placed { data_in file.now ≡ Some (Placed extents.now) }
+    requires same { clusters_after false op.now node.now ≡ node.now.clusters }
+    ensures { (bits : List Bool) → DataAfter bits bits file.now op.now node.now result }
+{
+    let used = used(file);
+    if used > MOST_USED {
+        return Err(DataFault::Full { used });
+    }
+    have_bytes(file.attrs().as_slice());
+    let (real, initialised) = (size_after(op, node), valid_after(op, node));
+    let z = sized(alloc, per, DATA, &[], extents, file, real, initialised)?;
+    Ok(DataChange::Sized(z))
+}
+
+// What comes of data that stands in clusters.
+pub fn placed_after<B: FreeBits>(
+    alloc: Global,
+    per: ClusterSize,
+    bits: &mut B,
+    extents: &Extents,
+    file: &FileRec,
+    op: &Op,
+    node: &Node,
+) -> Result<DataChange, DataFault>
+    requires per { per ≡ 8 }
+    requires clusters { length (B.bits bits.old) ≤ cluster_limit }
+    requires bounds { IsWithinBounds op.now }
+    requires has { HasData (length (B.bits bits.old)) file.now }
+    requires shows { ShowsData node.now file.now }
+    requires little { GrowsLittle op.now node.now }
+    requires placed { data_in file.now ≡ Some (Placed extents.now) }
+    ensures { DataAfter (B.bits bits.old) (B.bits bits.new) file.now op.now node.now result }
+{
+    let wanted = clusters_after(op, node);
+    if wanted > node.clusters {
+        return grows(alloc, per, bits, extents, file, op, node);
+    }
+    let clusters = bits.len();
+    if wanted < node.clusters {
+        return cuts(alloc, per, clusters, extents, file, op, node);
+    }
+    changes_sizes(alloc, per, clusters, extents, file, op, node)
+}
