@@ -32,7 +32,7 @@ use Rattle.stream_laws.proofs.Sharing.{attribute_kind}
 use Rattle.plan_owners.specs.States.{Stands}
 use Rattle.plan_bodies.specs.Bodies.{NewBody, content_with}
 use Rattle.plan_model.specs.Attributes.{IsValue}
-use Rattle.plan_model.specs.Parts.{NonePass, IsOfAnother}
+use Rattle.plan_model.specs.Parts.{NonePass, IsOfAnother, ReplacesAttrs}
 use Rattle.plan_model.proofs.Parting.{links_replaced, uses_replaced, types_same, info_same, attributes_same, stream_same, names_same, sizes_replaced}
 use Rattle.plan_growth.specs.Trees.{TreeFollows}
 use Rattle.plan_growth.proofs.Placed.{same_or_other}
@@ -44,7 +44,7 @@ use Rattle.plan_values.proofs.Valued.{value_fits, old_pairs, limits_named, entri
 
 -- ---- a record without a stream has no attribute of it
 
-some_sorted : (x : Attr) (attributes attrs : List Attr) → sorted_into (x ∷ attributes) attrs ≡ [] → ⊥
+pub some_sorted : (x : Attr) (attributes attrs : List Attr) → sorted_into (x ∷ attributes) attrs ≡ [] → ⊥
 some_sorted x attributes [] none = absurd cc
 some_sorted x attributes (a ∷ attrs) none = elim (cases_Bool (ltb (form_first a.form) (form_first x.form))) [
   | inl before ↦ some_sorted a (x ∷ attributes) attrs (sym (ap (λ (t : Bool). sorted_into (cond t (a ∷ x ∷ attributes) (x ∷ with_attribute a attributes)) attrs) before) ∙ none)
@@ -59,7 +59,7 @@ none_joined : (attributes : List Attr) → joined attributes ≡ None → attrib
 none_joined [] none = refl
 none_joined (a ∷ attributes) none = absurd cc
 
-none_pass : (test : Attr → Bool) (attrs : List Attr) → filter test attrs ≡ [] → AllByRecursion (λ a. test a ≡ false) attrs
+pub none_pass : (test : Attr → Bool) (attrs : List Attr) → filter test attrs ≡ [] → AllByRecursion (λ a. test a ≡ false) attrs
 none_pass test [] none = tt
 none_pass test (a ∷ attrs) none = elim (cases_Bool (test a)) [
   | inl passes ↦ (let some : a ∷ filter test attrs ≡ [] = sym (ap (λ (t : Bool). cond t (a ∷ filter test attrs) (filter test attrs)) passes) ∙ none in absurd cc)
@@ -137,6 +137,18 @@ value_runs (Mapped sizes pairs) is = absurd is
 value_stream : (form : OwnForm) (runs : List Run) → IsValue form → (runs_in (Some (form_stream form runs)) ≡ []) × (initialised_in (Some (form_stream form runs)) ≡ 0)
 value_stream (Resident value indexed) runs is = (refl, refl)
 value_stream (Mapped sizes pairs) runs is = absurd is
+
+-- pairs that fit still do beside a value
+pub made_fits : (r p : Record) (one : Attr) → ReplacesAttrs [] (one ∷ []) r p → IsValue one.form → list_all has_fitting_pairs r.attrs ≡ true → list_all has_fitting_pairs p.attrs ≡ true
+made_fits r p one comes value old =
+    let all : List Attr → Bool = list_all has_fitting_pairs in
+    let front : List Attr = comes.attrs.front in
+    let behind : List Attr = comes.attrs.behind in
+    let was : (all front && all behind) ≡ true = sym (list_all-append has_fitting_pairs front behind) ∙ sym (ap all comes.attrs.was) ∙ old in
+    let parts = and_parts (all front) (all behind) was in
+    ap all comes.attrs.is
+    ∙ list_all-append has_fitting_pairs front (one ∷ behind)
+    ∙ and_from (all front) (all (one ∷ behind)) parts.0 (and_from (has_fitting_pairs one) (all behind) (value_fits one.form value) parts.1)
 
 -- ---- what stays
 
@@ -216,13 +228,7 @@ module _ (c : Content) (g : Geometry) (clusters : ℕ) (v : Volume) (n : ℕ) (r
       refl
 
   fits : list_all has_fitting_pairs p.attrs ≡ true
-  fits =
-      let all : List Attr → Bool = list_all has_fitting_pairs in
-      let was : (all front && all behind) ≡ true = sym (list_all-append has_fitting_pairs front behind) ∙ sym (ap all k.comes.attrs.was) ∙ old_pairs c g clusters v n r state k.own in
-      let parts = and_parts (all front) (all behind) was in
-      ap all k.comes.attrs.is
-      ∙ list_all-append has_fitting_pairs front (one ∷ behind)
-      ∙ and_from (all front) (all (one ∷ behind)) parts.0 (and_from (has_fitting_pairs one) (all behind) (value_fits one.form k.value) parts.1)
+  fits = made_fits r p one k.comes k.value (old_pairs c g clusters v n r state k.own)
 
   flags_same : data_flags p ≡ data_flags r
   unfolding data_flags

@@ -87,7 +87,7 @@ info_spared a is =
     let at = eqb-true a.head.kind standard_information is in
     false_from_ne_true (is_data a) (λ data_is. (let kind = (attribute_kind data_type [] a data_is).0 in absurd (omega (arith, at, kind))))
 
-data_spared : SparesAll is_info is_data
+pub data_spared : SparesAll is_info is_data
 data_spared a is =
     let kind = (attribute_kind data_type [] a is).0 in
     false_from_ne_true (is_info a) (λ info. (let at = eqb-true a.head.kind standard_information info in absurd (omega (arith, at, kind))))
