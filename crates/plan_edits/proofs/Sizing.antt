@@ -115,7 +115,7 @@ behind_them at bytes old i fits past =
     ∙ get_or-drop (at + length bytes) old (i - at - length bytes) 0
     ∙ ap (λ (k : ℕ). get_or old k 0) rest
 
-length-put_over : (at : ℕ) (bytes old : List ℕ) → at ≤ length old → length (put_over at bytes old) ≡ max (length old) (at + length bytes)
+pub length-put_over : (at : ℕ) (bytes old : List ℕ) → at ≤ length old → length (put_over at bytes old) ≡ max (length old) (at + length bytes)
 length-put_over at bytes old fits =
     let front = length-take at old in
     let rest = length-drop (at + length bytes) old in

@@ -1,0 +1,4 @@
+pub mod Becoming
+pub mod Showing
+pub mod Bringing
+pub mod Changing

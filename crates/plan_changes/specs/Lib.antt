@@ -1,0 +1,4 @@
+pub mod Nodes
+pub mod Files
+pub mod Bytes
+pub mod Changes
