@@ -2,3 +2,4 @@ pub mod Becoming
 pub mod Showing
 pub mod Bringing
 pub mod Changing
+pub mod Falling

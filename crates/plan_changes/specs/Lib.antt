@@ -2,3 +2,4 @@ pub mod Nodes
 pub mod Files
 pub mod Bytes
 pub mod Changes
+pub mod Rooms

@@ -3,6 +3,7 @@ ghost use Rattle.plan_changes.specs.Bytes.{BytesBrought};
 ghost use Rattle.plan_changes.specs.Changes.{FileChanged};
 ghost use Rattle.plan_changes.specs.Files.{FilesShow};
 ghost use Rattle.plan_changes.specs.Nodes.{NodesBecome};
+ghost use Rattle.plan_changes.specs.Rooms.{RoomsFall};
 
 /// Law: trees that differ by one node, and one such change behind another.
 pub fn nodes_become()
@@ -22,4 +23,10 @@ pub fn bytes_brought()
 /// Law: where edits have led to the node that an operation leaves, the operation has changed the tree.
 pub fn file_changed()
     ensures { FileChanged }
+{}
+
+/// Law: where an edit takes clusters the room falls by at most these, and where it takes none the room
+/// doesn't fall.
+pub fn rooms_fall()
+    ensures { RoomsFall }
 {}
