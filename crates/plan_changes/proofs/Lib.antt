@@ -3,3 +3,4 @@ pub mod Showing
 pub mod Bringing
 pub mod Changing
 pub mod Falling
+pub mod Going

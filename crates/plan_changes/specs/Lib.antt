@@ -3,3 +3,4 @@ pub mod Files
 pub mod Bytes
 pub mod Changes
 pub mod Rooms
+pub mod Going

@@ -2,6 +2,7 @@
 ghost use Rattle.plan_changes.specs.Bytes.{BytesBrought};
 ghost use Rattle.plan_changes.specs.Changes.{FileChanged};
 ghost use Rattle.plan_changes.specs.Files.{FilesShow};
+ghost use Rattle.plan_changes.specs.Going.{FilesGoOn};
 ghost use Rattle.plan_changes.specs.Nodes.{NodesBecome};
 ghost use Rattle.plan_changes.specs.Rooms.{RoomsFall};
 
@@ -29,4 +30,10 @@ pub fn file_changed()
 /// doesn't fall.
 pub fn rooms_fall()
     ensures { RoomsFall }
+{}
+
+/// Law: behind an edit the file is one of its own again, with the stream or the values that the edit
+/// gave it, so that the next edit begins there.
+pub fn files_go_on()
+    ensures { FilesGoOn }
 {}

@@ -234,8 +234,8 @@ module _ (c : Content) (g : Geometry) (clusters : ℕ) (v : Volume) (n : ℕ) (r
   unfolding data_flags
   flags_same = ap first_flags pieces ∙ k.plain ∙ sym (ap first_flags none_were)
 
-  stays : Stays v n r p
-  stays = record {
+  pub made_stays : Stays v n r p
+  made_stays = record {
     seq = k.comes.seq;
     base = k.base;
     directory = ap (λ (f : ℕ). eqb (f / 2 % 2) 1) k.comes.flags;
@@ -260,13 +260,13 @@ module _ (c : Content) (g : Geometry) (clusters : ℕ) (v : Volume) (n : ℕ) (r
   data_tree : TreeFollows c (content_with c bodies) v n r s
   data_tree =
       data_only c (content_with c bodies) v n r s k.own.file
-      (info_now c g clusters v n r p s bodies sized state k.own stays k.put ∙ info_same [] (one ∷ []) r p k.comes (of_type standard_information (λ e. omega (arith, e))))
-      (stays_tree c g clusters v n r p s bodies sized state k.own stays k.put)
+      (info_now c g clusters v n r p s bodies sized state k.own made_stays k.put ∙ info_same [] (one ∷ []) r p k.comes (of_type standard_information (λ e. omega (arith, e))))
+      (stays_tree c g clusters v n r p s bodies sized state k.own made_stays k.put)
 
 pub data_is_made : DataMade
 data_is_made = record {
-  leads = λ c g clusters v n r p s one bodies sized state k. stays_leads c g clusters v n r p s bodies sized state k.own (stays c g clusters v n r p s one bodies sized state k) k.put;
-  goes_on = λ first start c g clusters v n r p s one bodies gave sized state k clear. stays_goes_on c g clusters v n r p s bodies sized state k.own (stays c g clusters v n r p s one bodies sized state k) k.put first start gave clear;
-  tree = λ c g clusters v n r p s one bodies sized state k. stays_tree c g clusters v n r p s bodies sized state k.own (stays c g clusters v n r p s one bodies sized state k) k.put;
+  leads = λ c g clusters v n r p s one bodies sized state k. stays_leads c g clusters v n r p s bodies sized state k.own (made_stays c g clusters v n r p s one bodies sized state k) k.put;
+  goes_on = λ first start c g clusters v n r p s one bodies gave sized state k clear. stays_goes_on c g clusters v n r p s bodies sized state k.own (made_stays c g clusters v n r p s one bodies sized state k) k.put first start gave clear;
+  tree = λ c g clusters v n r p s one bodies sized state k. stays_tree c g clusters v n r p s bodies sized state k.own (made_stays c g clusters v n r p s one bodies sized state k) k.put;
   data_alone = λ c g clusters v n r p s one bodies sized state k. data_tree c g clusters v n r p s one bodies sized state k;
 }

@@ -118,8 +118,8 @@ module _ (c : Content) (g : Geometry) (clusters : ℕ) (v : Volume) (n : ℕ) (r
   abbrev may : Attr → Bool
   may = is_info_or_data
 
-  stays : Stays v n r p
-  stays = record {
+  pub value_stays : Stays v n r p
+  value_stays = record {
     seq = k.values.seq;
     base = k.values.base;
     directory = same_directory may r p k.values;
@@ -143,19 +143,19 @@ module _ (c : Content) (g : Geometry) (clusters : ℕ) (v : Volume) (n : ℕ) (r
 
   data_tree : RewritesValues is_data r p → TreeFollows c (content_with c bodies) v n r s
   data_tree only =
-      data_only c (content_with c bodies) v n r s k.own.file (info_now c g clusters v n r p s bodies sized state k.own stays k.put ∙ same_info is_data r p only info_spared) (stays_tree c g clusters v n r p s bodies sized state k.own stays k.put)
+      data_only c (content_with c bodies) v n r s k.own.file (info_now c g clusters v n r p s bodies sized state k.own value_stays k.put ∙ same_info is_data r p only info_spared) (stays_tree c g clusters v n r p s bodies sized state k.own value_stays k.put)
 
   times_tree : RewritesValues is_info r p → InfoDiffers n (info_of p) (tree_of c v) (tree_of (content_with c bodies) (with_record v n s))
   times_tree only =
-      let same = shown_stays c g clusters v n r p s bodies sized state k.own stays k.put (same_stream is_info r p data_type [] only data_spared) in
-      subst (λ (i : StdInfo). InfoDiffers n i (tree_of c v) (tree_of (content_with c bodies) (with_record v n s))) (info_now c g clusters v n r p s bodies sized state k.own stays k.put)
-      (times_only c (content_with c bodies) v n r s k.own.file same.0 same.1 (stays_tree c g clusters v n r p s bodies sized state k.own stays k.put))
+      let same = shown_stays c g clusters v n r p s bodies sized state k.own value_stays k.put (same_stream is_info r p data_type [] only data_spared) in
+      subst (λ (i : StdInfo). InfoDiffers n i (tree_of c v) (tree_of (content_with c bodies) (with_record v n s))) (info_now c g clusters v n r p s bodies sized state k.own value_stays k.put)
+      (times_only c (content_with c bodies) v n r s k.own.file same.0 same.1 (stays_tree c g clusters v n r p s bodies sized state k.own value_stays k.put))
 
 pub values_written : ValueWritten
 values_written = record {
-  leads = λ c g clusters v n r p s bodies sized state k. stays_leads c g clusters v n r p s bodies sized state k.own (stays c g clusters v n r p s bodies sized state k) k.put;
-  goes_on = λ first start c g clusters v n r p s bodies gave sized state k clear. stays_goes_on c g clusters v n r p s bodies sized state k.own (stays c g clusters v n r p s bodies sized state k) k.put first start gave clear;
-  tree = λ c g clusters v n r p s bodies sized state k. stays_tree c g clusters v n r p s bodies sized state k.own (stays c g clusters v n r p s bodies sized state k) k.put;
+  leads = λ c g clusters v n r p s bodies sized state k. stays_leads c g clusters v n r p s bodies sized state k.own (value_stays c g clusters v n r p s bodies sized state k) k.put;
+  goes_on = λ first start c g clusters v n r p s bodies gave sized state k clear. stays_goes_on c g clusters v n r p s bodies sized state k.own (value_stays c g clusters v n r p s bodies sized state k) k.put first start gave clear;
+  tree = λ c g clusters v n r p s bodies sized state k. stays_tree c g clusters v n r p s bodies sized state k.own (value_stays c g clusters v n r p s bodies sized state k) k.put;
   data_alone = λ c g clusters v n r p s bodies sized state k only. data_tree c g clusters v n r p s bodies sized state k only;
   times_alone = λ c g clusters v n r p s bodies sized state k only. times_tree c g clusters v n r p s bodies sized state k only;
 }
