@@ -42,7 +42,7 @@ shares_itself a b same =
     let some = has_sectors a.kind in
     ap (overlap a) (sym (same_block-is a b same)) ∙ and_from (ltb a.first (a.first + sectors a.kind)) (ltb a.first (a.first + sectors a.kind)) (lt-ltb a.first (a.first + sectors a.kind) (omega (arith, some))) (lt-ltb a.first (a.first + sectors a.kind) (omega (arith, some)))
 
-own_by : (per : ℕ) (runs : List Run) → 0 < per → AreOnce runs → HasOwnSectors per runs
+pub own_by : (per : ℕ) (runs : List Run) → 0 < per → AreOnce runs → HasOwnSectors per runs
 own_by per runs some all s t a b other first second = false_from_ne_true (same_block a b) (λ same. other (one_place per runs Plain s t a b some all first second (shares_itself a b same)))
 
 own_sectors : (c : Content) (g : Geometry) (clusters : ℕ) (v : Volume) (bitmap : Extents) → Stands c g clusters v → stream_at v bitmap_key ≡ Some (Placed bitmap) → HasOwnSectors v.per bitmap.runs
@@ -80,14 +80,14 @@ mapped : (f : ℕ → Block) (o : Option ℕ) → is_some o ≡ true → is_some
 mapped f None is = absurd cc
 mapped f (Some x) is = refl
 
-lies_by : (per s : ℕ) (runs : List Run) → HasSpelling 0 runs → list_any is_hole runs ≡ false → 1 * s / per < total_clusters runs → is_some (block_at per runs Plain s) ≡ true
+pub lies_by : (per s : ℕ) (runs : List Run) → HasSpelling 0 runs → list_any is_hole runs ≡ false → 1 * s / per < total_clusters runs → is_some (block_at per runs Plain s) ≡ true
 unfolding block_at
 lies_by per s runs spelled whole below =
     let last : 1 * s + 1 - 1 ≡ 1 * s = omega arith in
     mapped (λ lcn. record { first = lcn * per + 1 * s % per; kind = Plain }) (lcn_in (1 * s / per) (find (holds (1 * s / per) ((1 * s + 1 - 1) / per)) runs))
     (ap (λ (x : ℕ). is_some (lcn_in (1 * s / per) (find (holds (1 * s / per) (x / per)) runs))) last ∙ found_in runs 0 (1 * s / per) spelled whole (omega arith) (omega (arith, below)))
 
-in_total : (per total initialised s : ℕ) → per ≡ 8 → initialised ≤ total * (512 * per) → 512 * s < initialised → 1 * s / per < total
+pub in_total : (per total initialised s : ℕ) → per ≡ 8 → initialised ≤ total * (512 * per) → 512 * s < initialised → 1 * s / per < total
 in_total per total initialised s eight = subst (λ (p : ℕ). initialised ≤ total * (512 * p) → 512 * s < initialised → 1 * s / p < total) (sym eight) (λ least begins. omega (arith, least, begins))
 
 -- ---- the rules of a state

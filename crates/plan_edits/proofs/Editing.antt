@@ -54,7 +54,7 @@ use Rattle.plan_edits.specs.Edits.{bitmap_key, mirror_key, HasBitmap, PutsOfVolu
 use Rattle.plan_edits.proofs.Reading.{written_read}
 use Rattle.plan_edits.proofs.Putting.{resized_goes, content_goes}
 
-some_of : {A : Type 0} (o : Option A) → is_some o ≡ true → (x : A) × (o ≡ Some x)
+pub some_of : {A : Type 0} (o : Option A) → is_some o ≡ true → (x : A) × (o ≡ Some x)
 some_of None is = absurd cc
 some_of (Some x) is = (x, refl)
 
@@ -83,9 +83,22 @@ mirror_kind : stream_kind mirror_key ≡ FileRec
 unfolding stream_kind
 mirror_kind = refl
 
-bitmap_kind : stream_kind bitmap_key ≡ Plain
+pub bitmap_kind : stream_kind bitmap_key ≡ Plain
 unfolding stream_kind
 bitmap_kind = refl
+
+-- the mirror's block of a record is one of the mirror's stream
+pub mirror_owned : (v : Volume) (mirror : Extents) (n : ℕ) (b : Block) → extents_or (stream_at v mirror_key) ≡ mirror → record_block v.per mirror n ≡ Some b → IsOwnedIn marks_streams v b
+mirror_owned v mirror n b is lies = record {
+  stream = mirror_key;
+  chosen = refl;
+  number = n;
+  lies = ap₂ (λ (runs : List Run) (kind : BlockKind). block_at v.per runs kind n) (same_runs (stream_at v mirror_key) mirror is) mirror_kind ∙ lies;
+}
+
+pub same_bytes : (o rest : Option (List ℕ)) (bytes found : List ℕ) → option_or o rest ≡ Some bytes → o ≡ Some found → o ≡ Some bytes
+same_bytes None rest bytes found all one = absurd cc
+same_bytes (Some x) rest bytes found all one = all
 
 module _ (c : Content) (v : Volume) (bitmap mirror : Extents) (n : ℕ) (z : Resized) (old new : List Touched) (is : PutsOfVolume c v bitmap mirror n z old new) where
   abbrev d : Content
@@ -100,14 +113,6 @@ module _ (c : Content) (v : Volume) (bitmap mirror : Extents) (n : ℕ) (z : Res
   puts : PutsBlocks (λ b. IsMirrored v.per v.table mirror n b ⊎ IsSectorOf v.per bitmap.runs b) (IsMirrored v.per v.table mirror n) old new
   puts = resized_goes c v.per bitmap v.table mirror n z old new is.put
 
-  in_mirror : (b : Block) → record_block v.per mirror n ≡ Some b → IsOwnedIn marks_streams v b
-  in_mirror b lies = record {
-    stream = mirror_key;
-    chosen = refl;
-    number = n;
-    lies = ap₂ (λ (runs : List Run) (kind : BlockKind). block_at v.per runs kind n) (same_runs (stream_at v mirror_key) mirror is.mirror_is) mirror_kind ∙ lies;
-  }
-
   pub in_bitmap : (b : Block) → IsSectorOf v.per bitmap.runs b → IsOwnedIn marks_streams v b
   in_bitmap b lies = record {
     stream = bitmap_key;
@@ -118,7 +123,7 @@ module _ (c : Content) (v : Volume) (bitmap mirror : Extents) (n : ℕ) (z : Res
 
   at_block : (b : Block) → IsMirrored v.per v.table mirror n b ⊎ IsSectorOf v.per bitmap.runs b → IsOwnedIn marks_streams v b ⊎ (record_block v.per v.table n ≡ Some b)
   at_block b (inl (inl own)) = inr own
-  at_block b (inl (inr other)) = inl (in_mirror b other.1)
+  at_block b (inl (inr other)) = inl (mirror_owned v mirror n b is.mirror_is other.1)
   at_block b (inr sector) = inl (in_bitmap b sector)
 
   each_block : (bodies : List NewBody) → AllByRecursion (λ p. IsMirrored v.per v.table mirror n p.block ⊎ IsSectorOf v.per bitmap.runs p.block) bodies → AllByRecursion (λ p. IsOwnedIn marks_streams v p.block ⊎ (record_block v.per v.table n ≡ Some p.block)) bodies
@@ -126,10 +131,6 @@ module _ (c : Content) (v : Volume) (bitmap mirror : Extents) (n : ℕ) (z : Res
   each_block (p ∷ bodies) all = (at_block p.block all.0, each_block bodies all.1)
 
   -- ---- the record
-
-  same_bytes : (o rest : Option (List ℕ)) (bytes found : List ℕ) → option_or o rest ≡ Some bytes → o ≡ Some found → o ≡ Some bytes
-  same_bytes None rest bytes found all one = absurd cc
-  same_bytes (Some x) rest bytes found all one = all
 
   put_here : (b : Block) → record_block v.per v.table n ≡ Some b → body_in puts.bodies b ≡ Some (resized_bytes z)
   put_here b lies =

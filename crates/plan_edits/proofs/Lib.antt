@@ -3,3 +3,5 @@ pub mod Putting
 pub mod Editing
 pub mod Bitmap
 pub mod Moving
+pub mod Recording
+pub mod Sizing

@@ -83,7 +83,7 @@ in_count : (m size : ℕ) (t : Bool) → eqb size 0 ≡ t → 512 * (1 * m) < si
 in_count m size true none low = (let empty : size ≡ 0 = eqb-true size 0 none in absurd (omega (arith, low, empty)))
 in_count m size false some low = omega (arith, low)
 
-none_in : (per : ℕ) (runs : List Run) (bodies : List NewBody) (b : Block) → AllByRecursion (λ p. IsSectorOf per runs p.block) bodies → IsNoSector per runs b → body_in bodies b ≡ None
+pub none_in : (per : ℕ) (runs : List Run) (bodies : List NewBody) (b : Block) → AllByRecursion (λ p. IsSectorOf per runs p.block) bodies → IsNoSector per runs b → body_in bodies b ≡ None
 none_in per runs [] b each apart = refl
 none_in per runs (w ∷ bodies) b each apart = ap (λ (t : Bool). cond t (Some w.bytes) (body_in bodies b)) (apart each.0.0 w.block each.0.1) ∙ none_in per runs bodies b each.1 apart
 

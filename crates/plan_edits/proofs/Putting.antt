@@ -247,7 +247,7 @@ module _ (c : Content) (per : ℕ) (table mirror : Extents) (n : ℕ) (bytes : L
     kept = own_goes.kept;
   }
 
-  file_goes : Goes here here old (touch_record c per table mirror n bytes old)
+  pub file_goes : Goes here here old (touch_record c per table mirror n bytes old)
   file_goes = file_by (has_mirror mirror n) refl
 
 -- ---- a file with the bits of its clusters

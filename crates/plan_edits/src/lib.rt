@@ -8,5 +8,6 @@
 mod laws;
 
 pub use laws::{
-    drafts_put_blocks, moved_is_edit, resized_is_edit, state_has_bitmap, written_is_read,
+    drafts_put_blocks, moved_is_edit, record_is_edit, resized_is_edit, sized_is_edit,
+    state_has_bitmap, written_is_read,
 };

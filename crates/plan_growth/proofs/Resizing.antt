@@ -134,7 +134,7 @@ asked false x y less is = refl
 asked true false y less is = ap not (less refl)
 asked true true y less is = absurd cc
 
-none_of_two : (t x : Bool) → x ≡ false → (t && x) ≡ false
+pub none_of_two : (t x : Bool) → x ≡ false → (t && x) ≡ false
 none_of_two true x is = is
 none_of_two false x is = refl
 
@@ -144,17 +144,17 @@ inside_none count k = ap (λ (t : Bool). not t && ltb (8 * k / 8) count) (eq-eqb
 
 -- ---- which streams are put to
 
-not_marks : (m kind : ℕ) (name : List ℕ) → kind ≢ data_type → marks_streams (record { file = m; kind = kind; name = name }) ≡ false
+pub not_marks : (m kind : ℕ) (name : List ℕ) → kind ≢ data_type → marks_streams (record { file = m; kind = kind; name = name }) ≡ false
 not_marks m kind name other = and_left ((eqb m bitmap_file || eqb m mirror_file) && eqb kind data_type) (pointwise nat_eq name []) (none_of_two (eqb m bitmap_file || eqb m mirror_file) (eqb kind data_type) (ne_eqb kind data_type other))
 
-not_marked : (m : ℕ) (name : List ℕ) → m ≢ bitmap_file → m ≢ mirror_file → marks_streams (record { file = m; kind = data_type; name = name }) ≡ false
+pub not_marked : (m : ℕ) (name : List ℕ) → m ≢ bitmap_file → m ≢ mirror_file → marks_streams (record { file = m; kind = data_type; name = name }) ≡ false
 not_marked m name one two = ap₂ (λ (s t : Bool). (s || t) && eqb data_type data_type && pointwise nat_eq name []) (ne_eqb m bitmap_file one) (ne_eqb m mirror_file two)
 
-not_named : (m kind u : ℕ) (name : List ℕ) → marks_streams (record { file = m; kind = kind; name = u ∷ name }) ≡ false
+pub not_named : (m kind u : ℕ) (name : List ℕ) → marks_streams (record { file = m; kind = kind; name = u ∷ name }) ≡ false
 not_named m kind u name = none_of_two ((eqb m bitmap_file || eqb m mirror_file) && eqb kind data_type) false refl
 
 -- files of the volume itself show no data
-no_system_shown : (v : Volume) (m : ℕ) (r : Record) → m < first_user_record → shows_data (kind_in v m r) ≡ true → ⊥
+pub no_system_shown : (v : Volume) (m : ℕ) (r : Record) → m < first_user_record → shows_data (kind_in v m r) ≡ true → ⊥
 unfolding kind_in is_system
 no_system_shown v m r below shown = elim (cases_Bool (is_directory_record r)) [
   | inl directory ↦ (let none : false ≡ true = sym (rw directory refl) ∙ shown in absurd cc)
@@ -169,7 +169,7 @@ from_some r q is = ap (or_this r) is
     or_this x (Some y) = y
 
 -- none of these is an index block
-void_apart : (b : Block) → Index ≢ b.kind → same_block void_block b ≡ false
+pub void_apart : (b : Block) → Index ≢ b.kind → same_block void_block b ≡ false
 void_apart b other = and_right (eqb void_block.first b.first) (same_kind Index b.kind) (by_kind b.kind other)
   where
     by_kind : (k : BlockKind) → Index ≢ k → same_kind Index k ≡ false
@@ -178,7 +178,7 @@ void_apart b other = and_right (eqb void_block.first b.first) (same_kind Index b
     by_kind Index differ = absurd (differ refl)
 
 -- the blocks of a stream that is no index are none
-not_allocation : (t : StreamKey) → eqb t.kind index_allocation ≡ false → stream_kind t ≡ Index → ⊥
+pub not_allocation : (t : StreamKey) → eqb t.kind index_allocation ≡ false → stream_kind t ≡ Index → ⊥
 unfolding stream_kind
 not_allocation t none = two_kinds (holds_records t) (eqb t.kind index_allocation) none
   where
@@ -218,13 +218,13 @@ node_of n seq kind why held shown bytes info = record {
   read_at = info.read_at;
 }
 
-mapped : (f : Node → Node) (t : Bool) (a : Node) → cond t None (Some (f a)) ≡ option_map f (cond t None (Some a))
+pub mapped : (f : Node → Node) (t : Bool) (a : Node) → cond t None (Some (f a)) ≡ option_map f (cond t None (Some a))
 mapped f true a = refl
 mapped f false a = refl
 
 -- ---- the pairs of a record in use
 
-slot_open : (c : Content) (v : Volume) (n : ℕ) (r : Record) → table_slot c v.per v.table n ≡ Used r → cond (leb v.table.initialised (1024 * n)) Free (slot_at c (block_at v.per v.table.runs FileRec n)) ≡ Used r
+pub slot_open : (c : Content) (v : Volume) (n : ℕ) (r : Record) → table_slot c v.per v.table n ≡ Used r → cond (leb v.table.initialised (1024 * n)) Free (slot_at c (block_at v.per v.table.runs FileRec n)) ≡ Used r
 unfolding table_slot
 slot_open c v n r is = is
 
@@ -237,7 +237,7 @@ whole_pairs (Ok x) r is = chosen (has_all_pairs x) (has_lawful_values x) refl is
     chosen true false all same = absurd cc
     chosen false t all same = absurd cc
 
-used_pairs : (initialised at : ℕ) (c : Content) (o : Option Block) (r : Record) → cond (leb initialised at) Free (slot_at c o) ≡ Used r → list_all has_fitting_pairs r.attrs ≡ true
+pub used_pairs : (initialised at : ℕ) (c : Content) (o : Option Block) (r : Record) → cond (leb initialised at) Free (slot_at c o) ≡ Used r → list_all has_fitting_pairs r.attrs ≡ true
 unfolding slot_of whole_record has_all_pairs
 used_pairs initialised at c o r is = by_test (leb initialised at) o is
   where

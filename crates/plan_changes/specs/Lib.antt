@@ -1,0 +1,6 @@
+pub mod Nodes
+pub mod Files
+pub mod Bytes
+pub mod Changes
+pub mod Rooms
+pub mod Going

@@ -1,0 +1,9 @@
+//! Edits of one file, one behind the other, as an operation that writes or cuts it: they change its
+//! node and nothing else of the tree but the room.
+//!
+//! The contract: the laws of these definitions, as functions with no body.
+#![tactic(auto)]
+
+mod laws;
+
+pub use laws::{bytes_brought, file_changed, files_go_on, files_show, nodes_become, rooms_fall};
