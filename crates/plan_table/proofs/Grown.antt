@@ -40,7 +40,7 @@ use Rattle.state_model.specs.Streams.{attributes_of, real_size, stream_of, block
 use Rattle.state_model.specs.Trees.{is_nameless, is_system}
 use Rattle.volume_model.specs.Volumes.{Volume, count_of, file_in, files_by_number, file_stream, bytes_or, size_or, is_in_use, record_bitmap, record_bits, cluster_bits, table_file, mirror_file, bitmap_file, upcase_file, upper_of}
 use Rattle.volume_model.specs.Indexes.{void_block, index_place, index_links, index_stream, stream_blocks, links_below, lists_names, keeps_index}
-use Rattle.volume_model.specs.Nodes.{valid_or, clusters_or, data_flags, has_sparse_run, sparse_if, why_not, kind_in, shows_data, data_shown, node_with, node_by, some_node, node_at, nodes_by, spare_at, spare_numbers}
+use Rattle.volume_model.specs.Nodes.{valid_or, clusters_or, data_flags, has_sparse_run, sparse_if, why_not, kind_in, shows_data, data_shown, node_with, node_by, some_node, node_at, nodes_by, spare_at, spare_numbers, free_clusters}
 use Rattle.volume_model.specs.Owners.{file_runs, volume_runs, uses, keeps_record_bit}
 use Rattle.volume_model.specs.Sizes.{are_joined, lies_inside, has_sizes, fits_volume, keeps_stream, has_hole, is_torn_at, begun, has_torn, stream_has_torn, keeps_bitmaps, keeps_streams, keeps_sizes}
 use Rattle.volume_state.specs.Journals.{entries_name, limits_name, entries_flags, file_or_none, journal_file, journal_of_streams, journal_of_file, journal_of, fault_of, some_journal}
@@ -105,9 +105,11 @@ use Rattle.plan_growth.proofs.Ruled.{sizes_lawful}
 use Rattle.plan_growth.proofs.Runs.{grown_inside, grown_whole}
 use Rattle.plan_growth.proofs.Sizing.{none_from}
 use Rattle.plan_growth.proofs.Written.{Reads, all_read}
-use Rattle.plan_table.specs.Growing.{longer_table, numbers_key, longer_volume, IsOfTable, GrowsVolumeTable, HasLongerTable, gives_table, TableIsGrown}
+use Rattle.plan_table.specs.Growing.{new_clusters, longer_table, numbers_key, longer_volume, IsOfTable, GrowsVolumeTable, HasLongerTable, gives_table, TableIsGrown}
 use Rattle.plan_table.proofs.Behind.{in_one, old_or_free}
 use Rattle.plan_table.proofs.Bits.{IsWider, becomes_wider}
+use Rattle.plan_table.proofs.Room.{count_as_sum, sum_of_none, sum_of_two, uses_sum}
+use Rattle.tree_laws.proofs.Counting.{room_balance}
 use Rattle.plan_table.proofs.Table.{table_no_list, table_own, table_records, table_each, table_fits, table_initialised, table_whole, numbers_fit, numbers_whole}
 use Rattle.plan_table.proofs.Remade.{IsAnother, IsRemade, table_remade}
 
@@ -989,19 +991,6 @@ module _ (c : Content) (g : Geometry) (clusters : ℕ) (v : Volume) (r : Record)
       ∙ same_given (spare_at c v) (spare_at d w) first_user_record (count_of v - first_user_record)
       (λ m low high. untouched_spare touched inside c d v files m touches agrees (omega (arith, low, high)) (others_not m (λ same. omega (arith, low, same))))
 
-  tree : HasLongerTable (tree_of c v) (tree_of (content_with c bodies) (longer_volume v more s))
-  unfolding tree_of tree_with volume_journal
-  tree =
-      let has = grown_tree d w f (tree_of d w) held grows in
-      let size : (tree_of d u).count ≡ record_count f = grown_count d w f (tree_of d w) held grows in
-      record {
-        nodes = has.nodes ∙ nodes_now;
-        links = has.links ∙ links_kept v.files files table_file differs names;
-        spare = has.spare ∙ ap₂ (λ (l : List FileRef) (n : ℕ). l ++ new_numbers n (tree_of d u).count) spare_now count_w;
-        count = size ∙ count_now ∙ ap (λ (n : ℕ). n + 256) (sym counted);
-        journal = has.journal ∙ ap some_journal journal_now;
-      }
-
   -- ---- as an edit of a plan
 
   -- each stream is the table, or the bitmap, or stays
@@ -1061,6 +1050,60 @@ module _ (c : Content) (g : Geometry) (clusters : ℕ) (v : Volume) (r : Record)
     set = λ x low some. (let sum = clusters_u x in let both = set_now x (subst (λ (y : ℕ). x < y) clusters_are low) (omega (arith, sum, some)) in (both.0, bit_u x ∙ both.1));
     others = λ x low equal. (let sum = clusters_u x in bit_u x ∙ same_bit x (subst (λ (y : ℕ). x < y) clusters_are low) (omega (arith, sum, equal)));
   }
+
+  -- ---- the room
+
+  one_counts : (x : ℕ) → x < v.clusters → cond {A = ℕ} (not (bit (cluster_bits c v) x) && bit (cluster_bits d u) x) 1 0 ≡ taken x
+  unfolding taken
+  one_counts x low = elim (cases_lt 0 (taken x)) [
+    | inl some ↦
+        (let both = set_now x low some in
+        let most = k.apart x in
+        let one : 1 ≡ taken x = omega (arith, some, most) in
+        ap₂ (λ (a b : Bool). cond {A = ℕ} (not a && b) 1 0) both.0 (bit_u x ∙ both.1) ∙ one)
+    | inr none ↦
+        (let zero_now : 0 ≡ taken x = omega (arith, none) in
+        ap (λ (b : Bool). cond {A = ℕ} (not (bit (cluster_bits c v) x) && b) 1 0) (bit_u x ∙ same_bit x low (omega (arith, none))) ∙ never (bit (cluster_bits c v) x) ∙ zero_now)
+  ]
+    where
+      never : (t : Bool) → cond {A = ℕ} (not t && t) 1 0 ≡ 0
+      never true = refl
+      never false = refl
+
+  none_clear : (x : ℕ) → x < v.clusters → cond {A = ℕ} (bit (cluster_bits c v) x && not (bit (cluster_bits d u) x)) 1 0 ≡ 0
+  none_clear x low = by_bit (bit (cluster_bits c v) x) refl
+    where
+      by_bit : (t : Bool) → bit (cluster_bits c v) x ≡ t → cond {A = ℕ} (t && not (bit (cluster_bits d u) x)) 1 0 ≡ 0
+      by_bit true is = ap (λ (b : Bool). cond {A = ℕ} (not b) 1 0) (bit_u x ∙ still_set x low is)
+      by_bit false is = refl
+
+  room_now : free_clusters d u + (new_clusters + total_clusters bits_more) ≡ free_clusters c v
+  unfolding taken
+  room_now =
+      let n = v.clusters in
+      let balance = room_balance c d v u refl in
+      let set = count_as_sum (λ x. not (bit (cluster_bits c v) x) && bit (cluster_bits d u) x) taken 0 n (λ x low high. one_counts x (omega (arith, high))) in
+      let clear = count_as_sum (λ x. bit (cluster_bits c v) x && not (bit (cluster_bits d u) x)) (λ x. 0) 0 n (λ x low high. none_clear x (omega (arith, high))) in
+      let none = sum_of_none (λ x. 0) 0 n (λ x. refl) in
+      let two = sum_of_two (uses more) (uses bits_more) taken 0 n (λ x. refl) in
+      let own_sum = uses_sum more n k.taken.whole k.taken.inside in
+      let other_sum = uses_sum bits_more n k.bits_taken.whole k.bits_taken.inside in
+      let size = k.size in
+      omega (arith, balance, set, clear, none, two, own_sum, other_sum, size)
+
+  tree : HasLongerTable (new_clusters + total_clusters bits_more) (tree_of c v) (tree_of (content_with c bodies) (longer_volume v more s))
+  unfolding tree_of tree_with volume_journal
+  tree =
+      let has = grown_tree d w f (tree_of d w) held grows in
+      let size : (tree_of d u).count ≡ record_count f = grown_count d w f (tree_of d w) held grows in
+      record {
+        nodes = has.nodes ∙ nodes_now;
+        links = has.links ∙ links_kept v.files files table_file differs names;
+        spare = has.spare ∙ ap₂ (λ (l : List FileRef) (n : ℕ). l ++ new_numbers n (tree_of d u).count) spare_now count_w;
+        count = size ∙ count_now ∙ ap (λ (n : ℕ). n + 256) (sym counted);
+        journal = has.journal ∙ ap some_journal journal_now;
+        room = room_now;
+      }
 
   -- a cluster that is owned was owned as this kind, or came
   owned_or_new : (kind : BlockKind) (x : ℕ) → OwnsAs u kind x → OwnsAs v kind x ⊎ ((0 < uses more x) × (FileRec ≡ kind)) ⊎ ((0 < uses bits_more x) × (Plain ≡ kind))

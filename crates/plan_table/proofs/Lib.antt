@@ -3,5 +3,6 @@ pub mod Remade
 pub mod Behind
 pub mod Bits
 pub mod Table
+pub mod Room
 pub mod Grown
 pub mod First

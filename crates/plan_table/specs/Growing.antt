@@ -139,13 +139,15 @@ pub record GrowsVolumeTable (c : Content) (v : Volume) (r : Record) (more : List
   pub marked : (x : ℕ) → x < v.clusters → bit (cluster_bits (content_with c bodies) v) x ≡ (nat_le 1 (uses more x) || nat_le 1 (uses bits_more x) || bit (cluster_bits c v) x)
   pub numbers : (m : ℕ) → m < record_count v.table + new_records → byte_bit (stream_bytes (content_with c bodies) v.per new) m ≡ bit (record_bits c v) m
 
--- the trees are the same, but for the count of records, the new numbers, which are spare and have the sequence 1, and the room
-pub record HasLongerTable (t u : Tree) : Type 0 where
+-- the trees are the same, but for the count of records, the new numbers, which are spare and have the sequence 1, and so many clusters that
+-- are free no more
+pub record HasLongerTable (came : ℕ) (t u : Tree) : Type 0 where
   pub nodes : u.nodes ≡ t.nodes
   pub links : u.links ≡ t.links
   pub spare : u.spare ≡ t.spare ++ new_numbers t.count u.count
   pub count : u.count ≡ t.count + new_records
   pub journal : u.journal ≡ t.journal
+  pub room : u.room + came ≡ t.room
 
 -- the table's clusters are given as file records, and those of the bitmap as sectors
 abbrev pub gives_table : List Run → List Run → (ℕ → Option BlockKind) → ℕ → Option BlockKind
@@ -165,7 +167,7 @@ pub record TableIsGrown : Type 0 where
   pub others : (c : Content) (g : Geometry) (clusters : ℕ) (v : Volume) (r : Record) (more : List Run) (old : Stream) (bits_more : List Run) (new : Stream) (s : Record) (bodies : List NewBody) (n : ℕ) → HasSizes c → g.per_cluster ≡ 8 → Stands c g clusters v
       → GrowsVolumeTable c v r more old bits_more new s bodies → n ≢ table_file → file_in (longer_volume v more s) n ≡ file_in v n
   pub tree : (c : Content) (g : Geometry) (clusters : ℕ) (v : Volume) (r : Record) (more : List Run) (old : Stream) (bits_more : List Run) (new : Stream) (s : Record) (bodies : List NewBody) → HasSizes c → g.per_cluster ≡ 8 → Stands c g clusters v
-      → GrowsVolumeTable c v r more old bits_more new s bodies → HasLongerTable (tree_of c v) (tree_of (content_with c bodies) (longer_volume v more s))
+      → GrowsVolumeTable c v r more old bits_more new s bodies → HasLongerTable (new_clusters + total_clusters bits_more) (tree_of c v) (tree_of (content_with c bodies) (longer_volume v more s))
   pub goes_on : (first : Content) (start : Volume) (c : Content) (g : Geometry) (clusters : ℕ) (v : Volume) (r : Record) (more : List Run) (old : Stream) (bits_more : List Run) (new : Stream) (s : Record) (bodies : List NewBody) (gave : ℕ → Option BlockKind) → HasSizes c → g.per_cluster ≡ 8
       → Stands c g clusters v → GrowsVolumeTable c v r more old bits_more new s bodies → MayGive first start FileRec more gave → MayGive first start Plain bits_more gave
       → GoesOn first start c g clusters v bodies (longer_volume v more s) gave (gives_table more bits_more gave)
@@ -173,4 +175,4 @@ pub record TableIsGrown : Type 0 where
 -- Where no number was spare, and the table had those of the volume's own files, the lowest that is spare then is the old count, of
 -- sequence 1.
 abbrev pub NewNumberIsFirst : Type 0
-NewNumberIsFirst = (t u : Tree) → HasLongerTable t u → t.spare ≡ [] → first_user_record ≤ t.count → (others : List FileRef) × (u.spare ≡ new_number t.count ∷ others)
+NewNumberIsFirst = (came : ℕ) (t u : Tree) → HasLongerTable came t u → t.spare ≡ [] → first_user_record ≤ t.count → (others : List FileRef) × (u.spare ≡ new_number t.count ∷ others)
