@@ -94,14 +94,14 @@ sizes_free x y z w runs others a r same =
 
 -- ---- what comes
 
-abbrev StaysIn : Record → Op → Node → Bool
+abbrev pub StaysIn : Record → Op → Node → Bool
 StaysIn r op node = stays_in (data_in r) (size_after op node) (used_after (value_attr (size_after op node) (own_attr data_type [] r) ∷ []) r)
 
-comes_by : (bits : List Bool) (r : Record) (op : Op) (node : Node) (t : Bool) → StaysIn r op node ≡ t → data_comes bits r op node ≡ cond t (as_value r (wanted_data op node)) (in_clusters bits r (wanted_data op node))
+pub comes_by : (bits : List Bool) (r : Record) (op : Op) (node : Node) (t : Bool) → StaysIn r op node ≡ t → data_comes bits r op node ≡ cond t (as_value r (wanted_data op node)) (in_clusters bits r (wanted_data op node))
 unfolding data_comes comes
 comes_by bits r op node t is = ap (λ (b : Bool). cond b (as_value r (wanted_data op node)) (in_clusters bits r (wanted_data op node))) is
 
-clusters_by : (bits : List Bool) (r : Record) (op : Op) (node : Node) (s : Option Stream) → StaysIn r op node ≡ false → data_in r ≡ s → data_comes bits r op node ≡ placed_by r (wanted_data op node) (placed_among bits (runs_in s) (wanted_data op node))
+pub clusters_by : (bits : List Bool) (r : Record) (op : Op) (node : Node) (s : Option Stream) → StaysIn r op node ≡ false → data_in r ≡ s → data_comes bits r op node ≡ placed_by r (wanted_data op node) (placed_among bits (runs_in s) (wanted_data op node))
 unfolding in_clusters
 clusters_by bits r op node s leaves is = comes_by bits r op node false leaves ∙ ap (λ (o : Option Stream). placed_by r (wanted_data op node) (placed_among bits (runs_in o) (wanted_data op node))) is
 

@@ -5,6 +5,7 @@
 mod change;
 mod fault;
 mod held;
+mod laws;
 mod placed;
 mod planning;
 mod resizing;
@@ -14,6 +15,7 @@ pub use change::DataChange;
 pub use fault::DataFault;
 pub use file_record::FileRec;
 pub use file_tree::Node;
+pub use laws::data_made;
 pub use plan_space::FreeBits;
 pub use planning::data_after;
 pub use resized_streams::Resized;

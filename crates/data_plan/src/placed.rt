@@ -1,5 +1,5 @@
 //! Data that stands in clusters.
-ghost use Rattle.std.specs.Prelude.{◌≡◌, ◌<◌, ◌≤◌, ◌^◌, false, List, Bool, Some, length};
+ghost use Rattle.std.specs.Prelude.{◌≡◌, ◌<◌, ◌≤◌, ◌^◌, ℕ, false, List, Bool, Some, length};
 ghost use Rattle.record_model.specs.Pairs.{cluster_limit};
 ghost use Rattle.state_model.specs.declared.stream.Stream.TheVariants.{Placed};
 ghost use Rattle.tree_model.specs.Effects.{clusters_after};
@@ -48,7 +48,6 @@ fn grows<B: FreeBits>(
 fn cuts(
     alloc: Global,
     per: ClusterSize,
-    clusters: u64,
     extents: &Extents,
     file: &FileRec,
     op: &Op,
@@ -56,7 +55,7 @@ fn cuts(
 ) -> Result<DataChange, DataFault>
     requires per { per ≡ 8 }
     requires bounds { IsWithinBounds op.now }
-    requires has { HasData clusters file.now }
+    requires has { (clusters : ℕ) × HasData clusters file.now }
     requires shows { ShowsData node.now file.now }
     requires placed { data_in file.now ≡ Some (Placed extents.now) }
     requires fewer { clusters_after false op.now node.now < node.now.clusters }
@@ -71,7 +70,6 @@ fn cuts(
 fn changes_sizes(
     alloc: Global,
     per: ClusterSize,
-    clusters: u64,
     extents: &Extents,
     file: &FileRec,
     op: &Op,
@@ -79,7 +77,7 @@ fn changes_sizes(
 ) -> Result<DataChange, DataFault>
     requires per { per ≡ 8 }
     requires bounds { IsWithinBounds op.now }
-    requires has { HasData clusters file.now }
+    requires has { (clusters : ℕ) × HasData clusters file.now }
     requires shows { ShowsData node.now file.now }
     requires placed { data_in file.now ≡ Some (Placed extents.now) }
     requires same { clusters_after false op.now node.now ≡ node.now.clusters }
@@ -118,9 +116,8 @@ pub fn placed_after<B: FreeBits>(
     if wanted > node.clusters {
         return grows(alloc, per, bits, extents, file, op, node);
     }
-    let clusters = bits.len();
     if wanted < node.clusters {
-        return cuts(alloc, per, clusters, extents, file, op, node);
+        return cuts(alloc, per, extents, file, op, node);
     }
-    changes_sizes(alloc, per, clusters, extents, file, op, node)
+    changes_sizes(alloc, per, extents, file, op, node)
 }

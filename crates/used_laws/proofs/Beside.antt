@@ -208,7 +208,7 @@ some_stays : (attributes attrs : List Attr) → sorted_into attributes attrs ≡
 some_stays attributes [] none = none
 some_stays attributes (a ∷ attrs) none = absurd (none_put a attributes (some_stays (with_attribute a attributes) attrs none))
 
-none_sorted : (attrs : List Attr) → sorted_into [] attrs ≡ [] → attrs ≡ []
+pub none_sorted : (attrs : List Attr) → sorted_into [] attrs ≡ [] → attrs ≡ []
 none_sorted [] none = refl
 none_sorted (a ∷ attrs) none = absurd (none_put a [] (some_stays (with_attribute a []) attrs none))
 

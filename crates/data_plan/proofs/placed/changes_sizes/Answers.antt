@@ -19,5 +19,5 @@ returns-in_err-z c = λ bits.
 pub returns : goal.returns
 returns c = λ bits.
     let bytes = subst (All HasBytes) (c.as_slice.ensures ∙ c.attrs.ensures.value) c.have_bytes.ensures in
-    sized_ok c.args.per c.args.clusters c.size_after-real.result c.valid_after-initialised.result bits c.args.file.now c.args.op.now c.args.node.now c.args.extents.now c.in_ok-z.z c.requires.per c.size_after-real.ensures c.valid_after-initialised.ensures c.requires.has bytes c.requires.shows c.requires.placed c.requires.same
+    sized_ok c.args.per c.requires.has.0 c.size_after-real.result c.valid_after-initialised.result bits c.args.file.now c.args.op.now c.args.node.now c.args.extents.now c.in_ok-z.z c.requires.per c.size_after-real.ensures c.valid_after-initialised.ensures c.requires.has.1 bytes c.requires.shows c.requires.placed c.requires.same
     (omega (arith, c.used-used.ensures.value)) c.in_ok-z.ensures.value
