@@ -4,3 +4,4 @@ pub mod Bringing
 pub mod Changing
 pub mod Falling
 pub mod Going
+pub mod Writing

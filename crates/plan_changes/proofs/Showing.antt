@@ -62,6 +62,13 @@ module _ (c : Content) (v : Volume) (n : ℕ) (r : Record) (a : Node) (k : IsCha
     read_at = sym (ap (λ (x : Node). x.read_at) is_node);
   }
 
+  own_itself : with_own c v r a ≡ a
+  unfolding node_by node_with
+  own_itself =
+      ap (λ (o : Option Stream). with_data o (bytes_or c v.per o) a) (sym shown_is)
+      ∙ ap (with_data (data_shown (kind_in v n r) r) (bytes_or c v.per (data_shown (kind_in v n r) r))) (sym is_node)
+      ∙ is_node
+
 -- ---- the file behind an edit
 
 base_or_none : (t : Bool) (s : Record) (o : Option Record) → o ≡ Some s → is_base_record s ≡ t → (only_base o ≡ Some s) ⊎ (only_base o ≡ None)
@@ -94,6 +101,7 @@ data_is_own c d v n r s a k = ap (λ (x : Kind). data_shown x s) (kind_is c v n 
 pub files_are : FilesShow
 files_are = record {
   shows = node_shows;
+  itself = own_itself;
   data_follows = λ c d v n r s a k follows. file_follows c d v n r s a (with_own d v s a) k refl
       (subst (λ (o : Option Stream). NodeBecomes n a (with_data o (bytes_or d v.per o) a) (tree_of c v) (tree_of d (with_record v n s))) (data_is_own c d v n r s a k)
       (data_becomes n (data_shown (kind_in v n r) s) (bytes_or d v.per (data_shown (kind_in v n r) s)) a (tree_of c v) (tree_of d (with_record v n s)) k.node follows));

@@ -49,9 +49,10 @@ pub record Follows (c : Content) (v : Volume) (n : ℕ) (a : Node) (d : Content)
   pub file : IsChangeable d (with_record v n s) n s b
   pub tree : NodeBecomes n a b (tree_of c v) (tree_of d (with_record v n s))
 
--- A node shows so. Where an edit changes the file's data, its standard information, or both, the file is one again with the new node.
+-- A node shows so, and has its own data. Where an edit changes the file's data, its standard information, or both, the file is one again with the new node.
 pub record FilesShow : Type 0 where
   pub shows : (c : Content) (v : Volume) (n : ℕ) (r : Record) (a : Node) → IsChangeable c v n r a → Shows c v n r a
+  pub itself : (c : Content) (v : Volume) (n : ℕ) (r : Record) (a : Node) → IsChangeable c v n r a → with_own c v r a ≡ a
   pub data_follows : (c d : Content) (v : Volume) (n : ℕ) (r s : Record) (a : Node) → IsChangeable c v n r a → TreeFollows c d v n r s → Follows c v n a d s (with_own d v s a)
   pub info_follows : (c d : Content) (v : Volume) (n : ℕ) (r s : Record) (info : StdInfo) (a : Node) → IsChangeable c v n r a → InfoDiffers n info (tree_of c v) (tree_of d (with_record v n s)) → Follows c v n a d s (with_info info a)
   pub both_follow : (c d : Content) (v : Volume) (n : ℕ) (r s : Record) (a : Node) → IsChangeable c v n r a → FileFollows c d v n r s → Follows c v n a d s (with_info (info_of s) (with_own d v s a))

@@ -4,3 +4,4 @@ pub mod Bytes
 pub mod Changes
 pub mod Rooms
 pub mod Going
+pub mod Writes

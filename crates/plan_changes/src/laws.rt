@@ -5,6 +5,7 @@ ghost use Rattle.plan_changes.specs.Files.{FilesShow};
 ghost use Rattle.plan_changes.specs.Going.{FilesGoOn};
 ghost use Rattle.plan_changes.specs.Nodes.{NodesBecome};
 ghost use Rattle.plan_changes.specs.Rooms.{RoomsFall};
+ghost use Rattle.plan_changes.specs.Writes.{WrittenInClusters};
 
 /// Law: trees that differ by one node, and one such change behind another.
 pub fn nodes_become()
@@ -36,4 +37,10 @@ pub fn rooms_fall()
 /// gave it, so that the next edit begins there.
 pub fn files_go_on()
     ensures { FilesGoOn }
+{}
+
+/// Law: where a draft has put the sizes, the bytes and the times of a write, or of a greater size, of a
+/// file whose data stands in clusters, it stands for a state, and the operation has changed the tree.
+pub fn written_in_clusters()
+    ensures { WrittenInClusters }
 {}

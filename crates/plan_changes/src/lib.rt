@@ -6,4 +6,7 @@
 
 mod laws;
 
-pub use laws::{bytes_brought, file_changed, files_go_on, files_show, nodes_become, rooms_fall};
+pub use laws::{
+    bytes_brought, file_changed, files_go_on, files_show, nodes_become, rooms_fall,
+    written_in_clusters,
+};
