@@ -31,7 +31,7 @@ use Rattle.file_tree.specs.declared.node.Why.{Why}
 use Rattle.file_tree.specs.declared.node.Node.{Node}
 use Rattle.std.specs.Option.{option_or}
 use Rattle.volume_state.specs.Trees.{tree_with, tree_of, volume_journal}
-use Rattle.state_model.specs.Loads.{extents_or, Slot, Free, Used, slot_of, slot_at, is_used, whole_record, has_fitting_pairs, has_all_pairs, table_slot, table_in, data_stream, has_cut_index_block}
+use Rattle.state_model.specs.Loads.{total_clusters, extents_or, Slot, Free, Used, slot_of, slot_at, is_used, whole_record, has_fitting_pairs, has_all_pairs, table_slot, table_in, data_stream, has_cut_index_block}
 use Rattle.state_model.specs.Rules.{implies, at_file, is_directory_with, keeps_names, keeps_1, keeps_2, keeps_8}
 use Rattle.state_model.specs.Streams.{joined, attributes_of, stream_of, block_at, is_inside_block, cuts_block, has_cut_block}
 use Rattle.state_model.specs.Trees.{is_system}
@@ -102,7 +102,8 @@ use Rattle.plan_growth.proofs.Growing.{uses-grown, set_or}
 use Rattle.plan_growth.proofs.Sizing.{none_from}
 use Rattle.plan_blocks.specs.Blocks.{used_stream, blocks_before, blocks_behind, IsFreshBlock, GrowsIndex, RoomDiffers}
 use Rattle.plan_blocks.proofs.Beside.{IsBeside, same_types, same_directory, same_links, same_names, same_root, same_info, same_stream, same_flags, blocks_uses, blocks_kept}
-use Rattle.plan_blocks.proofs.Placing.{extents_fit, fits_now, place_kept, count_before, count_rises, block_kept, block_void, goes_behind, keeps_nodes, links_kept, blocks_are, none_at}
+use Rattle.plan_blocks.proofs.Behind.{lies_in_more}
+use Rattle.plan_blocks.proofs.Placing.{place_in, extents_fit, fits_now, place_kept, count_before, count_rises, block_kept, block_void, goes_behind, keeps_nodes, links_kept, blocks_are, none_at}
 use Rattle.file_tree.specs.Trees.{node_at as node_by_number}
 
 -- ---- small ones
@@ -474,9 +475,17 @@ module _ (c : Content) (g : Geometry) (clusters : ℕ) (v : Volume) (n : ℕ) (r
   as_write : (p : NewBody) → FreshOr p.block → IsInStream streams v (whole_write p) ⊎ IsInRecord touched v (whole_write p) ⊎ LiesFree v (whole_write p).block
   as_write p (inl owned) = inl (record { stream = owned.stream; chosen = or_left (marks_streams owned.stream) _ owned.chosen; kind = stream_kind owned.stream; number = owned.number; lies = owned.lies })
   as_write p (inr (inl its)) = inr (inl (record { number = n; chosen = at_own; lies = its }))
-  as_write p (inr (inr fresh)) = elim fresh.free [
-    | inl there ↦ inl (record { stream = own_key; chosen = own_chosen; kind = Index; number = fresh.number; lies = ap (λ (l : List Run). block_at v.per l Index fresh.number) runs_were ∙ there })
-    | inr free ↦ inr (inr free)
+  as_write p (inr (inr fresh)) = elim (cases_lt fresh.number (total_clusters e.runs)) [
+    | inl had ↦
+        inl
+        (record {
+          stream = own_key;
+          chosen = own_chosen;
+          kind = Index;
+          number = fresh.number;
+          lies = ap (λ (l : List Run). block_at v.per l Index fresh.number) runs_were ∙ sym (place_in v.per e.runs more fresh.number per_8 k.spelled k.taken.spelled k.room had) ∙ fresh.lies;
+        })
+    | inr behind ↦ inr (inr (λ t has. none_had (t / v.per) (lies_in_more v.per fresh.number e.runs more p.block per_8 k.spelled k.taken.spelled k.room behind fresh.lies t has)))
   ]
     where
       own_chosen : streams own_key ≡ true

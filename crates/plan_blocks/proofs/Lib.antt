@@ -1,3 +1,4 @@
 pub mod Beside
 pub mod Placing
+pub mod Behind
 pub mod Enlarging

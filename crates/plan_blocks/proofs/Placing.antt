@@ -25,6 +25,7 @@ use Rattle.state_model.specs.Streams.{block_at}
 use Rattle.volume_model.specs.Indexes.{links_read, links_below, void_block, or_void, index_block, block_count, blocks_of, stream_blocks}
 use Rattle.volume_model.specs.Sizes.{lies_inside, has_sizes, fits_volume}
 use Rattle.stream_runs.specs.Laws.{InOneCluster}
+use Rattle.stream_runs.specs.Runs.{grown}
 use Rattle.stream_runs.proofs.Merging.{follow-grown}
 use Rattle.stream_runs.proofs.Places.{places-grown}
 use Rattle.resized_streams.specs.Resizing.{lengthened, with_sizes}
@@ -54,6 +55,11 @@ pub count_is : (per : ℕ) (e : Extents) → per ≡ 8 → HasSpelling 0 e.runs 
 unfolding block_count
 count_is per e eight spelled high = ap (λ (x : ℕ). min (e.real / 4096) (x * per / 8)) (end_is_total e.runs spelled) ∙ counted per (total_clusters e.runs) e.real eight high
 
+-- a block in the clusters that a stream had lies where it lay
+pub place_in : (per : ℕ) (runs more : List Run) (m : ℕ) → per ≡ 8 → HasSpelling 0 runs → HasSpelling 0 more → total_clusters runs + total_clusters more ≤ cluster_limit → m < total_clusters runs → block_at per (grown runs more) Index m ≡ block_at per runs Index m
+place_in per runs more m eight spelled others room had =
+    places-grown per runs more Index m spelled others room (subst (λ (p : ℕ). InOneCluster p Index m) (sym eight) (one_cluster Index m)) (in_cluster per (total_clusters runs) m eight had)
+
 module _ (per clusters : ℕ) (e : Extents) (more : List Run) (real initialised : ℕ) (eight : per ≡ 8) (fits : fits_volume per clusters (Some (Placed e)) ≡ true) (spelled : HasSpelling 0 e.runs) (more_spelled : HasSpelling 0 more) (room : total_clusters e.runs + total_clusters more ≤ cluster_limit)
     (rise : SizesRise e (with_sizes real initialised (lengthened per more e))) where
   abbrev f : Extents
@@ -79,7 +85,7 @@ module _ (per clusters : ℕ) (e : Extents) (more : List Run) (real initialised 
       let first = old_sizes.0 in
       let second = old_sizes.1 in
       let within : m < total_clusters e.runs = in_total per (total_clusters e.runs) e.real m eight second (omega (arith, low, first)) in
-      places-grown per e.runs more Index m spelled more_spelled room (subst (λ (p : ℕ). InOneCluster p Index m) (sym eight) (one_cluster Index m)) (in_cluster per (total_clusters e.runs) m eight within)
+      place_in per e.runs more m eight spelled more_spelled room within
 
   pub count_before : block_count per e ≡ e.real / 4096
   count_before = count_is per e eight spelled old_sizes.1

@@ -27,7 +27,6 @@ use Rattle.volume_model.specs.Owners.{uses}
 use Rattle.volume_model.specs.Sizes.{are_joined}
 use Rattle.volume_model.specs.Volumes.{Volume, file_in, cluster_bits, upper_of}
 use Rattle.volume_state.specs.Trees.{tree_of}
-use Rattle.stream_laws.specs.Leaving.{LiesFree}
 use Rattle.stream_laws.specs.Rewrites.{is_edited}
 use Rattle.record_writer.specs.Normal.{normal}
 use Rattle.resized_streams.specs.Resizing.{lengthened, with_sizes}
@@ -82,13 +81,11 @@ blocks_before r = extents_or (index_stream r)
 abbrev pub blocks_behind : ℕ → Record → List Run → ℕ → ℕ → Extents
 blocks_behind per r more real initialised = with_sizes real initialised (lengthened per more (blocks_before r))
 
--- A block of the index that begins at its old initialised size or behind it, in these extents. It lay there before, or in clusters that
--- no stream has.
+-- a block in these extents that begins at the old initialised size of the index or behind it
 pub record IsFreshBlock (v : Volume) (r : Record) (f : Extents) (b : Block) : Type 0 where
   pub number : ℕ
   pub lies : block_at v.per f.runs Index number ≡ Some b
   pub past : (blocks_before r).initialised ≤ 4096 * number
-  pub free : (block_at v.per (blocks_before r).runs Index number ≡ Some b) ⊎ LiesFree v b
 
 -- the sizes rise, and the clusters have room for them
 pub record SizesRise (e f : Extents) : Type 0 where
