@@ -126,11 +126,11 @@ stream_bare kind name beside attrs = ap joined (pieces_bare kind name beside att
 
 -- ---- sums
 
-from_one : (b : Attr) → is_attribute_of index_allocation names_index b ≡ true → is_of_blocks b ≡ true
+pub from_one : (b : Attr) → is_attribute_of index_allocation names_index b ≡ true → is_of_blocks b ≡ true
 unfolding is_of_blocks
 from_one b one = or_left _ _ one
 
-from_two : (b : Attr) → is_attribute_of bitmap_type names_index b ≡ true → is_of_blocks b ≡ true
+pub from_two : (b : Attr) → is_attribute_of bitmap_type names_index b ≡ true → is_of_blocks b ≡ true
 unfolding is_of_blocks
 from_two b two = or_right _ _ two
 

@@ -7,4 +7,4 @@
 
 mod laws;
 
-pub use laws::index_grown;
+pub use laws::{blocks_are_written, index_grown, index_is_edit};
