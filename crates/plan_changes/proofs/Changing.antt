@@ -1,12 +1,11 @@
 -- An operation that writes or cuts a file is done.
-use Rattle.std.proofs.Common.{◌≡◌, ◌≢◌, ℕ, ◌+◌, ◌-◌, ◌*◌, ◌/◌, ◌<◌, ◌≤◌, max, min, Bool, true, false, cond, eqb, ltb, List, [], ◌∷◌, ◌++◌, length, take, Option, Some, None, refl, sym, ap, ap₂, subst, ◌∙◌, inl, inr, arith}
+use Rattle.std.proofs.Common.{◌≡◌, ◌≢◌, ℕ, ◌+◌, ◌-◌, ◌*◌, ◌/◌, ◌<◌, ◌≤◌, max, min, Bool, true, false, cond, ltb, List, length, take, Option, Some, refl, sym, ap, ap₂, subst, ◌∙◌, inl, inr, arith}
 use Rattle.std.proofs.lemmas.Bool.{cases_eq, eq-eqb, ne_eqb, lt-ltb, le-ltb}
 use Rattle.std.proofs.lemmas.List.{length-take}
 use Rattle.std.specs.List.Sorted.{IsPermutation}
 use Rattle.std.proofs.lemmas.List.Sorted.{IsPermutation-refl}
 use Rattle.host_base.specs.declared.file_ref.FileRef.{FileRef}
 use Rattle.record_model.specs.declared.values.StdInfo.{StdInfo}
-use Rattle.file_tree.specs.declared.link.Link.{Link}
 use Rattle.file_tree.specs.declared.node.Node.{Node}
 use Rattle.file_tree.specs.declared.tree.Tree.{Tree}
 use Rattle.file_tree.specs.Trees.{node_at as node_by_number}
@@ -14,8 +13,7 @@ use Rattle.state_model.specs.declared.stream.Extents.{Extents}
 use Rattle.state_model.specs.declared.stream.Stream.{Stream}
 use Rattle.state_model.specs.declared.stream.Stream.TheVariants.{Held, Placed}
 use Rattle.state_model.specs.Loads.{total_clusters}
-use Rattle.volume_model.specs.Volumes.{size_or}
-use Rattle.volume_model.specs.Nodes.{valid_or, clusters_or}
+use Rattle.volume_model.specs.Nodes.{clusters_or}
 use Rattle.tree_model.specs.declared.script.Op.{Op}
 use Rattle.tree_model.specs.declared.script.Op.TheVariants as op
 use Rattle.tree_model.specs.Needs.{size_after, shrinks, clusters_for}
@@ -26,7 +24,6 @@ use Rattle.stream_runs.proofs.Parts.{total-front}
 use Rattle.resized_streams.specs.Resizing.{shortened}
 use Rattle.plan_model.specs.Informed.{with_info}
 use Rattle.plan_growth.specs.Trees.{with_data}
-use Rattle.plan_edits.specs.Sizes.{put_over}
 use Rattle.plan_edits.proofs.Sizing.{length-put_over}
 use Rattle.plan_changes.specs.Nodes.{NodeBecomes}
 use Rattle.plan_changes.specs.Bytes.{GrowsFile, place_of, put_of, HasSizes}

@@ -1,5 +1,5 @@
 -- By how much the room falls where an edit takes clusters.
-use Rattle.std.proofs.Common.{◌≡◌, ◌≢◌, ◌⊎◌, ℕ, zero, suc, ◌+◌, ◌<◌, ◌≤◌, Bool, true, false, not, ◌&&◌, ◌||◌, cond, eqb, leb, ltb, List, [], ◌∷◌, length, Option, Some, None, refl, sym, ap, subst, ◌∙◌, inl, inr, arith}
+use Rattle.std.proofs.Common.{◌≡◌, ◌≢◌, ◌⊎◌, ℕ, zero, suc, ◌+◌, ◌<◌, ◌≤◌, Bool, true, false, not, ◌&&◌, ◌||◌, cond, leb, ltb, List, [], ◌∷◌, length, Option, Some, None, refl, sym, ap, ◌∙◌, inl, inr, arith}
 use Rattle.std.specs.Prelude.{count_by}
 use Rattle.std.proofs.lemmas.Bool.{cases_Bool, cases_lt, both_ways, and_from, and_parts, or_left, or_right, le-leb, lt-ltb, leb-true, ltb-true}
 use Rattle.std.proofs.lemmas.List.{ext_get_or}
@@ -16,7 +16,7 @@ use Rattle.volume_model.specs.Volumes.{Volume, bitmap_file, bytes_or, cluster_bi
 use Rattle.volume_model.specs.Nodes.{free_clusters}
 use Rattle.volume_model.specs.Owners.{covers_from, covers, uses}
 use Rattle.volume_state.specs.Trees.{tree_with, tree_of}
-use Rattle.stream_laws.specs.Replacing.{FileEdit, OneFileDiffers, with_edits}
+use Rattle.stream_laws.specs.Replacing.{FileEdit, with_edits}
 use Rattle.stream_laws.proofs.Editing.{length-with_edits, other_file}
 use Rattle.stream_laws.proofs.Placing.{uses-cons}
 use Rattle.tree_laws.proofs.Parting.{cluster_bits_stay}

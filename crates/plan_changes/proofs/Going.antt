@@ -1,5 +1,5 @@
 -- Behind an edit the file is one of its own again.
-use Rattle.std.proofs.Common.{◌≡◌, ◌≢◌, ℕ, ◌+◌, ◌*◌, ◌≤◌, Bool, true, false, ◌&&◌, eqb, List, [], ◌∷◌, get_or, Some, None, refl, sym, ap, subst, ◌∙◌, arith}
+use Rattle.std.proofs.Common.{◌≡◌, ◌≢◌, ℕ, ◌*◌, ◌≤◌, true, ◌&&◌, eqb, List, [], ◌∷◌, get_or, Some, None, sym, ap, subst, ◌∙◌, arith}
 use Rattle.std.specs.Prelude.{All}
 use Rattle.std.specs.List.{list_all}
 use Rattle.std.proofs.lemmas.Bool.{both_ways, eq-eqb}
@@ -16,7 +16,7 @@ use Rattle.state_model.specs.declared.geometry.Geometry.{Geometry}
 use Rattle.state_model.specs.declared.stream.Extents.{Extents}
 use Rattle.state_model.specs.declared.stream.Stream.{Stream}
 use Rattle.state_model.specs.declared.stream.Stream.TheVariants.{Placed}
-use Rattle.state_model.specs.Files.{file_at, is_base_record, has_type, info_of}
+use Rattle.state_model.specs.Files.{file_at, is_base_record}
 use Rattle.state_model.specs.Loads.{total_clusters, has_fitting_pairs}
 use Rattle.state_model.specs.Streams.{attributes_of, stream_of, block_at}
 use Rattle.volume_model.specs.Volumes.{Volume, file_in}
@@ -35,15 +35,10 @@ use Rattle.record_streams.specs.Placing.{placed_record}
 use Rattle.resized_streams.specs.declared.resized.Resized.{Resized}
 use Rattle.resized_streams.specs.Resizing.{clusters_for}
 use Rattle.plan_growth.specs.Streams.{IsOwnStream, IsWritten}
-use Rattle.plan_growth.specs.Growing.{GrowsStream}
-use Rattle.plan_growth.specs.Cutting.{CutsStream}
-use Rattle.plan_growth.specs.Sizing.{SizesStream}
-use Rattle.plan_growth.specs.Leaving.{MovesValue}
 use Rattle.plan_growth.proofs.Placed.{some_attributes, placed_head, placed_types, placed_info, placed_is_there, placed_all}
 use Rattle.plan_growth.proofs.Resizing.{slot_open, used_pairs}
 use Rattle.plan_growth.proofs.Written.{Reads, all_read, placed_reads, written_types, written_info, written_stream}
-use Rattle.plan_values.specs.Values.{IsOwnFile, PutsWritten, WritesValues}
-use Rattle.plan_values.specs.Made.{MakesData}
+use Rattle.plan_values.specs.Values.{IsOwnFile, PutsWritten}
 use Rattle.plan_values.proofs.Staying.{Stays}
 use Rattle.plan_values.proofs.Valued.{value_stays}
 use Rattle.plan_values.proofs.Made.{made_stays}

@@ -1,5 +1,5 @@
 -- A write, or a greater size, of a file whose data stands in clusters.
-use Rattle.std.proofs.Common.{◌≡◌, ℕ, ◌+◌, ◌*◌, ◌<◌, ◌≤◌, max, Bool, false, ◌||◌, leb, List, [], ◌∷◌, length, Option, Some, refl, sym, ap, ap₂, subst, ◌∙◌, arith}
+use Rattle.std.proofs.Common.{◌≡◌, ℕ, ◌+◌, ◌<◌, ◌≤◌, max, false, List, [], length, Option, Some, sym, ap, subst, ◌∙◌, arith}
 use Rattle.disk_model.specs.Content.{Content, HasSizes as HasBlockSizes}
 use Rattle.record_model.specs.Constants.{data_type}
 use Rattle.record_model.specs.Records.{Record}
@@ -12,16 +12,14 @@ use Rattle.state_model.specs.declared.stream.Stream.{Stream}
 use Rattle.state_model.specs.declared.stream.Stream.TheVariants.{Placed}
 use Rattle.state_model.specs.Files.{info_of}
 use Rattle.state_model.specs.Loads.{total_clusters}
-use Rattle.state_model.specs.Streams.{extent_bytes}
 use Rattle.volume_model.specs.Volumes.{Volume, file_stream, bytes_or, cluster_bits}
 use Rattle.volume_state.specs.Trees.{tree_of}
 use Rattle.tree_model.specs.declared.script.Op.{Op}
 use Rattle.tree_model.specs.Needs.{size_after}
 use Rattle.tree_model.specs.Effects.{valid_after, bytes_after, HasChanged}
-use Rattle.stream_laws.specs.Sharing.{stream_at}
 use Rattle.stream_laws.proofs.Changing.{length-extent_bytes}
 use Rattle.plan_owners.specs.States.{Stands}
-use Rattle.plan_bodies.specs.Bodies.{NewBody, content_with}
+use Rattle.plan_bodies.specs.Bodies.{NewBody}
 use Rattle.plan_bodies.proofs.Putting.{sized_with}
 use Rattle.plan_draft.specs.declared.touched.Touched.{Touched}
 use Rattle.plan_draft.specs.Touching.{bodies_of}
@@ -29,7 +27,6 @@ use Rattle.plan_draft.specs.Drafts.{drafted}
 use Rattle.plan_model.specs.Informed.{with_info, with_record, InfoDiffers}
 use Rattle.draft_records.specs.Records.{written_record}
 use Rattle.resized_streams.specs.declared.resized.Resized.{Resized}
-use Rattle.plan_growth.specs.Streams.{key_of}
 use Rattle.plan_growth.specs.Sizing.{SizesStream}
 use Rattle.plan_growth.specs.Trees.{with_data, TreeFollows}
 use Rattle.plan_growth.proofs.Ruled.{stream_fits, sizes_lawful}
@@ -40,9 +37,9 @@ use Rattle.plan_edits.specs.Moves.{EditsDraft}
 use Rattle.plan_edits.specs.Sizes.{put_over}
 use Rattle.plan_edits.proofs.Sizing.{sized_edit}
 use Rattle.plan_informed.proofs.Informed.{values_edit}
-use Rattle.plan_changes.specs.Bytes.{GrowsFile, place_of, put_of, HasSizes}
+use Rattle.plan_changes.specs.Bytes.{place_of, put_of, HasSizes}
 use Rattle.plan_changes.specs.Changes.{IsDataAfter}
-use Rattle.plan_changes.specs.Files.{IsChangeable, own_data, with_own, Follows}
+use Rattle.plan_changes.specs.Files.{own_data, with_own, Follows}
 use Rattle.plan_changes.specs.Going.{GoesOnIn}
 use Rattle.plan_changes.specs.Nodes.{NodeBecomes}
 use Rattle.plan_changes.specs.Writes.{sized_volume, WritesInClusters, WrittenInClusters}

@@ -1,7 +1,6 @@
 -- An operation that writes or cuts a file is done where its edits have led to the node that the operation leaves.
-use Rattle.std.specs.Prelude.{◌≡◌, ℕ, ◌+◌, ◌*◌, ◌≤◌, ◌<◌, max, Bool, true, false, List, [], take, length, Option, Some}
+use Rattle.std.specs.Prelude.{◌≡◌, ℕ, ◌+◌, ◌*◌, ◌≤◌, ◌<◌, max, Bool, true, false, List, take, Option, Some}
 use Rattle.record_model.specs.declared.values.StdInfo.{StdInfo}
-use Rattle.record_model.specs.Pairs.{HasSpelling}
 use Rattle.file_tree.specs.declared.node.Node.{Node}
 use Rattle.file_tree.specs.declared.tree.Tree.{Tree}
 use Rattle.state_model.specs.declared.stream.Extents.{Extents}

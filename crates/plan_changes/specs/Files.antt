@@ -1,5 +1,5 @@
 -- A file of which the bytes can be changed, and what its node shows of its record.
-use Rattle.std.specs.Prelude.{◌≡◌, ℕ, List, [], Option, Some}
+use Rattle.std.specs.Prelude.{◌≡◌, ℕ, [], Option, Some}
 use Rattle.disk_model.specs.Content.{Content}
 use Rattle.record_model.specs.declared.values.StdInfo.{StdInfo}
 use Rattle.record_model.specs.Constants.{data_type}
