@@ -1,13 +1,13 @@
 -- What a step says of data that stays, leaves, grows, is cut or has other sizes.
-use Rattle.std.proofs.Common.{◌≡◌, ℕ, ◌+◌, ◌-◌, ◌*◌, ◌/◌, ◌^◌, ◌<◌, ◌≤◌, suc, max, Bool, true, false, cond, List, [], ◌∷◌, length, take, Option, Some, None, Result, Ok, Err, refl, sym, ap, ◌∙◌, subst, inl, inr, arith}
-use Rattle.std.specs.Prelude.{not, count_by, nat_le, nat_lt, ◌==◌, ◌&&◌, ◌||◌, if◌then◌else◌}
+use Rattle.std.proofs.Common.{◌≡◌, ℕ, ◌+◌, ◌-◌, ◌<◌, ◌≤◌, suc, Bool, true, false, cond, List, [], ◌∷◌, length, Option, Some, None, Ok, Err, refl, sym, ap, ◌∙◌, subst, inl, inr, arith}
+use Rattle.std.specs.Prelude.{not, count_by, nat_le, ◌==◌, ◌||◌, if◌then◌else◌}
 use Rattle.std.proofs.lemmas.Bool.{cases_lt, lt-ltb, le-ltb, lt-leb, le-leb}
 use Rattle.std.proofs.lemmas.Bool.Decides.{nat_tests}
 use Rattle.std.proofs.lemmas.List.{take_all}
 use Rattle.disk_model.specs.Bytes.{up8}
 use Rattle.record_model.specs.declared.attribute.Attr.{Attr}
 use Rattle.record_model.specs.declared.runs.Run.{Run}
-use Rattle.record_model.specs.Attributes.{is_compressed_or_sparse, spelling}
+use Rattle.record_model.specs.Attributes.{is_compressed_or_sparse}
 use Rattle.record_model.specs.Constants.{data_type}
 use Rattle.record_model.specs.Pairs.{pairs_of}
 use Rattle.record_model.specs.Records.{Record, used_of}
@@ -21,7 +21,7 @@ use Rattle.state_model.specs.Streams.{attributes_of}
 use Rattle.tree_model.specs.declared.script.Op.{Op}
 use Rattle.tree_model.specs.declared.reply.Reply.{Reply}
 use Rattle.tree_model.specs.declared.reply.Reply.TheVariants.{RecordFull}
-use Rattle.tree_model.specs.Needs.{clusters_for, size_after, shrinks}
+use Rattle.tree_model.specs.Needs.{size_after}
 use Rattle.tree_model.specs.Effects.{clusters_after}
 use Rattle.space_model.specs.Choosing.{with_run, run_at, behind, chosen_anywhere, chosen, with_runs}
 use Rattle.plan_space.specs.Choices.{TakesFirst}
@@ -29,17 +29,15 @@ use Rattle.stream_laws.specs.Sharing.{runs_in}
 use Rattle.stream_runs.specs.Runs.{merged, grown, front, last_cluster}
 use Rattle.record_streams.specs.Placing.{placed_record}
 use Rattle.resized_streams.specs.declared.resized.Resized.{Resized}
-use Rattle.resized_streams.specs.Resizing.{lengthened, unplaced, IsGrown}
-use Rattle.draft_records.specs.Records.{written_bytes}
+use Rattle.resized_streams.specs.Resizing.{lengthened, IsGrown}
 use Rattle.step_model.specs.Placing.{Growth, more_of, runs_after}
 use Rattle.step_model.specs.Used.{used_after, own_attr, value_attr, placed_attr, stays_in}
-use Rattle.step_model.specs.Streams.{Comes, Wanted, as_value, placed_among, placed_by, in_clusters, comes, wanted_data, data_comes}
+use Rattle.step_model.specs.Streams.{Comes, as_value, placed_among, placed_by, in_clusters, comes, wanted_data, data_comes}
 use Rattle.step_model.specs.Plans.{full_row}
 use Rattle.step_model.proofs.NeverFull.{used_bytes}
 use Rattle.used_laws.proofs.Lengths.{written_used}
 use Rattle.used_laws.proofs.Beside.{one_more, alike, used}
 use Rattle.data_plan.specs.declared.change.DataChange.{DataChange}
-use Rattle.data_plan.specs.declared.change.DataChange.TheVariants as change
 use Rattle.data_plan.specs.declared.fault.DataFault.{DataFault}
 use Rattle.data_plan.specs.declared.fault.DataFault.TheVariants.{Memory}
 use Rattle.data_plan.specs.Faults.{IsShortFault, IsRowFault}

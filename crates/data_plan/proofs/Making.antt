@@ -1,14 +1,13 @@
 -- What a step says of a file without unnamed data, and once it has it.
-use Rattle.std.proofs.Common.{◌≡◌, ℕ, ◌+◌, ◌*◌, ◌/◌, ◌<◌, ◌≤◌, max, Bool, true, false, cond, List, [], ◌∷◌, ◌++◌, length, Option, Some, None, refl, sym, ap, ◌∙◌, inl, inr, arith}
+use Rattle.std.proofs.Common.{◌≡◌, ℕ, ◌<◌, max, Bool, true, false, cond, List, [], ◌∷◌, ◌++◌, length, Option, Some, None, refl, sym, ap, ◌∙◌, arith}
 use Rattle.std.specs.Prelude.{not, filter, nat_le, nat_eq, ◌==◌, ◌&&◌, ◌||◌, if◌then◌else◌}
 use Rattle.std.specs.List.{flat_map}
 use Rattle.std.specs.Cmp.Lexicographic.{pointwise}
-use Rattle.std.proofs.lemmas.Bool.{eq-eqb}
 use Rattle.std.proofs.lemmas.Bool.Decides.{nat_tests}
 use Rattle.std.proofs.lemmas.List.Elements.{filter-append}
 use Rattle.record_model.specs.declared.attribute.Attr.{Attr}
 use Rattle.record_model.specs.declared.attribute.OwnForm.{OwnForm}
-use Rattle.record_model.specs.Attributes.{is_compressed_or_sparse, spelling}
+use Rattle.record_model.specs.Attributes.{is_compressed_or_sparse}
 use Rattle.record_model.specs.Constants.{data_type}
 use Rattle.record_model.specs.Pairs.{pairs_of}
 use Rattle.record_model.specs.Records.{Record, spelled_bytes}
@@ -22,7 +21,7 @@ use Rattle.tree_model.specs.Needs.{clusters_for, size_after, shrinks}
 use Rattle.tree_model.specs.Effects.{clusters_after}
 use Rattle.step_model.specs.Placing.{Growth, runs_after}
 use Rattle.step_model.specs.Used.{is_replaced, used_after, new_attr, first_or, own_attr, value_attr, placed_attr, stays_in}
-use Rattle.step_model.specs.Streams.{Comes, as_value, placed_among, placed_by, in_clusters, wanted_data, data_comes}
+use Rattle.step_model.specs.Streams.{Comes, placed_among, wanted_data}
 use Rattle.step_model.specs.Plans.{full_row}
 use Rattle.step_model.proofs.NeverFull.{used_bytes}
 use Rattle.used_laws.proofs.Lengths.{filter_yes, filter_no}
@@ -104,10 +103,10 @@ same_placed r s real initialised g made =
     let x = placed_attr real initialised runs made.new in
     let y = placed_attr real initialised runs (new_attr data_type []) in
     let long =
-        used_bytes.placed real initialised runs made.new
-        ∙ ap (λ (f : ℕ). whole_length (if is_compressed_or_sparse f then 0x48 else 0x40) (length made.new.name) (length (pairs_of runs))) made.empty.flags
-        ∙ ap (λ (n : List ℕ). whole_length (if is_compressed_or_sparse 0 then 0x48 else 0x40) (length n) (length (pairs_of runs))) made.empty.unnamed
-        ∙ sym (used_bytes.placed real initialised runs (new_attr data_type [])) in
+    used_bytes.placed real initialised runs made.new
+    ∙ ap (λ (f : ℕ). whole_length (if is_compressed_or_sparse f then 0x48 else 0x40) (length made.new.name) (length (pairs_of runs))) made.empty.flags
+    ∙ ap (λ (n : List ℕ). whole_length (if is_compressed_or_sparse 0 then 0x48 else 0x40) (length n) (length (pairs_of runs))) made.empty.unnamed
+    ∙ sym (used_bytes.placed real initialised runs (new_attr data_type [])) in
     ap (λ (a : Attr). used_after (placed_attr real initialised runs a ∷ []) s) (own_new r s made)
     ∙ alike [] x y s made.empty.kind made.empty.unnamed long
     ∙ same_left r s made y refl refl

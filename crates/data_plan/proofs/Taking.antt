@@ -1,10 +1,9 @@
 -- The answers of calls on data, by what a step says.
-use Rattle.std.proofs.Common.{◌≡◌, ℕ, ◌+◌, ◌-◌, ◌*◌, ◌/◌, ◌^◌, ◌<◌, ◌≤◌, max, Bool, true, false, cond, List, [], ◌∷◌, length, Option, Some, None, Result, Ok, Err, refl, sym, ap, ◌∙◌, subst, inl, inr, arith}
-use Rattle.std.specs.Prelude.{not, count_by, nat_lt, All}
+use Rattle.std.proofs.Common.{◌≡◌, ℕ, ◌+◌, ◌-◌, ◌*◌, ◌/◌, ◌<◌, ◌≤◌, max, Bool, true, false, cond, List, [], ◌∷◌, Option, Some, None, Result, Ok, Err, refl, sym, ap, ◌∙◌, subst, inl, inr, arith}
+use Rattle.std.specs.Prelude.{not, count_by, All}
 use Rattle.std.specs.List.{AllByRecursion}
 use Rattle.std.proofs.lemmas.Bool.{cases_lt}
 use Rattle.std.proofs.lemmas.Bool.Decides.{nat_tests}
-use Rattle.disk_model.specs.Bytes.{up8}
 use Rattle.record_model.specs.declared.attribute.Attr.{Attr}
 use Rattle.record_model.specs.declared.runs.Run.{Run}
 use Rattle.record_model.specs.Constants.{data_type}
@@ -45,8 +44,8 @@ use Rattle.data_plan.specs.declared.change.DataChange.TheVariants as change
 use Rattle.data_plan.specs.declared.fault.DataFault.{DataFault}
 use Rattle.data_plan.specs.declared.fault.DataFault.TheVariants.{Full, Short, Memory}
 use Rattle.data_plan.specs.Faults.{IsShortFault, IsRowFault}
-use Rattle.data_plan.specs.Changes.{data_in, ShowsData, BeginsAtZero, HasData, LiesBelow, IsHeld, MustLeave, IsKept, growth_of, row_of, IsTaken, Stays, IsChange, DataAfter}
-use Rattle.data_plan.proofs.Cases.{above, below, equal, none_fits, fits_none, over_full, value_more, placed_comes, leaving_comes, kept_comes, runs_cut, runs_same, chosen_none, changed_row, TakesMore, takes_more, grown_taken, grown_as, taken_ok, taken_err, quiet_ok, quiet_err}
+use Rattle.data_plan.specs.Changes.{data_in, ShowsData, BeginsAtZero, HasData, IsHeld, MustLeave, IsKept, growth_of, row_of, IsTaken, Stays, IsChange, DataAfter}
+use Rattle.data_plan.proofs.Cases.{below, equal, none_fits, fits_none, over_full, value_more, placed_comes, leaving_comes, kept_comes, runs_cut, runs_same, chosen_none, changed_row, TakesMore, takes_more, grown_taken, grown_as, taken_ok, taken_err, quiet_ok, quiet_err}
 
 -- ---- the attributes of data that is there
 

@@ -1,4 +1,4 @@
-use Rattle.std.proofs.Common.{◌≡◌, ℕ, ◌+◌, ◌*◌, ◌/◌, ap, ◌∙◌}
+use Rattle.std.proofs.Common.{ℕ, ◌+◌, ◌*◌, ◌/◌, ap, ◌∙◌}
 use Rattle.record_model.specs.Records.{Record, used_of}
 use Rattle.data_plan.proofs.Taking.{as_value_bytes}
 use Rattle.data_plan.proofs.held.used_as_value.Goals as goal

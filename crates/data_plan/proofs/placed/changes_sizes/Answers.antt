@@ -1,7 +1,6 @@
-use Rattle.std.proofs.Common.{◌≡◌, ℕ, ◌<◌, List, sym, ap, ◌∙◌, subst, arith}
+use Rattle.std.proofs.Common.{◌∙◌, subst, arith}
 use Rattle.std.specs.Prelude.{All}
 use Rattle.std.proofs.lemmas.Result.{err_from_is_err_and}
-use Rattle.record_model.specs.declared.attribute.Attr.{Attr}
 use Rattle.used_laws.specs.Laws.{HasBytes}
 use Rattle.data_plan.proofs.Cases.{memory_err}
 use Rattle.data_plan.proofs.Taking.{sized_full, sized_ok}

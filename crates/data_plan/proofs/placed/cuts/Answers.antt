@@ -1,7 +1,6 @@
-use Rattle.std.proofs.Common.{◌≡◌, ℕ, List, sym, ap, ◌∙◌, subst}
+use Rattle.std.proofs.Common.{sym, subst}
 use Rattle.std.proofs.lemmas.Result.{err_from_is_err_and}
 use Rattle.resized_streams.specs.declared.resized.Resized.{Resized}
-use Rattle.resized_streams.specs.Resizing.{IsCut}
 use Rattle.data_plan.specs.declared.change.DataChange.TheVariants as change
 use Rattle.data_plan.specs.Changes.{DataAfter}
 use Rattle.std.proofs.Common.{Ok}
