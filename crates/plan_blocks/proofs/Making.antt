@@ -1,5 +1,5 @@
 -- A record that is made with the blocks of its index, and how it is written.
-use Rattle.std.proofs.Common.{◌≡◌, ◌≢◌, ℕ, zero, suc, Bool, true, false, not, cond, eqb, List, [], ◌∷◌, Option, Some, refl, sym, ap, ap₂, subst, ◌∙◌, inl, inr, arith}
+use Rattle.std.proofs.Common.{◌≡◌, ◌≢◌, ℕ, zero, suc, Bool, true, false, not, cond, List, [], ◌∷◌, Some, refl, sym, ap, ◌∙◌, inl, inr, arith}
 use Rattle.std.specs.Prelude.{filter, map, insert, All}
 use Rattle.std.specs.List.{list_all, sum_by}
 use Rattle.std.proofs.lemmas.Bool.{cases_Bool, eq-eqb}
@@ -12,7 +12,6 @@ use Rattle.record_model.specs.Constants.{bitmap_type, index_allocation, names_in
 use Rattle.record_model.specs.Pairs.{HasSpelling}
 use Rattle.record_model.specs.Records.{Record}
 use Rattle.state_model.specs.declared.stream.Extents.{Extents}
-use Rattle.state_model.specs.declared.stream.Stream.{Stream}
 use Rattle.state_model.specs.declared.stream.Stream.TheVariants.{Held, Placed}
 use Rattle.state_model.specs.Loads.{has_fitting_pairs, has_all_pairs}
 use Rattle.state_model.specs.Streams.{is_attribute_of, attributes_of, sorted_into, first_vcn, joined, stream_of}
@@ -26,7 +25,7 @@ use Rattle.record_streams.proofs.Streams.{placed_is, first_passes, others_with, 
 use Rattle.record_values.specs.Values.{valued_attr, valued_first, valued_record}
 use Rattle.record_values.proofs.Valued.{values_put}
 use Rattle.plan_growth.specs.Streams.{IsWritten}
-use Rattle.plan_growth.proofs.Placed.{placed_head, placed_is_there, other_pieces}
+use Rattle.plan_growth.proofs.Placed.{placed_is_there, other_pieces}
 use Rattle.plan_growth.proofs.Written.{Reads, all_read, written_pieces, written_stream}
 use Rattle.plan_blocks.specs.Blocks.{is_of_blocks, beside_blocks, used_stream, HasNoPlace, HasBlocks}
 use Rattle.plan_blocks.specs.Written.{MakesBlocks, BlocksAreWritten}
