@@ -70,7 +70,7 @@ pub record IsBeside (kind : ℕ) (name : List ℕ) : Type 0 where
   pub blocks : (kind ≢ index_allocation) ⊎ (name ≢ names_index)
   pub bits : (kind ≢ bitmap_type) ⊎ (name ≢ names_index)
 
-differs : (kind other : ℕ) (name alias : List ℕ) (a : Attr) → (kind ≢ other) ⊎ (name ≢ alias) → is_attribute_of other alias a ≡ true → is_attribute_of kind name a ≡ false
+pub differs : (kind other : ℕ) (name alias : List ℕ) (a : Attr) → (kind ≢ other) ⊎ (name ≢ alias) → is_attribute_of other alias a ≡ true → is_attribute_of kind name a ≡ false
 differs kind other name alias a (inl types) is = false_from_ne_true (is_attribute_of kind name a) (λ own. types (sym (attribute_kind kind name a own).0 ∙ (attribute_kind other alias a is).0))
 differs kind other name alias a (inr names) is = false_from_ne_true (is_attribute_of kind name a) (λ own. names (sym (attribute_kind kind name a own).1 ∙ (attribute_kind other alias a is).1))
 

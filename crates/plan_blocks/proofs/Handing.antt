@@ -1,5 +1,5 @@
 -- What a draft has put of a directory whose index gets more blocks is the edit of a plan.
-use Rattle.std.proofs.Common.{◌≡◌, ◌≢◌, ◌⊎◌, ℕ, ◌+◌, ◌*◌, ◌/◌, ◌<◌, ◌≤◌, ◌^◌, Bool, true, false, ◌&&◌, ◌||◌, cond, eqb, leb, nat_eq, List, [], ◌∷◌, Option, Some, None, refl, sym, ap, ap₂, subst, ◌∙◌, inl, inr, arith}
+use Rattle.std.proofs.Common.{◌≡◌, ◌≢◌, ◌⊎◌, ℕ, ◌*◌, ◌/◌, ◌<◌, ◌≤◌, Bool, true, false, ◌||◌, cond, eqb, leb, nat_eq, List, [], ◌∷◌, Option, Some, None, refl, sym, ap, ap₂, subst, ◌∙◌, inl, inr, arith}
 use Rattle.std.specs.List.{AllByRecursion}
 use Rattle.std.specs.Option.{option_or}
 use Rattle.std.specs.Cmp.Lexicographic.{pointwise}
@@ -21,7 +21,7 @@ use Rattle.state_model.specs.declared.stream.Stream.TheVariants.{Held, Placed}
 use Rattle.state_model.specs.Loads.{extents_or}
 use Rattle.state_model.specs.Streams.{block_at}
 use Rattle.volume_model.specs.Indexes.{void_block, index_stream}
-use Rattle.volume_model.specs.Owners.{volume_runs, uses}
+use Rattle.volume_model.specs.Owners.{uses}
 use Rattle.volume_model.specs.Volumes.{Volume, file_stream, cluster_bitmap, cluster_bits}
 use Rattle.stream_laws.specs.Frames.{SameBytesInSome}
 use Rattle.stream_laws.specs.Owners.{holds_records, stream_kind}

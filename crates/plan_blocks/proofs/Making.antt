@@ -1,8 +1,9 @@
 -- A record that is made with the blocks of its index, and how it is written.
-use Rattle.std.proofs.Common.{◌≡◌, ◌≢◌, ℕ, Bool, true, false, not, cond, eqb, List, [], ◌∷◌, Option, Some, refl, sym, ap, ap₂, subst, ◌∙◌, inl, inr, arith}
-use Rattle.std.specs.Prelude.{filter, map, All}
-use Rattle.std.specs.List.{list_all}
+use Rattle.std.proofs.Common.{◌≡◌, ◌≢◌, ℕ, zero, suc, Bool, true, false, not, cond, List, [], ◌∷◌, Some, refl, sym, ap, ◌∙◌, inl, inr, arith}
+use Rattle.std.specs.Prelude.{filter, map, insert, All}
+use Rattle.std.specs.List.{list_all, sum_by}
 use Rattle.std.proofs.lemmas.Bool.{cases_Bool, eq-eqb}
+use Rattle.std.proofs.lemmas.List.Sums.{sum_by-cons}
 use Rattle.record_model.specs.declared.attribute.Attr.{Attr}
 use Rattle.record_model.specs.declared.attribute.OwnForm.{OwnForm}
 use Rattle.record_model.specs.declared.attribute.OwnForm.TheVariants.{Resident, Mapped}
@@ -11,23 +12,24 @@ use Rattle.record_model.specs.Constants.{bitmap_type, index_allocation, names_in
 use Rattle.record_model.specs.Pairs.{HasSpelling}
 use Rattle.record_model.specs.Records.{Record}
 use Rattle.state_model.specs.declared.stream.Extents.{Extents}
-use Rattle.state_model.specs.declared.stream.Stream.{Stream}
 use Rattle.state_model.specs.declared.stream.Stream.TheVariants.{Held, Placed}
 use Rattle.state_model.specs.Loads.{has_fitting_pairs, has_all_pairs}
-use Rattle.state_model.specs.Streams.{is_attribute_of, attributes_of, first_vcn, joined, stream_of}
+use Rattle.state_model.specs.Streams.{is_attribute_of, attributes_of, sorted_into, first_vcn, joined, stream_of}
 use Rattle.volume_model.specs.Indexes.{index_stream}
 use Rattle.volume_model.specs.Sizes.{are_joined}
+use Rattle.stream_laws.proofs.Sharing.{attributes_sum}
 use Rattle.record_writer.specs.Normal.{normal}
+use Rattle.record_writer.specs.Edits.{with_attr_at}
 use Rattle.record_streams.specs.Placing.{with_stream, placed_attr, placed_first, placed_record}
 use Rattle.record_streams.proofs.Streams.{placed_is, first_passes, others_with, placed_one}
 use Rattle.record_values.specs.Values.{valued_attr, valued_first, valued_record}
 use Rattle.record_values.proofs.Valued.{values_put}
 use Rattle.plan_growth.specs.Streams.{IsWritten}
-use Rattle.plan_growth.proofs.Placed.{placed_head, placed_is_there, other_pieces}
+use Rattle.plan_growth.proofs.Placed.{placed_is_there, other_pieces}
 use Rattle.plan_growth.proofs.Written.{Reads, all_read, written_pieces, written_stream}
 use Rattle.plan_blocks.specs.Blocks.{is_of_blocks, beside_blocks, used_stream, HasNoPlace, HasBlocks}
 use Rattle.plan_blocks.specs.Written.{MakesBlocks, BlocksAreWritten}
-use Rattle.plan_blocks.proofs.Beside.{from_one, from_two}
+use Rattle.plan_blocks.proofs.Beside.{differs, from_one, from_two}
 
 -- ---- as it is written
 
@@ -136,8 +138,91 @@ module _ (per : ℕ) (r : Record) (f : Extents) (value : List ℕ) (a b : Attr) 
     held = values_put.stream bitmap_type names_index value q b more bits_of_q;
   }
 
+-- ---- attributes that come
+
+skipped : (q : Attr → Bool) (attrs : List Attr) (i : ℕ) (x : Attr) → q x ≡ false → filter q (insert attrs i x) ≡ filter q attrs
+skipped q [] zero x none = ap (λ (t : Bool). cond t (x ∷ []) []) none
+skipped q [] (suc i) x none = ap (λ (t : Bool). cond t (x ∷ []) []) none
+skipped q (y ∷ attrs) zero x none = ap (λ (t : Bool). cond t (x ∷ filter q (y ∷ attrs)) (filter q (y ∷ attrs))) none
+skipped q (y ∷ attrs) (suc i) x none = ap (λ (l : List Attr). cond (q y) (y ∷ l) l) (skipped q attrs i x none)
+
+found : (q : Attr → Bool) (attrs : List Attr) (i : ℕ) (x : Attr) → q x ≡ true → filter q attrs ≡ [] → filter q (insert attrs i x) ≡ x ∷ []
+found q [] zero x is none = ap (λ (t : Bool). cond t (x ∷ []) []) is
+found q [] (suc i) x is none = ap (λ (t : Bool). cond t (x ∷ []) []) is
+found q (y ∷ attrs) zero x is none = ap (λ (t : Bool). cond t (x ∷ filter q (y ∷ attrs)) (filter q (y ∷ attrs))) is ∙ ap (λ (l : List Attr). x ∷ l) none
+found q (y ∷ attrs) (suc i) x is none = elim (cases_Bool (q y)) [
+  | inl passes ↦ (let clash : y ∷ filter q attrs ≡ [] = sym (ap (λ (t : Bool). cond t (y ∷ filter q attrs) (filter q attrs)) passes) ∙ none in absurd cc)
+  | inr other ↦
+      ap (λ (t : Bool). cond t (y ∷ filter q (insert attrs i x)) (filter q (insert attrs i x))) other
+      ∙ found q attrs i x is (sym (ap (λ (t : Bool). cond t (y ∷ filter q attrs) (filter q attrs)) other) ∙ none)
+]
+
+no_items : (xs : List Attr) → sum_by (λ (a : Attr). 1) xs ≡ 0 → xs ≡ []
+no_items [] none = refl
+no_items (x ∷ xs) none = absurd (omega (arith, none, sum_by-cons (λ (a : Attr). 1) x xs))
+
+none_pass : (kind : ℕ) (name : List ℕ) (attrs : List Attr) → attributes_of kind name attrs ≡ [] → filter (is_attribute_of kind name) attrs ≡ []
+none_pass kind name attrs none = no_items (filter (is_attribute_of kind name) attrs) (sym (attributes_sum (λ (a : Attr). 1) kind name attrs) ∙ ap (sum_by (λ (a : Attr). 1)) none)
+
+one_attribute : (kind : ℕ) (name : List ℕ) (attrs : List Attr) (x : Attr) → filter (is_attribute_of kind name) attrs ≡ x ∷ [] → attributes_of kind name attrs ≡ x ∷ []
+unfolding attributes_of
+one_attribute kind name attrs x is = ap (sorted_into []) is
+
+value_first : (b : Attr) (value : List ℕ) (indexed : ℕ) → b.form ≡ Resident value indexed → first_vcn b ≡ 0
+value_first b value indexed is = rw is refl
+
+value_held : (b : Attr) (value : List ℕ) (indexed : ℕ) → b.form ≡ Resident value indexed → joined (b ∷ []) ≡ Some (Held value)
+value_held b value indexed is = rw is refl
+
+module _ (r : Record) (f : Extents) (i j : ℕ) (a b : Attr) (value : List ℕ) (indexed : ℕ) (no_blocks : attributes_of index_allocation names_index r.attrs ≡ []) (no_bits : attributes_of bitmap_type names_index r.attrs ≡ []) (is_a : is_attribute_of index_allocation names_index a ≡ true)
+    (placed : joined (a ∷ []) ≡ Some (Placed f)) (first : first_vcn a ≡ 0) (is_b : is_attribute_of bitmap_type names_index b ≡ true) (form : b.form ≡ Resident value indexed) where
+  abbrev both : Record
+  both = with_attr_at (with_attr_at r i a) j b
+
+  not_bits : is_attribute_of bitmap_type names_index a ≡ false
+  not_bits = differs bitmap_type index_allocation names_index names_index a (inl (λ e. omega (arith, e))) is_a
+
+  not_blocks : is_attribute_of index_allocation names_index b ≡ false
+  not_blocks = differs index_allocation bitmap_type names_index names_index b (inl (λ e. omega (arith, e))) is_b
+
+  its_blocks : attributes_of index_allocation names_index both.attrs ≡ a ∷ []
+  its_blocks =
+      one_attribute index_allocation names_index both.attrs a
+      (skipped (is_attribute_of index_allocation names_index) (insert r.attrs i a) j b not_blocks ∙ found (is_attribute_of index_allocation names_index) r.attrs i a is_a (none_pass index_allocation names_index r.attrs no_blocks))
+
+  its_bits : attributes_of bitmap_type names_index both.attrs ≡ b ∷ []
+  its_bits =
+      one_attribute bitmap_type names_index both.attrs b
+      (found (is_attribute_of bitmap_type names_index) (insert r.attrs i a) j b is_b (skipped (is_attribute_of bitmap_type names_index) r.attrs i a not_bits ∙ none_pass bitmap_type names_index r.attrs no_bits))
+
+  placed_there : index_stream both ≡ Some (Placed f)
+  unfolding index_stream stream_of
+  placed_there = ap joined its_blocks ∙ placed
+
+  held_there : used_stream both ≡ Some (Held value)
+  unfolding stream_of
+  held_there = ap joined its_bits ∙ value_held b value indexed form
+
+  pub blocks_come : MakesBlocks r both f
+  blocks_come = record {
+    seq = refl;
+    flags = refl;
+    base = refl;
+    others = skipped (λ (x : Attr). not (is_of_blocks x)) (insert r.attrs i a) j b (ap not (from_two b is_b)) ∙ skipped (λ (x : Attr). not (is_of_blocks x)) r.attrs i a (ap not (from_one a is_a));
+    blocks = a;
+    one = its_blocks;
+    first = first;
+    placed = placed_there;
+    bits = b;
+    one_value = its_bits;
+    first_value = value_first b value indexed form;
+    value = value;
+    held = held_there;
+  }
+
 pub blocks_written : BlocksAreWritten
 blocks_written = record {
   made = λ per r f value a b others more spelled is_a is_b. makes_blocks per r f value a b others more spelled is_a is_b;
+  come = λ r f i j a b value indexed no_blocks no_bits is_a placed first is_b form. blocks_come r f i j a b value indexed no_blocks no_bits is_a placed first is_b form;
   written = λ r p s f k no_place pairs w. has_blocks r p s f k no_place pairs w;
 }
