@@ -1,0 +1,9 @@
+pub mod Lists
+pub mod Contents
+pub mod Logged
+pub mod Windowed
+pub mod Going
+pub mod Roomy
+pub mod Reading
+pub mod Following
+pub mod Outcomes

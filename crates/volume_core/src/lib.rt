@@ -1,0 +1,18 @@
+//! A volume on a device, of which the map in memory follows the content: lists of changes that lead
+//! from a state to a state go through its store, each list as one transaction.
+//!
+//! The contract: the present content of the store is a state, of which the map is the map. After a
+//! call that answers `Ok` it is the content after the changes, with one commit more; after any error
+//! content, map and commits are as before.
+#![tactic(auto)]
+
+mod fault;
+mod logging;
+mod preparing;
+mod putting;
+mod rooms;
+mod volume;
+
+pub use disk_model::Change;
+pub use fault::PutFault;
+pub use volume::Volume;
