@@ -16,9 +16,9 @@ use std::alloc::Global;
 use tree_model::{Node, Op, Path, Reply, Units, count_read, read_refusal};
 use utf16_name::check;
 
-// Whether a part of the path is no name.
+/// Whether a part of the path is no name.
 #[tactic(auto, unfolding(file_tree::specs::Walks::has_bad_part))]
-fn has_bad_part(path: &[Units]) -> bool
+pub fn has_bad_part(path: &[Units]) -> bool
     ensures { result ≡ has_bad_part path.now }
 {
     path.iter().any(|part| check(part.as_slice()).is_some())

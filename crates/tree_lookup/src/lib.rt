@@ -12,8 +12,9 @@ mod looking;
 mod plain;
 mod walking;
 
-pub use answering::{answer, looked};
+pub use answering::{answer, has_bad_part, looked};
 pub use fault::LookupFault;
 pub use looking::Lookup;
 pub use plain::Plain;
 pub use tree_model::{FileRef, Kind, Link, Name, NameList, Node, Op, Path, Reply, Tree, Units};
+pub use walking::{reached, reached_directory};

@@ -72,8 +72,9 @@ fn parent_of(links: &[Link], number: u64) -> Option<u64>
     Some(link.parent.number)
 }
 
-// Whether a directory of the volume itself stands on the way up.
-fn is_in_system(links: &[Link], most: usize, number: u64) -> bool
+/// Whether a directory of the volume itself stands on the way up from this one, of at most so many
+/// steps. It takes time linear in the links for each step.
+pub fn is_in_system(links: &[Link], most: usize, number: u64) -> bool
     ensures { result ≡ is_in_system links.now most number }
 {
     let mut number = number;
@@ -113,7 +114,8 @@ fn is_system_node(tree: &Tree, node: &Node) -> bool
     }
 }
 
-fn fixed_names(why: Option<Why>) -> Option<Reply>
+/// What refuses each name made in or taken from a directory that can't be changed for this reason.
+pub fn fixed_names(why: Option<Why>) -> Option<Reply>
     ensures value { result ≡ fixed_names why }
     ensures given { IfSome result (λ row. is_given_up row ≡ false) }
 {
@@ -159,7 +161,9 @@ fn too_long(op: &Op, node: &Node) -> Option<Reply>
     }
 }
 
-fn table_full(tree: &Tree) -> Option<Reply>
+/// What refuses a new file where no number is spare and the file table can't grow. Of the tree it
+/// asks for the count and whether a number is spare.
+pub fn table_full(tree: &Tree) -> Option<Reply>
     ensures value { result ≡ table_full tree.now }
     ensures given { IfSome result (λ row. is_given_up row ≡ false) }
     ensures fits { IfNone result (length tree.now.spare ≡ 0 → tree.now.count + more_records ≤ most_records) }
@@ -173,7 +177,9 @@ fn table_full(tree: &Tree) -> Option<Reply>
     }
 }
 
-fn no_space(tree: &Tree, needed: u64) -> Option<Reply>
+/// What refuses an operation that needs more clusters than are free. Of the tree it asks for the
+/// room.
+pub fn no_space(tree: &Tree, needed: u64) -> Option<Reply>
     ensures value { result ≡ no_space tree.now needed }
     ensures given { IfSome result (λ row. is_given_up row ≡ false) }
     ensures room { IfNone result (needed ≤ tree.now.room) }
@@ -188,7 +194,8 @@ fn no_space(tree: &Tree, needed: u64) -> Option<Reply>
     }
 }
 
-/// What refuses a change of this file, behind the walk.
+/// What refuses a change of this file, behind the walk. Of a file that is no directory it asks the
+/// tree for the room alone.
 pub fn change_refusal(tree: &Tree, op: &Op, node: &Node) -> Option<Reply>
     requires bounds { IsWithinBounds op.now }
     requires journal { tree.now.journal ≡ None }
