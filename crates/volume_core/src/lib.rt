@@ -6,6 +6,7 @@
 //! content, map and commits are as before.
 #![tactic(auto)]
 
+mod closing;
 mod fault;
 mod logging;
 mod preparing;
@@ -15,4 +16,5 @@ mod volume;
 
 pub use disk_model::Change;
 pub use fault::PutFault;
+pub use txn_close::CloseFault;
 pub use volume::Volume;

@@ -1,9 +1,14 @@
 //! A volume on a device.
 ghost use Rattle.std.specs.Prelude.{◌≡◌, IfSome, false};
 ghost use Rattle.map_change.specs.Parts.{live_parts};
+ghost use Rattle.txn_model.specs.Told.{FactsTold, KeepsMarked, KeepsSteps};
+ghost use Rattle.txn_state.specs.States.{facts_of};
+ghost use Rattle.txn_core.specs.Kept.{IsKept};
+ghost use Rattle.txn_core.specs.Tells.{HasLap};
 ghost use Rattle.txn_core.specs.Views.{present_content};
 ghost use Rattle.volume_core.specs.Volumes.{IsStateOf};
 
+use flush_policy::Facts;
 use map_change::LiveMap;
 use sector_device::Device;
 use std::marker::Model;
@@ -61,6 +66,17 @@ impl<D: Device> Volume<D> {
         ensures { result ≡ self.now.store.state.durable }
     {
         self.store.state().durable()
+    }
+
+    /// What its store tells of itself, by which its next step is chosen
+    /// ([`flush_policy::next_step`]). It takes no memory, in constant time.
+    pub fn facts(&self) -> Facts
+        ensures told { HasLap self.now.store.state.log → FactsTold (facts_of self.now.store.state) result }
+        ensures kept { IsKept (facts_of self.now.store.state) }
+        ensures marked { KeepsMarked (facts_of self.now.store.state) }
+        ensures steps { KeepsSteps (facts_of self.now.store.state) }
+    {
+        self.store.facts()
     }
 
     /// The volume's map.
