@@ -1,0 +1,2 @@
+mod Timed
+mod Fitting

@@ -1,0 +1,16 @@
+//! A file record whose file, or directory, changed at a time: its standard information has the time,
+//! and comes where there was none.
+//!
+//! The contract: the record is the one of the definition; and a law says which premises of edits it
+//! meets. The layouts are those of the Linux-NTFS documentation, "FILE Record" and
+//! "$STANDARD_INFORMATION".
+#![tactic(auto)]
+
+mod copying;
+mod informing;
+mod laws;
+mod timing;
+
+pub use file_record::FileRec;
+pub use laws::times_are_set;
+pub use timing::timed_record;
