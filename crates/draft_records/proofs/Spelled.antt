@@ -2,7 +2,7 @@
 use Rattle.std.proofs.Common.{◌≡◌, ℕ, ◌+◌, ◌-◌, ◌%◌, ◌≤◌, List, [], ◌∷◌, ◌++◌, length, replicate, refl, sym, ap, subst, ◌∙◌, arith}
 use Rattle.std.specs.Prelude.{map, All}
 use Rattle.std.proofs.lemmas.List.{append-nil}
-use Rattle.std.proofs.lemmas.List.Elements.{All-head, All-tail}
+use Rattle.std.proofs.lemmas.List.Elements.{All-head, All-tail, recursion_from_All}
 use Rattle.disk_model.specs.Bytes.{up8, zeros}
 use Rattle.record_model.specs.declared.attribute.Attr.{Attr}
 use Rattle.record_model.specs.declared.attribute.OwnForm.{OwnForm}
@@ -10,7 +10,9 @@ use Rattle.record_model.specs.declared.attribute.OwnForm.TheVariants.{Resident, 
 use Rattle.record_model.specs.Attributes.{filled, FitsAttr, FitsForm}
 use Rattle.record_model.specs.Records.{used_of, FitsRecord}
 use Rattle.record_writer.specs.Normal.{normal, normal_form}
-use Rattle.draft_records.specs.Records.{SpelledFitsByRoom}
+use Rattle.record_writer.proofs.Measures.{spelled_count}
+use Rattle.record_streams.proofs.Read.{shorts}
+use Rattle.draft_records.specs.Records.{SpelledFitsByRoom, SpelledFitsButRoom}
 
 pairs_same : (pairs : List ℕ) → length pairs % 8 ≡ 0 → filled 0 pairs ≡ pairs
 unfolding filled zeros
@@ -37,4 +39,16 @@ spelled_fits r fits =
       attrs = subst (λ (l : List Attr). All FitsAttr l) (sym same) fits.attrs;
       countable = omega (arith, short);
       fits = (λ room. short, λ room. subst (λ (l : List Attr). FitsRecord (record { head = r.head; attrs = l })) (sym same) fits);
+    }
+
+pub spelled_but_room : SpelledFitsButRoom
+spelled_but_room r fits =
+    let same = attrs_same r.attrs fits.attrs in
+    let each = subst (λ (l : List Attr). All FitsAttr l) (sym same) fits.attrs in
+    let short : used_of (map normal r.attrs) ≤ 1024 = subst (λ (l : List Attr). used_of l ≤ 1024) (sym same) fits.used in
+    record {
+      head = fits.head;
+      attrs = shorts r.attrs (recursion_from_All FitsAttr (map normal r.attrs) each) fits.kinds fits.lawful (omega (arith, short));
+      rise = fits.rise;
+      few = omega (arith, spelled_count r.attrs, fits.used);
     }

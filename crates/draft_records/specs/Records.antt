@@ -10,6 +10,7 @@ use Rattle.record_model.specs.Constants.{file_name}
 use Rattle.record_model.specs.Records.{Record, record_at, record_spelling, used_of, FitsRecord}
 use Rattle.record_writer.specs.Normal.{normal}
 use Rattle.record_writer.specs.NormalLaws.{FitsByRoom}
+use Rattle.record_streams.specs.Fitting.{FitsButRoom}
 use Rattle.state_model.specs.declared.stream.Extents.{Extents}
 use Rattle.state_model.specs.Loads.{slot_by, used_record, table_slot}
 use Rattle.state_model.specs.Streams.{block_at}
@@ -79,6 +80,10 @@ written_bytes r = used_of (map normal r.attrs)
 abbrev pub fits_room : Record → Result (Unit {0}) ℕ
 fits_room r = needs (nat_le (written_bytes r) 1024) (written_bytes r)
 
+-- the record as it is written, where it has room
+abbrev pub written_in_room : Record → Result Record ℕ
+written_in_room r = fits_room r >>= λ _. Ok (written_record r)
+
 -- the record's body as it is written
 abbrev pub body_of_record : Record → Result (List ℕ) ℕ
 body_of_record r = fits_room r >>= λ _. Ok (record_spelling (written_record r))
@@ -122,3 +127,7 @@ StaysWhereFull old new Memory = ⊤
 -- A record that has a spelling has one exactly where it has room, as one that was read.
 abbrev pub SpelledFitsByRoom : Type 0
 SpelledFitsByRoom = (r : Record) → FitsRecord r → FitsByRoom r
+
+-- It has a spelling but for its room, as one that was read.
+abbrev pub SpelledFitsButRoom : Type 0
+SpelledFitsButRoom = (r : Record) → FitsRecord r → FitsButRoom r

@@ -8,7 +8,7 @@ ghost use Rattle.record_streams.specs.Fitting.{FitsButRoom};
 ghost use Rattle.record_writer.specs.Faults.{room_cause};
 ghost use Rattle.host_base.specs.Answers.{Gives};
 ghost use Rattle.state_model.specs.Loads.{slot_by, slot_in, used_record, is_used};
-ghost use Rattle.draft_records.specs.Records.{name_count, with_links, with_normal, written_bytes, body_of_record};
+ghost use Rattle.draft_records.specs.Records.{name_count, with_links, with_normal, written_bytes, written_in_room, body_of_record};
 
 use disk_model::{Body, u16_at};
 use file_record::{FileRec, RecFault};
@@ -124,18 +124,20 @@ fn spelled(alloc: Global, file: &FileRec) -> Result<Bytes, AllocError>
     Ok(Bytes::from(bytes))
 }
 
-/// The body of a record as a plan writes it (Linux-NTFS documentation, "FILE Record"): its
-/// attributes in the form in which this project writes them, and its count of links that of its
-/// names, short ones too. All else stays, its LSN and its sequence among it. The record is one that
-/// was read, or has a spelling, as [`spelled_fits_by_room`](crate::spelled_fits_by_room) says.
+/// The record as a plan writes it (Linux-NTFS documentation, "FILE Record"): its attributes in the
+/// form in which this project writes them, and its count of links that of its names, short ones too.
+/// All else stays, its LSN and its sequence among it. The record is one that was read, or has a
+/// spelling, as [`spelled_fits_by_room`](crate::spelled_fits_by_room) says.
 ///
 /// - [`RoomFault::Full`]: the record would use these bytes, which are above 1,024.
 /// - [`RoomFault::Memory`]: want of memory.
 ///
 /// It takes time and memory linear in the record.
-pub fn written_body(alloc: Global, file: &FileRec) -> Result<Bytes, RoomFault>
+pub fn written_file(alloc: Global, file: &FileRec) -> Result<FileRec, RoomFault>
     requires { FitsByRoom file.now }
-    ensures value { Gives (λ bytes. bytes) room_cause result (body_of_record file.now) }
+    ensures value { Gives (λ r. r) room_cause result (written_in_room file.now) }
+    ensures fits { IfOk result FitsRecord }
+    ensures but_room { IfOk result FitsButRoom }
 {
     let mut new = normal_record(alloc, file)?;
     let used = new.used();
@@ -144,5 +146,15 @@ pub fn written_body(alloc: Global, file: &FileRec) -> Result<Bytes, RoomFault>
     }
     let links = name_count(file.attrs().as_slice());
     new.set_head(with_links(file.head(), links as u16));
+    Ok(new)
+}
+
+/// The body of the record that [`written_file`] gives, of 1,024 bytes (Linux-NTFS documentation,
+/// "FILE Record"). The errors and costs are those.
+pub fn written_body(alloc: Global, file: &FileRec) -> Result<Bytes, RoomFault>
+    requires { FitsByRoom file.now }
+    ensures value { Gives (λ bytes. bytes) room_cause result (body_of_record file.now) }
+{
+    let new = written_file(alloc, file)?;
     Ok(spelled(alloc, &new)?)
 }

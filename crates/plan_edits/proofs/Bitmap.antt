@@ -50,22 +50,22 @@ own_sectors c g clusters v bitmap state is = own_by v.per bitmap.runs state.some
 
 -- ---- a place in runs that follow one another, none of them sparse
 
-is_there : (v : ℕ) (r : Run) → is_hole r ≡ false → is_some (lcn_in v (Some r)) ≡ true
+pub is_there : (v : ℕ) (r : Run) → is_hole r ≡ false → is_some (lcn_in v (Some r)) ≡ true
 is_there v r whole = by_lcn r.lcn whole
   where
     by_lcn : (o : Option ℕ) → not (is_some o) ≡ false → is_some (option_map (λ (lcn : ℕ). lcn + (v - r.vcn)) o) ≡ true
     by_lcn None is = absurd cc
     by_lcn (Some lcn) is = refl
 
-taken_here : (v : ℕ) (r : Run) (t : Bool) (rest : Option Run) → t ≡ true → is_hole r ≡ false → is_some (lcn_in v (cond t (Some r) rest)) ≡ true
+pub taken_here : (v : ℕ) (r : Run) (t : Bool) (rest : Option Run) → t ≡ true → is_hole r ≡ false → is_some (lcn_in v (cond t (Some r) rest)) ≡ true
 taken_here v r true rest here whole = is_there v r whole
 taken_here v r false rest here whole = absurd cc
 
-taken_there : (v : ℕ) (r : Run) (t : Bool) (rest : Option Run) → is_hole r ≡ false → is_some (lcn_in v rest) ≡ true → is_some (lcn_in v (cond t (Some r) rest)) ≡ true
+pub taken_there : (v : ℕ) (r : Run) (t : Bool) (rest : Option Run) → is_hole r ≡ false → is_some (lcn_in v rest) ≡ true → is_some (lcn_in v (cond t (Some r) rest)) ≡ true
 taken_there v r true rest whole there = is_there v r whole
 taken_there v r false rest whole there = there
 
-found_in : (runs : List Run) (n v : ℕ) → Follow 0 n runs → list_any is_hole runs ≡ false → n ≤ v → v < n + total_clusters runs → is_some (lcn_in v (find (holds v v) runs)) ≡ true
+pub found_in : (runs : List Run) (n v : ℕ) → Follow 0 n runs → list_any is_hole runs ≡ false → n ≤ v → v < n + total_clusters runs → is_some (lcn_in v (find (holds v v) runs)) ≡ true
 found_in [] n v follow whole low high = absurd (omega (arith, low, high))
 found_in (r ∷ runs) n v follow whole low high =
     let parts = or_parts (is_hole r) (list_any is_hole runs) whole in
@@ -76,7 +76,7 @@ found_in (r ∷ runs) n v follow whole low high =
       | inr ge ↦ taken_there v r (holds v v r) (find (holds v v) runs) parts.0 (found_in runs (n + r.len) v follow.1 parts.1 ge (omega (arith, high)))
     ]
 
-mapped : (f : ℕ → Block) (o : Option ℕ) → is_some o ≡ true → is_some (option_map f o) ≡ true
+pub mapped : (f : ℕ → Block) (o : Option ℕ) → is_some o ≡ true → is_some (option_map f o) ≡ true
 mapped f None is = absurd cc
 mapped f (Some x) is = refl
 

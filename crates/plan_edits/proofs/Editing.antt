@@ -74,12 +74,12 @@ bit_is c v bitmap x has low =
 
 -- ---- where what is put lies
 
-same_runs : (o : Option Stream) (e : Extents) → extents_or o ≡ e → runs_in o ≡ e.runs
+pub same_runs : (o : Option Stream) (e : Extents) → extents_or o ≡ e → runs_in o ≡ e.runs
 same_runs None e is = ap (λ (x : Extents). x.runs) is
 same_runs (Some (Held value)) e is = ap (λ (x : Extents). x.runs) is
 same_runs (Some (Placed f)) e is = ap (λ (x : Extents). x.runs) is
 
-mirror_kind : stream_kind mirror_key ≡ FileRec
+pub mirror_kind : stream_kind mirror_key ≡ FileRec
 unfolding stream_kind
 mirror_kind = refl
 
@@ -205,7 +205,7 @@ has_block : (c : Content) (o : Option Block) (r : Record) → slot_at c o ≡ Us
 has_block c None r is = absurd cc
 has_block c (Some b) r is = refl
 
-not_free : (t : Bool) (x : Slot) (r : Record) → cond t Free x ≡ Used r → x ≡ Used r
+pub not_free : (t : Bool) (x : Slot) (r : Record) → cond t Free x ≡ Used r → x ≡ Used r
 not_free true x r is = absurd cc
 not_free false x r is = is
 
@@ -213,7 +213,7 @@ pub used_block : (c : Content) (per : ℕ) (e : Extents) (n : ℕ) (r : Record) 
 unfolding table_slot
 used_block c per e n r is = has_block c (record_block per e n) r (not_free (leb e.initialised (1024 * n)) (slot_at c (record_block per e n)) r is)
 
-uses-none : (x : ℕ) → uses [] x ≡ 0
+pub uses-none : (x : ℕ) → uses [] x ≡ 0
 unfolding uses
 uses-none x = refl
 

@@ -87,8 +87,8 @@ pub none_in : (per : ℕ) (runs : List Run) (bodies : List NewBody) (b : Block) 
 none_in per runs [] b each apart = refl
 none_in per runs (w ∷ bodies) b each apart = ap (λ (t : Bool). cond t (Some w.bytes) (body_in bodies b)) (apart each.0.0 w.block each.0.1) ∙ none_in per runs bodies b each.1 apart
 
-module _ (c : Content) (g : Geometry) (clusters : ℕ) (v : Volume) (bitmap mirror : Extents) (n kind : ℕ) (name value : List ℕ) (r : Record) (more : List Run) (z : Resized) (old new : List Touched) (state : Stands (drafted old c) g clusters v)
-    (own : IsOwnStream v n kind name r (Held value)) (plain : stream_kind (key_of n kind name) ≡ Plain) (grown : IsGrown v.per kind name (unplaced (length value)) r more z) (taken : MayTake v.clusters (cluster_bits (drafted old c) v) more) (room : total_clusters more ≤ cluster_limit)
+module _ (c : Content) (g : Geometry) (clusters : ℕ) (v : Volume) (bitmap mirror : Extents) (n kind : ℕ) (name was value : List ℕ) (r : Record) (more : List Run) (z : Resized) (old new : List Touched) (state : Stands (drafted old c) g clusters v)
+    (own : IsOwnStream v n kind name r (Held was)) (plain : stream_kind (key_of n kind name) ≡ Plain) (grown : IsGrown v.per kind name (unplaced (length value)) r more z) (taken : MayTake v.clusters (cluster_bits (drafted old c) v) more) (room : total_clusters more ≤ cluster_limit)
     (is : MovesOfVolume c v bitmap mirror n z value old new) where
   abbrev d : Content
   d = drafted old c
@@ -169,7 +169,7 @@ module _ (c : Content) (g : Geometry) (clusters : ℕ) (v : Volume) (bitmap mirr
 
   some : (a : Attr) × (others : List Attr) × (attributes_of kind name r.attrs ≡ a ∷ others)
   unfolding stream_of
-  some = some_attributes (attributes_of kind name r.attrs) (Held value) own.stream
+  some = some_attributes (attributes_of kind name r.attrs) (Held was) own.stream
 
   written : IsWritten p s
   written = subst (λ (x : Record). IsWritten x s) grown.file (written_read.written z.file)
@@ -272,6 +272,7 @@ module _ (c : Content) (g : Geometry) (clusters : ℕ) (v : Volume) (bitmap mirr
     (
       record { same = same; content = content },
       record {
+        was = was;
         own = own;
         no_index = no_index;
         no_limits = no_limits;
@@ -288,4 +289,4 @@ module _ (c : Content) (g : Geometry) (clusters : ℕ) (v : Volume) (bitmap mirr
   )
 
 pub moved_edit : MovedIsEdit
-moved_edit c g clusters v bitmap mirror n kind name value r more z old new state own no_index no_limits plain grown taken enough room is = moved_is c g clusters v bitmap mirror n kind name value r more z old new state own plain grown taken room is no_index no_limits enough
+moved_edit c g clusters v bitmap mirror n kind name was value r more z old new state own no_index no_limits plain grown taken enough room is = moved_is c g clusters v bitmap mirror n kind name was value r more z old new state own plain grown taken room is no_index no_limits enough

@@ -53,7 +53,7 @@ no_blocks among old = record {
   same = λ b. refl;
 }
 
-put_alone : (w : NewBody) → body_in (w ∷ []) w.block ≡ Some w.bytes
+pub put_alone : (w : NewBody) → body_in (w ∷ []) w.block ≡ Some w.bytes
 put_alone w = ap (λ (t : Bool). cond t (Some w.bytes) None) (block_itself w.block)
 
 one_block : (among : Block → Type 0) (old : List Touched) (a : Block) (fresh : Bool) (bytes : List ℕ) (was : BodyOf) → among a → length bytes ≡ 512 * sectors a.kind → PutsBlocks among (λ b. a ≡ b) old (touch a fresh bytes was old)
@@ -75,7 +75,7 @@ pub left_put : (x y : Option (List ℕ)) (bytes : List ℕ) → y ≡ Some bytes
 left_put None y bytes is = (bytes, is)
 left_put (Some all) y bytes is = (all, refl)
 
-right_put : (x y : Option (List ℕ)) (bytes : List ℕ) → x ≡ Some bytes → option_or x y ≡ Some bytes
+pub right_put : (x y : Option (List ℕ)) (bytes : List ℕ) → x ≡ Some bytes → option_or x y ≡ Some bytes
 right_put x y bytes is = ap (λ (o : Option (List ℕ)). option_or o y) is
 
 pub found_in : (first second : List NewBody) (b : Block) → AreBodies second → body_in (put_bodies second first) b ≡ option_or (body_in second b) (body_in first b)
@@ -128,7 +128,7 @@ pub record Goes (among puts : Block → Type 0) (old new : List Touched) : Type 
   pub blocks : PutsBlocks among puts old new
   pub kept : IsKept new
 
-goes_behind : (among first second puts : Block → Type 0) (old mid new : List Touched) → ((b : Block) → puts b → first b ⊎ second b) → Goes among first old mid → Goes among second mid new → Goes among puts old new
+pub goes_behind : (among first second puts : Block → Type 0) (old mid new : List Touched) → ((b : Block) → puts b → first b ⊎ second b) → Goes among first old mid → Goes among second mid new → Goes among puts old new
 goes_behind among first second puts old mid new which f s = record {
   blocks = turned among among (λ b. first b ⊎ second b) puts old new (λ b is. is) which (one_behind among first second old mid new f.blocks s.blocks);
   kept = s.kept;
@@ -137,7 +137,7 @@ goes_behind among first second puts old mid new which f s = record {
 stays : (among puts : Block → Type 0) (old new : List Touched) → new ≡ old → ((b : Block) → puts b → ⊥) → IsKept old → Goes among puts old new
 stays among puts old new same none kept = subst (Goes among puts old) (sym same) (record { blocks = turned among among IsNone puts old old (λ b is. is) none (no_blocks among old); kept = kept })
 
-touches : (among : Block → Type 0) (old : List Touched) (a : Block) (fresh : Bool) (bytes : List ℕ) (was : BodyOf) → among a → length bytes ≡ 512 * sectors a.kind → length was.bytes ≡ 512 * sectors a.kind → IsKept old → Goes among (λ b. a ≡ b) old (touch a fresh bytes was old)
+pub touches : (among : Block → Type 0) (old : List Touched) (a : Block) (fresh : Bool) (bytes : List ℕ) (was : BodyOf) → among a → length bytes ≡ 512 * sectors a.kind → length was.bytes ≡ 512 * sectors a.kind → IsKept old → Goes among (λ b. a ≡ b) old (touch a fresh bytes was old)
 touches among old a fresh bytes was is long was_long kept = record {
   blocks = one_block among old a fresh bytes was is long;
   kept = record { rises = rises_touch 0 old a fresh bytes was kept.rises (omega arith); whole = whole_touch old a fresh bytes was kept.whole long was_long };
@@ -158,7 +158,7 @@ present_size : (c : Content) (bodies : List NewBody) (b : Block) (fresh : Bool) 
 present_size c bodies b true sized are = or_zeros c bodies b (body_in bodies b) sized are refl
 present_size c bodies b false sized are = sized_with c bodies sized b
 
-same_some : (a b : Block) → Some a ≡ Some b → a ≡ b
+pub same_some : (a b : Block) → Some a ≡ Some b → a ≡ b
 same_some a b is = cc
 
 sector_goes : (c : Content) (among : Block → Type 0) (o : Option Block) (fresh : Bool) (offset : ℕ) (bytes : List ℕ) (old : List Touched) → HasSizes c → ((b : Block) → o ≡ Some b → among b) → IsKept old → Goes among (λ b. o ≡ Some b) old (touch_part c o fresh offset bytes old)
@@ -194,7 +194,7 @@ module _ (c : Content) (per : ℕ) (runs : List Run) (fresh at : ℕ) (bytes : L
 forget : (among puts : Block → Type 0) (old new : List Touched) → Goes among puts old new → Goes among IsNone old new
 forget among puts old new is = record { blocks = turned among among puts IsNone old new (λ b x. x) (λ b none. absurd none) is.blocks; kept = is.kept }
 
-clusters_go : (c : Content) (per : ℕ) (e : Extents) (value : Bool) (o : Option ℕ) (len : ℕ) (old new : List Touched) → HasSizes c → IsKept old → PutsClusters c per e value o len old new → Goes (IsSectorOf per e.runs) IsNone old new
+pub clusters_go : (c : Content) (per : ℕ) (e : Extents) (value : Bool) (o : Option ℕ) (len : ℕ) (old new : List Touched) → HasSizes c → IsKept old → PutsClusters c per e value o len old new → Goes (IsSectorOf per e.runs) IsNone old new
 clusters_go c per e value None len old new sized kept put = stays (IsSectorOf per e.runs) IsNone old new put (λ b none. none) kept
 clusters_go c per e value (Some first) len old new sized kept put =
     subst (Goes (IsSectorOf per e.runs) IsNone old) (sym put.1.1)
@@ -203,7 +203,7 @@ clusters_go c per e value (Some first) len old new sized kept put =
 none_of : (b : Block) → IsNone b → IsNone b ⊎ IsNone b
 none_of b none = inl none
 
-runs_go : (c : Content) (per : ℕ) (e : Extents) (value : Bool) (runs : List Run) (old new : List Touched) → HasSizes c → IsKept old → PutsRuns c per e value runs old new → Goes (IsSectorOf per e.runs) IsNone old new
+pub runs_go : (c : Content) (per : ℕ) (e : Extents) (value : Bool) (runs : List Run) (old new : List Touched) → HasSizes c → IsKept old → PutsRuns c per e value runs old new → Goes (IsSectorOf per e.runs) IsNone old new
 unfolding PutsRuns
 runs_go c per e value [] old new sized kept put = stays (IsSectorOf per e.runs) IsNone old new put (λ b none. none) kept
 runs_go c per e value (r ∷ runs) old new sized kept put =
@@ -212,7 +212,7 @@ runs_go c per e value (r ∷ runs) old new sized kept put =
 
 -- ---- a record
 
-record_goes : (c : Content) (among : Block → Type 0) (o : Option Block) (fresh : Bool) (bytes : List ℕ) (old : List Touched) → HasSizes c → length bytes ≡ 1024 → ((b : Block) → o ≡ Some b → b.kind ≡ FileRec) → ((b : Block) → o ≡ Some b → among b) → IsKept old → Goes among (λ b. o ≡ Some b) old (touch_if c o fresh bytes old)
+pub record_goes : (c : Content) (among : Block → Type 0) (o : Option Block) (fresh : Bool) (bytes : List ℕ) (old : List Touched) → HasSizes c → length bytes ≡ 1024 → ((b : Block) → o ≡ Some b → b.kind ≡ FileRec) → ((b : Block) → o ≡ Some b → among b) → IsKept old → Goes among (λ b. o ≡ Some b) old (touch_if c o fresh bytes old)
 record_goes c among None fresh bytes old sized long kind is kept = stays among (λ b. None ≡ Some b) old old refl (λ b clash. absurd cc) kept
 record_goes c among (Some a) fresh bytes old sized long kind is kept =
     let put : Goes among (λ b. a ≡ b) old (touch a fresh bytes (c a) old) = touches among old a fresh bytes (c a) (is a refl) (kind_of_size (length bytes) a.kind (kind a refl) long) (sized a) kept in

@@ -125,11 +125,11 @@ used_in c per e n r is = at_block c (block_at per e.runs FileRec n) r (by_size (
 abbrev Fits : Attr → Type 0
 Fits a = has_fitting_pairs a ≡ true
 
-all_fit : (attrs : List Attr) → list_all has_fitting_pairs attrs ≡ true → All Fits attrs
+pub all_fit : (attrs : List Attr) → list_all has_fitting_pairs attrs ≡ true → All Fits attrs
 all_fit [] all = All-nil Fits
 all_fit (a ∷ attrs) all = (let parts = and_parts (has_fitting_pairs a) (list_all has_fitting_pairs attrs) all in All-cons Fits a attrs parts.0 (all_fit attrs parts.1))
 
-fit_all : (attrs : List Attr) → All Fits attrs → list_all has_fitting_pairs attrs ≡ true
+pub fit_all : (attrs : List Attr) → All Fits attrs → list_all has_fitting_pairs attrs ≡ true
 fit_all [] all = refl
 fit_all (a ∷ attrs) all = and_from (has_fitting_pairs a) (list_all has_fitting_pairs attrs) (All-head Fits a attrs all) (fit_all attrs (All-tail Fits a attrs all))
 

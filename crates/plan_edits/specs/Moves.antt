@@ -39,10 +39,10 @@ pub record EditsDraft (c : Content) (old new : List Touched) (bodies : List NewB
   pub same : PutSame (bodies_of new) (put_bodies bodies (bodies_of old))
   pub content : content_with (drafted old c) bodies ≡ drafted new c
 
--- Where a value left its record for clusters that were clear, in a state that the draft before stands for, what is put is the edit that
+-- Where a value left its record for clusters that were clear, with another one or the same, in a state that the draft before stands for, what is put is the edit that
 -- leads to a state. The blocks of the value's stream are sectors.
 abbrev pub MovedIsEdit : Type 0
-MovedIsEdit = (c : Content) (g : Geometry) (clusters : ℕ) (v : Volume) (bitmap mirror : Extents) (n kind : ℕ) (name value : List ℕ) (r : Record) (more : List Run) (z : Resized) (old new : List Touched) → Stands (drafted old c) g clusters v
-    → IsOwnStream v n kind name r (Held value) → index_allocation ≢ kind → limits_name ≢ name → stream_kind (key_of n kind name) ≡ Plain → IsGrown v.per kind name (unplaced (length value)) r more z
+MovedIsEdit = (c : Content) (g : Geometry) (clusters : ℕ) (v : Volume) (bitmap mirror : Extents) (n kind : ℕ) (name was value : List ℕ) (r : Record) (more : List Run) (z : Resized) (old new : List Touched) → Stands (drafted old c) g clusters v
+    → IsOwnStream v n kind name r (Held was) → index_allocation ≢ kind → limits_name ≢ name → stream_kind (key_of n kind name) ≡ Plain → IsGrown v.per kind name (unplaced (length value)) r more z
     → MayTake v.clusters (cluster_bits (drafted old c) v) more → clusters_for v.per (length value) ≤ total_clusters more → total_clusters more ≤ cluster_limit → MovesOfVolume c v bitmap mirror n z value old new
     → (bodies : List NewBody) × (EditsDraft c old new bodies × MovesValue (drafted old c) v n kind name value r more z (written_record z.file) bodies)

@@ -70,11 +70,11 @@ begins_in : (kind : BlockKind) (m total initialised : ℕ) → 512 * (sectors ki
 begins_in kind m total initialised below within = omega (arith, below, within)
 
 -- its real size is at most the allocated one
-still_allocated : (per total more real : ℕ) → per ≡ 8 → real ≤ total * (512 * per) → real ≤ (total + more) * (512 * per)
+pub still_allocated : (per total more real : ℕ) → per ≡ 8 → real ≤ total * (512 * per) → real ≤ (total + more) * (512 * per)
 still_allocated per total more real eight = subst (λ (p : ℕ). real ≤ total * (512 * p) → real ≤ (total + more) * (512 * p)) (sym eight) (λ least. omega (arith, least))
 
 -- how many blocks an index has by its real size
-counted : (per total real : ℕ) → per ≡ 8 → real ≤ total * (512 * per) → min (real / 4096) (total * per / 8) ≡ real / 4096
+pub counted : (per total real : ℕ) → per ≡ 8 → real ≤ total * (512 * per) → min (real / 4096) (total * per / 8) ≡ real / 4096
 counted per total real eight = subst (λ (p : ℕ). real ≤ total * (512 * p) → min (real / 4096) (total * p / 8) ≡ real / 4096) (sym eight) (λ least. omega (arith, least))
 
 in_total : (per total initialised : ℕ) (kind : BlockKind) (m : ℕ) → per ≡ 8 → initialised ≤ total * (512 * per) → 512 * (sectors kind * m) < initialised → sectors kind * m / per < total

@@ -122,10 +122,10 @@ module _ (c : Content) (g : Geometry) (clusters : ℕ) (v : Volume) (n kind : �
   bit_set : (x : ℕ) → x < v.clusters → 0 < uses more x → bit (cluster_bits d v) x ≡ true
   bit_set x low some = k.marked x low ∙ or_left (leb 1 (uses more x)) (bit (cluster_bits c v) x) (le-leb 1 (uses more x) some)
 
-  follows : Follows c d v n kind name r (Held value) f taken given
+  follows : Follows c d v n kind name r (Held k.was) f taken given
   follows = record {
     spelled = follow-grown [] more tt k.taken.spelled (let few = k.room in omega (arith, few));
-    before = held_before kind name r value (stream_joined c g clusters v n kind name r (Held value) state k.own) k.own.stream;
+    before = held_before kind name r k.was (stream_joined c g clusters v n kind name r (Held k.was) state k.own) k.own.stream;
     fits = new_fits;
     holes = λ none. grown_whole [] more refl k.taken.whole;
     records = λ file type alias none. records_whole (mirror_record n kind name file type alias);
@@ -143,14 +143,14 @@ module _ (c : Content) (g : Geometry) (clusters : ℕ) (v : Volume) (n kind : �
   written_now = subst (λ (x : Record). IsWritten x s) k.grown.file k.written
 
   pub moved_leads : LeadsTo (is_edited (record { number = n; file = Some s } ∷ [])) c v (content_with c bodies) g clusters (with_record v n s)
-  moved_leads = resized_leads c g clusters v n kind name r (Held value) f taken given bodies sized eight state k.own marks_streams (λ t is. inl is) s written_now k.puts follows
+  moved_leads = resized_leads c g clusters v n kind name r (Held k.was) f taken given bodies sized eight state k.own marks_streams (λ t is. inl is) s written_now k.puts follows
 
   pub moved_stream : stream_at (with_record v n s) (key_of n kind name) ≡ Some (Placed z.extents)
   moved_stream =
-      own_now c g clusters v n kind name r (Held value) f taken given bodies sized eight state k.own marks_streams (λ t is. inl is) s written_now k.puts follows ∙ ap (λ (x : Extents). Some (Placed x)) (sym k.grown.extents)
+      own_now c g clusters v n kind name r (Held k.was) f taken given bodies sized eight state k.own marks_streams (λ t is. inl is) s written_now k.puts follows ∙ ap (λ (x : Extents). Some (Placed x)) (sym k.grown.extents)
 
   pub moved_tree : TreeFollows c (content_with c bodies) v n r s
-  moved_tree = resized_tree c g clusters v n kind name r (Held value) f taken given bodies sized eight state k.own marks_streams (λ t is. inl is) s written_now k.puts follows refl
+  moved_tree = resized_tree c g clusters v n kind name r (Held k.was) f taken given bodies sized eight state k.own marks_streams (λ t is. inl is) s written_now k.puts follows refl
 
   bits : BitsFollow v.clusters (cluster_bits c v) (cluster_bits d v) taken given
   bits = record {
@@ -166,6 +166,6 @@ module _ (c : Content) (g : Geometry) (clusters : ℕ) (v : Volume) (n kind : �
       → GoesOn first start c g clusters v bodies (with_record v n s) gave (gives_runs (stream_kind (key_of n kind name)) more gave)
   moved_goes_on first start gave may =
       let own_kind : BlockKind = stream_kind (key_of n kind name) in
-      resized_goes_on c g clusters v n kind name r (Held value) f taken given bodies sized eight state k.own marks_streams (λ t is. inl is) s written_now k.puts follows first start gave (gives_runs own_kind more gave) bits
+      resized_goes_on c g clusters v n kind name r (Held k.was) f taken given bodies sized eight state k.own marks_streams (λ t is. inl is) s written_now k.puts follows first start gave (gives_runs own_kind more gave) bits
       (λ m b lies begins. inr (covers_now m b lies begins)) (λ x some none. given_here own_kind more gave x (is_new x some none)) (given_before own_kind more gave may.same)
       (given_clear own_kind more gave (cluster_bits first start) may.taken may.before)

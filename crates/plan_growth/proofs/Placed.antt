@@ -58,7 +58,7 @@ any_by_filter q (a ∷ attrs) = elim (cases_Bool (q a)) [
   | inr is ↦ rw is (any_by_filter q attrs)
 ]
 
-no_link : (child : FileRef) (a : Attr) → eqb a.head.kind file_name ≡ false → attr_link child a ≡ None
+pub no_link : (child : FileRef) (a : Attr) → eqb a.head.kind file_name ≡ false → attr_link child a ≡ None
 unfolding attr_link
 no_link child a is = ap (λ (t : Bool). cond t (form_link child a.form) None) is
 

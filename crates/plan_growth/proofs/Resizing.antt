@@ -123,7 +123,7 @@ pub record BitsFollow (clusters : ℕ) (bits new_bits : List Bool) (taken given 
   pub set : (x : ℕ) → x < clusters → given x < taken x → (bit bits x ≡ false) × (bit new_bits x ≡ true)
   pub others : (x : ℕ) → x < clusters → taken x ≡ given x → bit new_bits x ≡ bit bits x
 
-clusters_are : (c : Content) (g : Geometry) (clusters : ℕ) (v : Volume) → Stands c g clusters v → clusters ≡ v.clusters
+pub clusters_are : (c : Content) (g : Geometry) (clusters : ℕ) (v : Volume) → Stands c g clusters v → clusters ≡ v.clusters
 clusters_are c g clusters v s = (volume_parts c g clusters v s.loaded).count
 
 -- ---- tests of a file's streams
@@ -139,7 +139,7 @@ none_of_two true x is = is
 none_of_two false x is = refl
 
 -- at eight sectors a cluster no index block is cut
-inside_none : (count k : ℕ) → is_inside_block Index count (8 * k) ≡ false
+pub inside_none : (count k : ℕ) → is_inside_block Index count (8 * k) ≡ false
 inside_none count k = ap (λ (t : Bool). not t && ltb (8 * k / 8) count) (eq-eqb _ 0 (omega arith))
 
 -- ---- which streams are put to
@@ -197,10 +197,10 @@ as_fresh streams v n kind name s bodies puts = record { whole = puts.whole; anew
 
 -- ---- nodes
 
-kind_by : Bool → Bool → Bool → Bool → Kind
+pub kind_by : Bool → Bool → Bool → Bool → Kind
 kind_by directory system unread unchanged = cond directory Directory (cond system System (cond unread Opaque (cond unchanged Fixed File)))
 
-node_of : ℕ → ℕ → Kind → Option Why → Bool → Option Stream → List ℕ → StdInfo → Node
+pub node_of : ℕ → ℕ → Kind → Option Why → Bool → Option Stream → List ℕ → StdInfo → Node
 node_of n seq kind why held shown bytes info = record {
   number = n;
   seq = seq;
@@ -228,7 +228,7 @@ pub slot_open : (c : Content) (v : Volume) (n : ℕ) (r : Record) → table_slot
 unfolding table_slot
 slot_open c v n r is = is
 
-whole_pairs : (o : Result Record ℕ) (r : Record) → (o >>= λ x. needs {F = ℕ} (has_all_pairs x) 7 >>= λ y. needs {F = ℕ} (has_lawful_values x) 8 >>= λ z. Ok x) ≡ Ok r → has_all_pairs r ≡ true
+pub whole_pairs : (o : Result Record ℕ) (r : Record) → (o >>= λ x. needs {F = ℕ} (has_all_pairs x) 7 >>= λ y. needs {F = ℕ} (has_lawful_values x) 8 >>= λ z. Ok x) ≡ Ok r → has_all_pairs r ≡ true
 whole_pairs (Err rule) r is = absurd cc
 whole_pairs (Ok x) r is = chosen (has_all_pairs x) (has_lawful_values x) refl is
   where

@@ -42,7 +42,7 @@ use Rattle.plan_growth.proofs.Resizing.{Follows, resized_leads, own_now, own_was
 
 -- ---- what no place of a list has
 
-none_at : (p : ℕ → Bool) (a n i : ℕ) → list_any p (range_with_len a n) ≡ false → a ≤ i → i < a + n → p i ≡ false
+pub none_at : (p : ℕ → Bool) (a n i : ℕ) → list_any p (range_with_len a n) ≡ false → a ≤ i → i < a + n → p i ≡ false
 none_at p a zero i none low high = absurd (omega (arith, low, high))
 none_at p a (suc n) i none low high =
     let parts = or_parts (p a) (list_any p (range_with_len (a + 1) n)) none in

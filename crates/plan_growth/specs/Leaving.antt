@@ -30,10 +30,11 @@ use Rattle.plan_growth.specs.Trees.{TreeFollows}
 use Rattle.plan_growth.specs.Growing.{MayGive}
 use Rattle.plan_growth.specs.Streams.{IsOwnStream, IsWritten, key_of, marks_streams, PutsFresh, MayTake}
 
--- A value that is neither an index's nor the limits of a change journal takes these runs, which have room for it. Each block of its
--- stream that holds a byte of it is put whole. The bits of the clusters become set, and the others stay.
+-- A stream that was a value, neither an index's nor the limits of a change journal, takes these runs, which have room for its new value.
+-- Each block of it that holds a byte of that is put whole. The bits of the clusters become set, and the others stay.
 pub record MovesValue (c : Content) (v : Volume) (n kind : ℕ) (name value : List ℕ) (r : Record) (more : List Run) (z : Resized) (s : Record) (bodies : List NewBody) : Type 0 where
-  pub own : IsOwnStream v n kind name r (Held value)
+  pub was : List ℕ
+  pub own : IsOwnStream v n kind name r (Held was)
   pub no_index : index_allocation ≢ kind
   pub no_limits : limits_name ≢ name
   pub grown : IsGrown v.per kind name (unplaced (length value)) r more z

@@ -27,7 +27,7 @@ use Rattle.state_model.specs.Rules.{implies, at_file}
 use Rattle.state_model.specs.Streams.{stream_of, block_at}
 use Rattle.file_tree.specs.Walks.{first_user_record}
 use Rattle.state_model.specs.Trees.{is_system}
-use Rattle.volume_model.specs.Volumes.{Volume, volume_of, count_of, file_in, file_stream, bytes_or, record_bitmap, cluster_bits, table_file, mirror_file, bitmap_file, upcase_file, upper_of}
+use Rattle.volume_model.specs.Volumes.{Volume, volume_of, count_of, file_in, file_stream, bytes_or, record_bitmap, cluster_bits, table_file, mirror_file, log_file, bitmap_file, upcase_file, upper_of}
 use Rattle.volume_model.specs.Indexes.{void_block, or_void, index_block, index_stream, keeps_index}
 use Rattle.volume_model.specs.Nodes.{shows_data, kind_in, node_at, nodes_by, free_clusters}
 use Rattle.volume_model.specs.Owners.{volume_runs, keeps_cluster_bit, keeps_record_bit}
@@ -36,7 +36,7 @@ use Rattle.volume_state.specs.Journals.{entries_name, journal_of, fault_of, some
 use Rattle.volume_state.specs.Rules.{first_broken, file_count, broken_3, broken_4, broken_6, broken_7, broken_9}
 use Rattle.volume_state.specs.Trees.{IsState, tree_with, tree_of, volume_journal}
 use Rattle.stream_laws.specs.Frames.{SameBytesInSome, SameRecordIn, SameIndexIn}
-use Rattle.stream_laws.specs.Owners.{stream_kind, initialised_in, IsLive}
+use Rattle.stream_laws.specs.Owners.{stream_kind, initialised_in}
 use Rattle.stream_laws.specs.Sharing.{StreamKey, stream_at, runs_in}
 use Rattle.stream_laws.specs.Tables.{table_key}
 use Rattle.stream_laws.specs.Volumes.{SameTableIn}
@@ -48,7 +48,7 @@ use Rattle.tree_laws.proofs.Agreeing.{same_upper, same_index, kept_bit, same_spa
 use Rattle.tree_laws.proofs.Keeping.{rules_of, from_rules, passes_below, fails_nowhere}
 use Rattle.tree_laws.proofs.Planning.{holder_number}
 use Rattle.plan_owners.specs.States.{Stands}
-use Rattle.plan_owners.specs.Agreeing.{AgreeOnOwned, list_key}
+use Rattle.plan_owners.specs.Agreeing.{AgreeOnOwned, IsJudged, list_key, log_key}
 use Rattle.plan_owners.proofs.Standing.{loaded_files, counted, some_file, begins, rule_4_parts, streams_at}
 use Rattle.stream_laws.proofs.Recording.{record_read}
 use Rattle.stream_laws.proofs.Tabling.{inside_list}
@@ -124,11 +124,30 @@ index_type n name = no_records ((eqb n table_file) || (eqb n mirror_file)) (poin
 
 -- ---- live blocks
 
-live_block : (v : Volume) (s : StreamKey) (e : Extents) (kind : BlockKind) (n : ℕ) (b : Block) → stream_at v s ≡ Some (Placed e) → stream_kind s ≡ kind → block_at v.per e.runs kind n ≡ Some b → 512 * (sectors kind * n) < e.initialised → IsLive v b
-live_block v s e kind n b is same place below = record {
-  owned = record { stream = s; number = n; lies = ap₂ (λ (o : Option Stream) (k : BlockKind). block_at v.per (runs_in o) k n) is same ∙ place };
-  begins = subst (λ (k : BlockKind). 512 * (sectors k * n) < initialised_in (stream_at v s)) (sym same) (subst (λ (x : ℕ). 512 * (sectors kind * n) < x) (sym (ap initialised_in is)) below);
+live_block : (v : Volume) (s : StreamKey) (e : Extents) (kind : BlockKind) (n : ℕ) (b : Block) → stream_at v s ≡ Some (Placed e) → stream_kind s ≡ kind → s ≢ log_key → block_at v.per e.runs kind n ≡ Some b → 512 * (sectors kind * n) < e.initialised → IsJudged v b
+live_block v s e kind n b is same other place below = record {
+  live = record {
+    owned = record { stream = s; number = n; lies = ap₂ (λ (o : Option Stream) (k : BlockKind). block_at v.per (runs_in o) k n) is same ∙ place };
+    begins = subst (λ (k : BlockKind). 512 * (sectors k * n) < initialised_in (stream_at v s)) (sym same) (subst (λ (x : ℕ). 512 * (sectors kind * n) < x) (sym (ap initialised_in is)) below);
+  };
+  other = other;
 }
+
+-- the log is a stream of its own file, type and name, and has sectors
+other_file : (s : StreamKey) → s.file ≢ log_file → s ≢ log_key
+other_file s not same = not (ap (λ (k : StreamKey). k.file) same)
+
+other_type : (s : StreamKey) → s.kind ≢ data_type → s ≢ log_key
+other_type s not same = not (ap (λ (k : StreamKey). k.kind) same)
+
+other_name : (n kind x : ℕ) (name : List ℕ) → record { file = n; kind = kind; name = x ∷ name } ≢ log_key
+other_name n kind x name same = no_name (ap (λ (k : StreamKey). k.name) same)
+  where
+    no_name : x ∷ name ≡ [] → ⊥
+    no_name is = absurd cc
+
+other_kind : (s : StreamKey) (kind : BlockKind) → stream_kind s ≡ kind → kind ≢ Plain → s ≢ log_key
+other_kind s kind is not same = not (sym is ∙ ap stream_kind same ∙ plain_data log_file (λ e. omega (arith, e)) (λ e. omega (arith, e)))
 
 body_with : List ℕ → Bool → Body
 body_with bytes torn = record { bytes = bytes; torn = torn }
@@ -171,16 +190,16 @@ one_table x y t first second = cc
 module _ (c d : Content) (g : Geometry) (clusters : ℕ) (v : Volume) (s : Stands c g clusters v) (k : AgreeOnOwned c d v) where
   -- ---- bytes of streams
 
-  same_in : (key : StreamKey) (o : Option Stream) → stream_kind key ≡ Plain → stream_at v key ≡ o → SameBytesInSome c d v.per o
-  same_in key None plain is = tt
-  same_in key (Some (Held value)) plain is = tt
-  same_in key (Some (Placed e)) plain is = λ b read. (let low = read.below in k.bytes b (live_block v key e Plain read.sector b is plain read.lies (omega arith)))
+  same_in : (key : StreamKey) (o : Option Stream) → stream_kind key ≡ Plain → key ≢ log_key → stream_at v key ≡ o → SameBytesInSome c d v.per o
+  same_in key None plain other is = tt
+  same_in key (Some (Held value)) plain other is = tt
+  same_in key (Some (Placed e)) plain other is = λ b read. (let low = read.below in k.bytes b (live_block v key e Plain read.sector b is plain other read.lies (omega arith)))
 
-  same_data : (n : ℕ) → n ≢ table_file → n ≢ mirror_file → SameBytesInSome c d v.per (file_stream data_type [] (file_in v n))
-  same_data n one two = same_in (record { file = n; kind = data_type; name = [] }) (file_stream data_type [] (file_in v n)) (plain_data n one two) refl
+  same_data : (n : ℕ) → n ≢ table_file → n ≢ mirror_file → n ≢ log_file → SameBytesInSome c d v.per (file_stream data_type [] (file_in v n))
+  same_data n one two three = same_in (record { file = n; kind = data_type; name = [] }) (file_stream data_type [] (file_in v n)) (plain_data n one two) (other_file (record { file = n; kind = data_type; name = [] }) three) refl
 
   same_bitmap : SameBytesInSome c d v.per (record_bitmap v)
-  same_bitmap = same_in (record { file = table_file; kind = bitmap_type; name = [] }) (record_bitmap v) (plain_type table_file bitmap_type [] (λ e. omega (arith, e)) (λ e. omega (arith, e))) refl
+  same_bitmap = same_in (record { file = table_file; kind = bitmap_type; name = [] }) (record_bitmap v) (plain_type table_file bitmap_type [] (λ e. omega (arith, e)) (λ e. omega (arith, e))) (other_file (record { file = table_file; kind = bitmap_type; name = [] }) (λ e. omega (arith, e))) refl
 
   -- ---- records
 
@@ -192,11 +211,14 @@ module _ (c d : Content) (g : Geometry) (clusters : ℕ) (v : Volume) (s : Stand
       of_extents (Some (Held value)) = refl
       of_extents (Some (Placed e)) = refl
 
-  record_live : (n : ℕ) (b : Block) → 1024 * n < v.table.initialised → block_at v.per v.table.runs FileRec n ≡ Some b → IsLive v b
+  record_live : (n : ℕ) (b : Block) → 1024 * n < v.table.initialised → block_at v.per v.table.runs FileRec n ≡ Some b → IsJudged v b
   unfolding stream_kind
   record_live n b below place = record {
-    owned = record { stream = table_key; number = n; lies = ap (λ l. block_at v.per l FileRec n) (table_runs c g clusters v (begins c g clusters v s)) ∙ place };
-    begins = subst (λ (x : ℕ). 512 * (2 * n) < x) (sym table_size) (omega arith);
+    live = record {
+      owned = record { stream = table_key; number = n; lies = ap (λ l. block_at v.per l FileRec n) (table_runs c g clusters v (begins c g clusters v s)) ∙ place };
+      begins = subst (λ (x : ℕ). 512 * (2 * n) < x) (sym table_size) (omega arith);
+    };
+    other = other_file table_key (λ e. omega (arith, e));
   }
 
   whole_slot : (b : Block) (n : ℕ) → torn_refusal n (slot_of (c b)) ≡ None → (c b).torn ≡ false
@@ -281,7 +303,7 @@ module _ (c d : Content) (g : Geometry) (clusters : ℕ) (v : Volume) (s : Stand
       at_place : (o : Option Block) → block_at v.per e.runs Index i ≡ o → 4096 * i < e.initialised → d (or_void o) ≡ c (or_void o)
       at_place None at below = k.void
       at_place (Some b) at below =
-          let live = live_block v (record { file = m; kind = index_allocation; name = names_index }) e Index i b is (index_type m names_index) at (omega arith) in
+          let live = live_block v (record { file = m; kind = index_allocation; name = names_index }) e Index i b is (index_type m names_index) (other_type (record { file = m; kind = index_allocation; name = names_index }) (λ t. omega (arith, t))) at (omega arith) in
           let whole = none_at (λ n. is_torn_at c (block_at v.per e.runs Index n)) 0 (begun 4096 e.initialised) i none (omega arith) (omega (arith, below_begun 4096 e.initialised i (omega arith) below)) in
           same_body (c b) (d b) (k.bytes b live) (k.torn b live) (whole_place (block_at v.per e.runs Index i) whole b at)
 
@@ -297,27 +319,27 @@ module _ (c d : Content) (g : Geometry) (clusters : ℕ) (v : Volume) (s : Stand
 
   -- ---- rule 4
 
-  untorn_place : (kind : BlockKind) (n : ℕ) (o : Option Block) → ((b : Block) → o ≡ Some b → IsLive v b) → is_torn_at c o ≡ false → is_torn_at d o ≡ false
+  untorn_place : (kind : BlockKind) (n : ℕ) (o : Option Block) → ((b : Block) → o ≡ Some b → IsJudged v b) → is_torn_at c o ≡ false → is_torn_at d o ≡ false
   untorn_place kind n None live whole = refl
   untorn_place kind n (Some b) live whole = false_from_ne_true (d b).torn (λ torn. both_ways (c b).torn whole (k.torn b (live b refl) torn))
 
-  untorn_in : (key : StreamKey) (kind : BlockKind) (size : ℕ) (o : Option Stream) → stream_kind key ≡ kind → size ≡ 512 * sectors kind → 0 < size → stream_at v key ≡ o → stream_has_torn c v.per kind size o ≡ false → stream_has_torn d v.per kind size o ≡ false
+  untorn_in : (key : StreamKey) (kind : BlockKind) (size : ℕ) (o : Option Stream) → stream_kind key ≡ kind → kind ≢ Plain → size ≡ 512 * sectors kind → 0 < size → stream_at v key ≡ o → stream_has_torn c v.per kind size o ≡ false → stream_has_torn d v.per kind size o ≡ false
   unfolding has_torn
-  untorn_in key kind size None same whole some is none = refl
-  untorn_in key kind size (Some (Held value)) same whole some is none = refl
-  untorn_in key kind size (Some (Placed e)) same whole some is none =
+  untorn_in key kind size None same sectored whole some is none = refl
+  untorn_in key kind size (Some (Held value)) same sectored whole some is none = refl
+  untorn_in key kind size (Some (Placed e)) same sectored whole some is none =
       all_fail (λ n. is_torn_at d (block_at v.per e.runs kind n)) 0 (begun size e.initialised) (λ n low high.
       let below : size * n < e.initialised = begun_below size e.initialised n some (omega arith) in
       let product : size * n ≡ 512 * (sectors kind * n) = ap (λ (x : ℕ). x * n) whole ∙ times 512 (sectors kind) n in
-      untorn_place kind n (block_at v.per e.runs kind n) (λ b at. live_block v key e kind n b is same at (omega arith))
+      untorn_place kind n (block_at v.per e.runs kind n) (λ b at. live_block v key e kind n b is same (other_kind key kind same sectored) at (omega arith))
       (none_at (λ m. is_torn_at c (block_at v.per e.runs kind m)) 0 (begun size e.initialised) n none low high))
     where
       times : (a b c : ℕ) → a * b * c ≡ a * (b * c)
       times a b c = mul_assoc a b c
 
-  untorn_if : (t : Bool) (key : StreamKey) (kind : BlockKind) (size : ℕ) (o : Option Stream) → (t ≡ true → stream_kind key ≡ kind) → size ≡ 512 * sectors kind → 0 < size → stream_at v key ≡ o → implies t (not (stream_has_torn c v.per kind size o)) ≡ true → implies t (not (stream_has_torn d v.per kind size o)) ≡ true
-  untorn_if false key kind size o same whole some is kept = refl
-  untorn_if true key kind size o same whole some is kept = ap not (untorn_in key kind size o (same refl) whole some is (not_true (stream_has_torn c v.per kind size o) kept))
+  untorn_if : (t : Bool) (key : StreamKey) (kind : BlockKind) (size : ℕ) (o : Option Stream) → (t ≡ true → stream_kind key ≡ kind) → kind ≢ Plain → size ≡ 512 * sectors kind → 0 < size → stream_at v key ≡ o → implies t (not (stream_has_torn c v.per kind size o)) ≡ true → implies t (not (stream_has_torn d v.per kind size o)) ≡ true
+  untorn_if false key kind size o same sectored whole some is kept = refl
+  untorn_if true key kind size o same sectored whole some is kept = ap not (untorn_in key kind size o (same refl) sectored whole some is (not_true (stream_has_torn c v.per kind size o) kept))
     where
       not_true : (t : Bool) → not t ≡ true → t ≡ false
       not_true true e = absurd cc
@@ -330,8 +352,14 @@ module _ (c d : Content) (g : Geometry) (clusters : ℕ) (v : Volume) (s : Stand
       let torn = and_parts _ _ parts.1 in
       and_from _ _ parts.0
       (and_from _ _
-      (untorn_if ((eqb n table_file) || (eqb n mirror_file)) (record { file = n; kind = data_type; name = [] }) FileRec 1024 (stream_of data_type [] r.attrs) (record_data n) refl (omega arith) (ap (file_stream data_type []) is) torn.0)
-      (untorn_if (is_directory_record r) (record { file = n; kind = index_allocation; name = names_index }) Index 4096 (stream_of index_allocation names_index r.attrs) (λ directory. index_type n names_index) refl (omega arith) (ap (file_stream index_allocation names_index) is) torn.1))
+      (untorn_if ((eqb n table_file) || (eqb n mirror_file)) (record { file = n; kind = data_type; name = [] }) FileRec 1024 (stream_of data_type [] r.attrs) (record_data n) no_records refl (omega arith) (ap (file_stream data_type []) is) torn.0)
+      (untorn_if (is_directory_record r) (record { file = n; kind = index_allocation; name = names_index }) Index 4096 (stream_of index_allocation names_index r.attrs) (λ directory. index_type n names_index) no_index refl (omega arith) (ap (file_stream index_allocation names_index) is) torn.1))
+    where
+      no_records : FileRec ≢ Plain
+      no_records is = absurd cc
+
+      no_index : Index ≢ Plain
+      no_index is = absurd cc
 
   at_some : (n : ℕ) (o : Option Record) → file_in v n ≡ o → at_file (keeps_streams d v n) o ≡ true
   at_some n None is = refl
@@ -348,16 +376,16 @@ module _ (c d : Content) (g : Geometry) (clusters : ℕ) (v : Volume) (s : Stand
   -- ---- the other rules
 
   upper_now : upper_of d v ≡ upper_of c v
-  upper_now = same_upper c d v (same_data upcase_file (λ e. omega (arith, e)) (λ e. omega (arith, e)))
+  upper_now = same_upper c d v (same_data upcase_file (λ e. omega (arith, e)) (λ e. omega (arith, e)) (λ e. omega (arith, e)))
 
   clusters_now : cluster_bits d v ≡ cluster_bits c v
-  clusters_now = same_cluster_bits c d v (same_data bitmap_file (λ e. omega (arith, e)) (λ e. omega (arith, e)))
+  clusters_now = same_cluster_bits c d v (same_data bitmap_file (λ e. omega (arith, e)) (λ e. omega (arith, e)) (λ e. omega (arith, e)))
 
   entries_in : SameEntries c d (upper_of c v) v
   unfolding entries_name
   entries_in r is =
       let holder = holder_number v (upper_of c v) r is in
-      same_in (record { file = holder.0; kind = data_type; name = entries_name }) (stream_of data_type entries_name r.attrs) (plain_named holder.0 _ _) (ap (file_stream data_type entries_name) holder.2)
+      same_in (record { file = holder.0; kind = data_type; name = entries_name }) (stream_of data_type entries_name r.attrs) (plain_named holder.0 _ _) (other_name holder.0 data_type _ _) (ap (file_stream data_type entries_name) holder.2)
 
   journal_now : journal_of d (upper_of d v) v ≡ journal_of c (upper_of c v) v
   journal_now = ap (λ (u : List ℕ). journal_of d u v) upper_now ∙ same_journal c d v (upper_of c v) entries_in
@@ -409,7 +437,7 @@ module _ (c d : Content) (g : Geometry) (clusters : ℕ) (v : Volume) (s : Stand
       by : (t : Bool) → shows_data (kind_in v m r) ≡ t → SameBytesInSome c d v.per (cond t (stream_of data_type [] r.attrs) None)
       by true shown =
           let user = shown_user m r shown in
-          subst (λ (o : Option Record). SameBytesInSome c d v.per (file_stream data_type [] o)) is (same_data m (λ e. omega arith) (λ e. omega arith))
+          subst (λ (o : Option Record). SameBytesInSome c d v.per (file_stream data_type [] o)) is (same_data m (λ e. omega arith) (λ e. omega arith) (λ e. omega arith))
       by false shown = tt
 
   nodes_now : nodes_by (bytes_or d v.per) v ≡ nodes_by (bytes_or c v.per) v
@@ -427,10 +455,10 @@ module _ (c d : Content) (g : Geometry) (clusters : ℕ) (v : Volume) (s : Stand
   pub state_now : IsState d g clusters (tree_of c v)
   state_now = record { volume = v; loaded = volume_same; holds = record { kept = kept_now; tree = sym tree_now } }
 
-pub list_owned : (c d : Content) (v : Volume) (n : ℕ) (r : Record) → ((b : Block) → IsLive v b → (d b).bytes ≡ (c b).bytes) → stream_at v (list_key n r) ≡ list_stream r → SameBytesInSome c d v.per (list_stream r)
+pub list_owned : (c d : Content) (v : Volume) (n : ℕ) (r : Record) → ((b : Block) → IsJudged v b → (d b).bytes ≡ (c b).bytes) → stream_at v (list_key n r) ≡ list_stream r → SameBytesInSome c d v.per (list_stream r)
 list_owned c d v n r bytes is = by (list_stream r) is
   where
     by : (o : Option Stream) → stream_at v (list_key n r) ≡ o → SameBytesInSome c d v.per o
     by None at = tt
     by (Some (Held value)) at = tt
-    by (Some (Placed e)) at = λ b read. (let low = read.below in bytes b (live_block v (list_key n r) e Plain read.sector b at (plain_type n attribute_list _ (λ e. omega (arith, e)) (λ e. omega (arith, e))) read.lies (omega arith)))
+    by (Some (Placed e)) at = λ b read. (let low = read.below in bytes b (live_block v (list_key n r) e Plain read.sector b at (plain_type n attribute_list _ (λ e. omega (arith, e)) (λ e. omega (arith, e))) (other_type (list_key n r) (λ t. omega (arith, t))) read.lies (omega arith)))

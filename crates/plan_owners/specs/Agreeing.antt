@@ -1,13 +1,13 @@
 -- What a state's image is judged by: two contents that agree on what a volume owns.
-use Rattle.std.specs.Prelude.{◌≡◌, ℕ, true, find, ◌==◌, Some, Ok}
+use Rattle.std.specs.Prelude.{◌≡◌, ◌≢◌, ℕ, [], true, find, ◌==◌, Some, Ok}
 use Rattle.disk_model.specs.declared.block.Block.{Block}
 use Rattle.disk_model.specs.Content.{Content}
 use Rattle.record_model.specs.declared.attribute.Attr.{Attr}
 use Rattle.record_model.specs.Records.{Record}
-use Rattle.record_model.specs.Constants.{attribute_list}
+use Rattle.record_model.specs.Constants.{attribute_list, data_type}
 use Rattle.state_model.specs.declared.geometry.Geometry.{Geometry}
 use Rattle.state_model.specs.Loads.{list_stream, attr_name}
-use Rattle.volume_model.specs.Volumes.{Volume, volume_of}
+use Rattle.volume_model.specs.Volumes.{Volume, volume_of, log_file}
 use Rattle.volume_model.specs.Indexes.{void_block}
 use Rattle.volume_state.specs.Trees.{IsState, tree_of}
 use Rattle.stream_laws.specs.Frames.{SameBytesInSome}
@@ -16,11 +16,21 @@ use Rattle.stream_laws.specs.Sharing.{StreamKey, stream_at}
 use Rattle.stream_laws.specs.Volumes.{base_record}
 use Rattle.plan_owners.specs.States.{Stands}
 
--- The contents have the same bytes in each block that the volume owns but for those wholly past their stream's initialised size, and
--- no more of them is torn; so they have in each attribute list as its own record has it, and in the block past the end of every disk.
+-- the log: the unnamed data of $LogFile
+abbrev pub log_key : StreamKey
+log_key = record { file = log_file; kind = data_type; name = [] }
+
+-- A block by which a state is judged: it is live, and none of the log.
+pub record IsJudged (v : Volume) (b : Block) : Type 0 where
+  pub live : IsLive v b
+  pub other : live.owned.stream ≢ log_key
+
+-- The contents have the same bytes in each block that the volume owns, but for those of the log and those wholly past their stream's
+-- initialised size, and no more of them is torn; so they have in each attribute list as its own record has it, and in the block past the
+-- end of every disk.
 pub record AgreeOnOwned (c d : Content) (v : Volume) : Type 0 where
-  pub bytes : (b : Block) → IsLive v b → (d b).bytes ≡ (c b).bytes
-  pub torn : (b : Block) → IsLive v b → (d b).torn ≡ true → (c b).torn ≡ true
+  pub bytes : (b : Block) → IsJudged v b → (d b).bytes ≡ (c b).bytes
+  pub torn : (b : Block) → IsJudged v b → (d b).torn ≡ true → (c b).torn ≡ true
   pub lists : (n : ℕ) (r : Record) → base_record c v.per v.table n ≡ Some r → SameBytesInSome c d v.per (list_stream r)
   pub void : d void_block ≡ c void_block
 
@@ -35,4 +45,4 @@ pub record OwnedIsAll : Type 0 where
   pub stands : (c d : Content) (g : Geometry) (clusters : ℕ) (v : Volume) → Stands c g clusters v → AgreeOnOwned c d v → Stands d g clusters v
   pub tree : (c d : Content) (g : Geometry) (clusters : ℕ) (v : Volume) → Stands c g clusters v → AgreeOnOwned c d v → tree_of d v ≡ tree_of c v
   pub state : (c d : Content) (g : Geometry) (clusters : ℕ) (v : Volume) → Stands c g clusters v → AgreeOnOwned c d v → IsState d g clusters (tree_of c v)
-  pub list : (c d : Content) (v : Volume) (n : ℕ) (r : Record) → ((b : Block) → IsLive v b → (d b).bytes ≡ (c b).bytes) → stream_at v (list_key n r) ≡ list_stream r → SameBytesInSome c d v.per (list_stream r)
+  pub list : (c d : Content) (v : Volume) (n : ℕ) (r : Record) → ((b : Block) → IsJudged v b → (d b).bytes ≡ (c b).bytes) → stream_at v (list_key n r) ≡ list_stream r → SameBytesInSome c d v.per (list_stream r)

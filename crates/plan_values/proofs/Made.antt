@@ -130,7 +130,7 @@ value_rule : (per clusters : ℕ) (form : OwnForm) (runs : List Run) → IsValue
 value_rule per clusters (Resident value indexed) runs is = refl
 value_rule per clusters (Mapped sizes pairs) runs is = absurd is
 
-value_runs : (form : OwnForm) → IsValue form → form_runs form ≡ []
+pub value_runs : (form : OwnForm) → IsValue form → form_runs form ≡ []
 value_runs (Resident value indexed) is = refl
 value_runs (Mapped sizes pairs) is = absurd is
 

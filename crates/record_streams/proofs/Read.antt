@@ -14,13 +14,13 @@ use Rattle.record_writer.specs.Normal.{normal}
 use Rattle.record_writer.proofs.NormalRoom.{head_fits, lawful_stays, read_fits}
 use Rattle.record_streams.specs.Fitting.{IsShort, FitsButRoom}
 
-abbrev HasKind : Attr → Type 0
+abbrev pub HasKind : Attr → Type 0
 HasKind a = a.head.kind < end_mark
 
-abbrev IsLawful : Attr → Type 0
+abbrev pub IsLawful : Attr → Type 0
 IsLawful a = IsTrue (has_lawful_value a)
 
-shorts : (attrs : List Attr) → AllByRecursion FitsAttr (map normal attrs) → All HasKind attrs → All IsLawful attrs → spelled_bytes (map normal attrs) ≤ 2 ^ 21 → All IsShort attrs
+pub shorts : (attrs : List Attr) → AllByRecursion FitsAttr (map normal attrs) → All HasKind attrs → All IsLawful attrs → spelled_bytes (map normal attrs) ≤ 2 ^ 21 → All IsShort attrs
 shorts [] fits kinds lawful bytes = All-nil IsShort
 shorts (a ∷ attrs) fits kinds lawful bytes =
     All-cons IsShort a attrs

@@ -1,5 +1,5 @@
 //! File records in which a stream is in other clusters.
-ghost use Rattle.std.specs.Prelude.{◌≡◌, ◌≤◌, ◌^◌, [], ◌∷◌, ◌++◌, IfOk, OnOk, length};
+ghost use Rattle.std.specs.Prelude.{◌≡◌, ◌≤◌, ◌^◌, [], ◌∷◌, ◌++◌, IfOk, length};
 ghost use Rattle.record_model.specs.Pairs.{HasSpelling};
 ghost use Rattle.stream_map.specs.Attributes.{behind};
 ghost use Rattle.record_streams.specs.Placing.{with_stream, placed_first, placed_record};
@@ -8,46 +8,11 @@ ghost use Rattle.record_streams.specs.Fitting.{FitsButRoom, IsPlaceable, HasFiel
 use crate::attribute::placed_attr;
 use file_record::FileRec;
 use host_base::Memory;
-use record_model::{Attr, OwnForm};
+use record_model::Attr;
+use record_writer::push_copy;
 use state_model::{ClusterSize, Extents};
 use std::alloc::{AllocError, Global};
 use stream_map::{attributes_of, is_attribute_of};
-
-// A copy of the form.
-fn copy_form(form: &OwnForm) -> Result<OwnForm, AllocError>
-    ensures { IfOk result (λ f. f ≡ form.now) }
-{
-    match form {
-        OwnForm::Resident { value, indexed } => Ok(OwnForm::Resident {
-            value: value.clone()?,
-            indexed: *indexed,
-        }),
-        OwnForm::Mapped { sizes, pairs } => Ok(OwnForm::Mapped {
-            sizes: *sizes,
-            pairs: pairs.clone()?,
-        }),
-    }
-}
-
-// A copy of the attribute.
-fn copy_attr(attr: &Attr) -> Result<Attr, AllocError>
-    ensures { IfOk result (λ a. a ≡ attr.now) }
-{
-    Ok(Attr {
-        head: attr.head,
-        name: attr.name.clone()?,
-        form: copy_form(&attr.form)?,
-    })
-}
-
-// A copy of an attribute at the record's end.
-fn push_copy(attr: &Attr, to: &mut FileRec) -> Result<(), AllocError>
-    ensures { OnOk result (to.new ≡ record { head = to.old.head; attrs = to.old.attrs ++ attr.now ∷ [] }) }
-{
-    let copy = copy_attr(attr)?;
-    to.push(copy)?;
-    Ok(())
-}
 
 /// The record with this attribute in the place of the one that stands first of the stream of this
 /// type and name (in UTF-16 units), whose others go (Linux-NTFS documentation, "Attribute Header"); a
@@ -67,9 +32,9 @@ pub fn with_stream(
     let attrs = file.attrs().as_slice();
     for attr in attrs {
         if !is_attribute_of(kind, name, attr) {
-            push_copy(attr, &mut out)?;
+            push_copy(alloc, attr, &mut out)?;
         } else if !is_put {
-            push_copy(new, &mut out)?;
+            push_copy(alloc, new, &mut out)?;
             is_put = true;
         }
     }
@@ -83,7 +48,7 @@ pub fn copied(alloc: Global, file: &FileRec) -> Result<FileRec, AllocError>
     let mut out = FileRec::empty(alloc, file.head());
     let attrs = file.attrs().as_slice();
     for attr in attrs {
-        push_copy(attr, &mut out)?;
+        push_copy(alloc, attr, &mut out)?;
     }
     Ok(out)
 }

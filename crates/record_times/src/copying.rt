@@ -1,4 +1,4 @@
-//! Copies of attributes, with other times or with none.
+//! Copies of attributes with other times.
 ghost use Rattle.std.specs.Prelude.{◌≡◌, ◌+◌, ◌≤◌, ◌++◌, ◌∷◌, [], IfOk, OnOk, length};
 ghost use Rattle.disk_model.specs.Numbers.{spell};
 ghost use Rattle.disk_model.specs.Bytes.{written};
@@ -51,22 +51,6 @@ fn timed_form(form: &OwnForm, stamp: u64) -> Result<OwnForm, AllocError>
     }
 }
 
-// A copy of the form.
-fn copy_form(form: &OwnForm) -> Result<OwnForm, AllocError>
-    ensures { IfOk result (λ f. f ≡ form.now) }
-{
-    match form {
-        OwnForm::Resident { value, indexed } => Ok(OwnForm::Resident {
-            value: value.clone()?,
-            indexed: *indexed,
-        }),
-        OwnForm::Mapped { sizes, pairs } => Ok(OwnForm::Mapped {
-            sizes: *sizes,
-            pairs: pairs.clone()?,
-        }),
-    }
-}
-
 /// The attribute with these times at the record's end.
 pub fn push_timed(attr: &Attr, stamp: u64, to: &mut FileRec) -> Result<(), AllocError>
     ensures { OnOk result (to.new ≡ record { head = to.old.head; attrs = to.old.attrs ++ timed_attr stamp attr.now ∷ [] }) }
@@ -76,25 +60,4 @@ pub fn push_timed(attr: &Attr, stamp: u64, to: &mut FileRec) -> Result<(), Alloc
         name: attr.name.clone()?,
         form: timed_form(&attr.form, stamp)?,
     })
-}
-
-/// A copy of the attribute at the record's end.
-pub fn push_copy(attr: &Attr, to: &mut FileRec) -> Result<(), AllocError>
-    ensures { OnOk result (to.new ≡ record { head = to.old.head; attrs = to.old.attrs ++ attr.now ∷ [] }) }
-{
-    to.push(Attr {
-        head: attr.head,
-        name: attr.name.clone()?,
-        form: copy_form(&attr.form)?,
-    })
-}
-
-/// Copies of the attributes at the record's end, in their order.
-pub fn push_copies(attrs: &[Attr], to: &mut FileRec) -> Result<(), AllocError>
-    ensures { OnOk result (to.new ≡ record { head = to.old.head; attrs = to.old.attrs ++ attrs.now }) }
-{
-    for attr in attrs {
-        push_copy(attr, to)?;
-    }
-    Ok(())
 }

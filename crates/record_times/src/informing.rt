@@ -3,10 +3,10 @@ ghost use Rattle.std.specs.Prelude.{◌≡◌, ◌≤◌, ◌^◌, insert, IfOk,
 ghost use Rattle.disk_model.specs.Bytes.{zeros};
 ghost use Rattle.record_times.specs.Times.{place_of_type, has_id, first_free, or_zero, free_id, new_id, with_next_id, new_value, new_info};
 
-use crate::copying::push_copies;
 use file_record::FileRec;
 use host_base::Bytes;
 use record_model::{Attr, Head, OwnForm, RecHead, STANDARD_INFORMATION, StdInfo};
+use record_writer::push_copies;
 use std::alloc::{AllocError, Global};
 use std_values::FixedValue;
 use utf16_name::Units;
@@ -135,8 +135,8 @@ pub fn with_info(alloc: Global, stamp: u64, file: &FileRec) -> Result<FileRec, A
     let (front, back) = attrs.split_at(place_of_type(STANDARD_INFORMATION, attrs));
     let new = new_info(alloc, new_id(file), stamp)?;
     let mut out = FileRec::empty(alloc, with_next_id(file.head()));
-    push_copies(front, &mut out)?;
+    push_copies(alloc, front, &mut out)?;
     out.push(new)?;
-    push_copies(back, &mut out)?;
+    push_copies(alloc, back, &mut out)?;
     Ok(out)
 }

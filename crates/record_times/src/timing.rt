@@ -5,10 +5,11 @@ ghost use Rattle.state_model.specs.Files.{has_type};
 ghost use Rattle.record_streams.specs.Fitting.{FitsButRoom};
 ghost use Rattle.record_times.specs.Times.{timed_attrs, timed_record};
 
-use crate::copying::{push_copy, push_timed};
+use crate::copying::push_timed;
 use crate::informing::with_info;
 use file_record::FileRec;
 use record_model::{Attr, STANDARD_INFORMATION};
+use record_writer::push_copy;
 use std::alloc::{AllocError, Global};
 
 fn is_info(attr: &Attr) -> bool
@@ -34,7 +35,7 @@ fn with_times(alloc: Global, stamp: u64, file: &FileRec) -> Result<FileRec, Allo
     let attrs = file.attrs().as_slice();
     for attr in attrs {
         if is_put || !is_info(attr) {
-            push_copy(attr, &mut out)?;
+            push_copy(alloc, attr, &mut out)?;
         } else {
             push_timed(attr, stamp, &mut out)?;
             is_put = true;

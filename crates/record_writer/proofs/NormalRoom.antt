@@ -145,7 +145,7 @@ head_fits body each = record {
   number = field-lt 0x2C 4 body each;
 }
 
-rise_stays : (attrs : List Attr) → TypesRise attrs → TypesRise (map normal attrs)
+pub rise_stays : (attrs : List Attr) → TypesRise attrs → TypesRise (map normal attrs)
 rise_stays [] rise = tt
 rise_stays (a ∷ []) rise = tt
 rise_stays (a ∷ b ∷ attrs) rise = (rise.0, rise_stays (b ∷ attrs) rise.1)

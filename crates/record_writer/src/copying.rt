@@ -1,3 +1,4 @@
+//! Copies of attributes.
 ghost use Rattle.std.specs.Prelude.{◌≡◌, ◌++◌, [], ◌∷◌, IfOk, OnOk};
 
 use file_record::FileRec;
@@ -33,7 +34,8 @@ fn copy_attr(alloc: Global, attr: &Attr) -> Result<Attr, AllocError>
     })
 }
 
-// A copy of the attribute at the record's end.
+/// Puts a copy of the attribute at the record's end. The error is want of memory. It takes time and
+/// memory linear in the attribute.
 pub fn push_copy(alloc: Global, attr: &Attr, to: &mut FileRec) -> Result<(), AllocError>
     ensures value { OnOk result (to.new ≡ record { head = to.old.head; attrs = to.old.attrs ++ attr.now ∷ [] }) }
 {
@@ -42,7 +44,8 @@ pub fn push_copy(alloc: Global, attr: &Attr, to: &mut FileRec) -> Result<(), All
     Ok(())
 }
 
-// Copies of the attributes, in their order, at the record's end.
+/// Puts copies of the attributes at the record's end, in their order. The error is want of memory,
+/// with the first of them put, or none. It takes time and memory linear in the attributes.
 pub fn push_copies(alloc: Global, attrs: &[Attr], to: &mut FileRec) -> Result<(), AllocError>
     ensures value { OnOk result (to.new ≡ record { head = to.old.head; attrs = to.old.attrs ++ attrs.now }) }
 {

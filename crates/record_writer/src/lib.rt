@@ -18,6 +18,7 @@ mod spelled;
 mod written;
 
 pub use attrs::write_attr;
+pub use copying::{push_copies, push_copy};
 pub use fault::RoomFault;
 pub use file_record::FileRec;
 pub use laws::{

@@ -29,7 +29,7 @@ fn unplaced(alloc: Global, size: u64) -> Extents
     }
 }
 
-/// Takes the clusters that a value of `size` bytes needs, at most 65,536, as [`grow`] does for a
+/// Takes the clusters that a value of `size` bytes needs, at most 131,072, as [`grow`] does for a
 /// stream that has none, and makes the record in which the stream of this type and name (in UTF-16
 /// units) stands in them, with the value's size as real and as initialised one (Linux-NTFS
 /// documentation, "Attribute Header"). The bytes are for the caller to put there. The volume has
@@ -49,7 +49,7 @@ pub fn to_clusters<B: FreeBits>(
     file: &FileRec,
 ) -> Result<Resized, SpaceFault>
     requires clusters { length (B.bits bits.old) ≤ cluster_limit }
-    requires size { size ≤ 2 ^ 16 }
+    requires size { size ≤ 2 ^ 17 }
     requires kind { IsPlaceable kind }
     requires fits { FitsButRoom file.now }
     ensures value { IfOk result (λ z. IsGrown per kind name.now (unplaced size) file.now (chosen (B.bits bits.old) None (clusters_for per size)) z) }

@@ -19,8 +19,8 @@ use host_base::Memory;
 use std::alloc::{AllocError, Global};
 use utf16_name::Units;
 
-// The clusters of a file whose bytes are outside its record afterwards.
-fn clusters_after(op: &Op, node: &Node) -> u64
+/// The clusters of a file whose bytes are outside its record after an operation.
+pub fn clusters_after(op: &Op, node: &Node) -> u64
     requires bounds { IsWithinBounds op.now }
     ensures { result ≡ clusters_after false op.now node.now }
 {

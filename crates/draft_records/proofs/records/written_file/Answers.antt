@@ -4,7 +4,7 @@ use Rattle.record_model.specs.Records.{Record, used_of}
 use Rattle.record_writer.specs.Normal.{normal}
 use Rattle.draft_records.specs.Records.{name_count}
 use Rattle.draft_records.proofs.Written.{few_names}
-use Rattle.draft_records.proofs.records.written_body.Goals as goal
+use Rattle.draft_records.proofs.records.written_file.Goals as goal
 
 pub overflow_cast-links : goal.overflow_cast-links
 overflow_cast-links c =
