@@ -17,7 +17,8 @@ use Rattle.record_values.specs.Values.{valued_record}
 use Rattle.record_times.specs.Times.{timed_record}
 use Rattle.resized_streams.specs.declared.resized.Resized.{Resized}
 use Rattle.resized_streams.specs.Resizing.{IsSized}
-use Rattle.draft_resized.specs.Resized.{PutsResized, PutsMoved}
+use Rattle.draft_resized.specs.Resized.{PutsResized}
+use Rattle.draft_resized.specs.Moved.{PutsMoved}
 use Rattle.data_plan.specs.declared.change.DataChange.{DataChange}
 use Rattle.data_plan.specs.declared.change.DataChange.TheVariants as change
 use Rattle.data_plan.specs.Changes.{data_in}
@@ -90,13 +91,13 @@ pub record PutsSizes (c : Content) (s : VolumeStreams) (n : ℕ) (op : Op) (a : 
   pub bytes : far ≡ touch_bytes c 8 z.extents.runs (first_fresh e) (place_of op a) (put_of op a) mid
   pub times : PutsTimes c s n stamp (written_record z.file) far new
 
--- The value leaves its record for clusters, and gets its sizes and bytes there.
+-- The value leaves its record for clusters, where the bytes after the operation are put in its place, and the times behind them.
 pub record PutsLeaving (c : Content) (s : VolumeStreams) (n : ℕ) (op : Op) (a : Node) (stamp : ℕ) (r : Record) (z : Resized) (old new : List Touched) : Type 0 where
   pub value : List ℕ
   pub held : data_in r ≡ Some (Held value)
   pub mid : List Touched
-  pub moved : PutsFileValue c s n z value old mid
-  pub sizes : PutsSizes c s n op a stamp z.extents (written_record z.file) mid new
+  pub moved : PutsFileValue c s n z (bytes_after op (with_bytes value a)) old mid
+  pub times : PutsTimes c s n stamp (written_record z.file) mid new
 
 -- The data takes its clusters, and gets its sizes and bytes then.
 pub record PutsGrowing (c : Content) (s : VolumeStreams) (n : ℕ) (op : Op) (a : Node) (stamp : ℕ) (z : Resized) (old new : List Touched) : Type 0 where
