@@ -133,6 +133,7 @@ fn spelled(alloc: Global, file: &FileRec) -> Result<Bytes, AllocError>
 /// - [`RoomFault::Memory`]: want of memory.
 ///
 /// It takes time and memory linear in the record.
+#[tactic(auto, using(crate::proofs::Spelled::spelled_but_room))]
 pub fn written_file(alloc: Global, file: &FileRec) -> Result<FileRec, RoomFault>
     requires { FitsByRoom file.now }
     ensures value { Gives (λ r. r) room_cause result (written_in_room file.now) }
