@@ -46,7 +46,7 @@ pub record WritesFile (c : Content) (g : Geometry) (clusters : ℕ) (v : Volume)
   pub streams : AreStreamsOf v s
   pub file : IsChangeable c v n r a
   pub changes : changes_file op a ≡ true
-  pub stamp : stamp < 2 ^ 64
+  pub soon : stamp < 2 ^ 64
   pub has : HasData clusters r
   pub is : IsChange (growth_of (cluster_bits c v) r op a) r op a change
   pub put : PutsChange c s n op a stamp r change [] new
