@@ -1,0 +1,9 @@
+pub mod Owning
+pub mod Growths
+pub mod Becoming
+pub mod Joining
+pub mod Sparing
+pub mod Valuing
+pub mod Timing
+pub mod Shortening
+pub mod Cutting

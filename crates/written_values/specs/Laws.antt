@@ -1,0 +1,30 @@
+-- A write of a value in its record, a cut, and a shorter size in the same clusters are done.
+use Rattle.std.specs.Prelude.{◌≡◌, ℕ, true, List}
+use Rattle.disk_model.specs.Content.{Content}
+use Rattle.record_model.specs.Records.{Record}
+use Rattle.file_tree.specs.declared.node.Node.{Node}
+use Rattle.state_model.specs.declared.geometry.Geometry.{Geometry}
+use Rattle.volume_model.specs.Volumes.{Volume, cluster_bits}
+use Rattle.tree_model.specs.declared.script.Op.{Op}
+use Rattle.tree_model.specs.Needs.{shrinks}
+use Rattle.plan_draft.specs.declared.touched.Touched.{Touched}
+use Rattle.resized_streams.specs.declared.resized.Resized.{Resized}
+use Rattle.data_plan.specs.declared.change.DataChange.TheVariants as change
+use Rattle.data_plan.specs.Changes.{growth_of}
+use Rattle.file_puts.specs.declared.streams.VolumeStreams.{VolumeStreams}
+use Rattle.file_puts.specs.Written.{WritesFile, HasWritten}
+
+-- Where data stays in its record, and its value is put anew with the times, the operation is done.
+abbrev pub ValuesAreDone : Type 0
+ValuesAreDone = (c : Content) (g : Geometry) (clusters : ℕ) (v : Volume) (s : VolumeStreams) (op : Op) (n stamp : ℕ) (a : Node) (r : Record) (size : ℕ) (new : List Touched) → WritesFile c g clusters v s op n stamp a r (change.Stays size) new
+    → HasWritten c g clusters v op n stamp a (growth_of (cluster_bits c v) r op a) new
+
+-- So it is where data gets a lesser size in the clusters that it has.
+abbrev pub ShorterAreDone : Type 0
+ShorterAreDone = (c : Content) (g : Geometry) (clusters : ℕ) (v : Volume) (s : VolumeStreams) (op : Op) (n stamp : ℕ) (a : Node) (r : Record) (z : Resized) (new : List Touched) → shrinks op a ≡ true → WritesFile c g clusters v s op n stamp a r (change.Sized z) new
+    → HasWritten c g clusters v op n stamp a (growth_of (cluster_bits c v) r op a) new
+
+-- And where data is cut, and gives clusters back.
+abbrev pub CutsAreDone : Type 0
+CutsAreDone = (c : Content) (g : Geometry) (clusters : ℕ) (v : Volume) (s : VolumeStreams) (op : Op) (n stamp : ℕ) (a : Node) (r : Record) (z : Resized) (new : List Touched) → WritesFile c g clusters v s op n stamp a r (change.Cut z) new
+    → HasWritten c g clusters v op n stamp a (growth_of (cluster_bits c v) r op a) new
