@@ -11,15 +11,16 @@ pub fn values_are_done()
     times_are_set();
 }
 
-/// Law: so it is where a draft has put a lesser size of data that keeps its clusters, and the times.
+/// Law: so it is where a draft has put a lesser size of data that keeps its clusters, and the
+/// times.
 pub fn shorter_are_done()
     ensures { ShorterAreDone }
 {
     times_are_set();
 }
 
-/// Law: so it is where a draft has put data that is cut and gives clusters back, their bits, and the
-/// times.
+/// Law: so it is where a draft has put data that is cut and gives clusters back, their bits, and
+/// the times.
 pub fn cuts_are_done()
     ensures { CutsAreDone }
 {
