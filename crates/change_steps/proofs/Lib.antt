@@ -1,0 +1,5 @@
+pub mod Rows
+pub mod Finding
+pub mod Planning
+pub mod Changing
+pub mod Making

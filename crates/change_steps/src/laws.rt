@@ -1,0 +1,21 @@
+ghost use Rattle.change_steps.specs.Changes.{ChangesAreSteps};
+ghost use Rattle.change_steps.specs.Found.{FoundIsThere};
+ghost use Rattle.change_steps.specs.Makings.{MakingsAreSteps};
+
+/// Law: the file that an operation is found to write or cut is one that can be changed, and the
+/// directory that a new file comes into is the one that its path names.
+pub fn found_is_there()
+    ensures { FoundIsThere }
+{}
+
+/// Law: where a row refuses an operation that is found, where it changes nothing, and where a file
+/// has been written or cut, the content has taken its step.
+pub fn changes_are_steps()
+    ensures { ChangesAreSteps }
+{}
+
+/// Law: where a file can't be made for its records, or has been made, the content has taken its
+/// step.
+pub fn makings_are_steps()
+    ensures { MakingsAreSteps }
+{}
