@@ -6,7 +6,7 @@ use Rattle.file_tree.specs.declared.node.Node.{Node}
 use Rattle.file_tree.specs.declared.tree.Tree.{Tree}
 use Rattle.file_tree.specs.Trees.{node_at as node_by_number}
 use Rattle.state_model.specs.declared.geometry.Geometry.{Geometry}
-use Rattle.volume_model.specs.Volumes.{Volume, file_in, upper_of}
+use Rattle.volume_model.specs.Volumes.{Volume, file_in, cluster_bits, upper_of}
 use Rattle.volume_state.specs.Trees.{tree_of}
 use Rattle.tree_laws.specs.Parts.{journal_number}
 use Rattle.plan_owners.specs.States.{Stands}
@@ -23,11 +23,15 @@ use Rattle.tree_model.specs.Steps.{HasStep, step_refusal, LeavesFile, IsChanged,
 use Rattle.change_lookup.specs.declared.found.Found.TheVariants as found
 use Rattle.change_lookup.specs.Comes.{is_file_change}
 use Rattle.step_model.specs.Plans.{Plan, no_plan, change_or_none, IsChangePlan, IsPlan, with_journal, content_rows}
+use Rattle.step_model.specs.Contents.{IsLeft}
 use Rattle.step_model.specs.Steps.{Answer, GivenUp, Refused, answer_of, IsRefused, IsDoneIn, LeavesContent, HasChangedContent, StepBy, HasAnswer, Step}
 use Rattle.step_model.proofs.Stepping.{answers_listed}
-use Rattle.change_steps.specs.Files.{IsChangeable}
+use Rattle.plan_changes.specs.Files.{IsChangeable}
 use Rattle.change_steps.specs.Found.{HasChange, Finds}
-use Rattle.change_steps.specs.Changes.{change_reply, record_row, IsWritten, ChangesAreSteps}
+use Rattle.data_plan.specs.Changes.{row_of, growth_of}
+use Rattle.plan_draft.specs.Drafts.{drafted}
+use Rattle.plan_changes.proofs.Showing.{node_shows}
+use Rattle.change_steps.specs.Changes.{change_reply, IsWritten, DraftsAreWritten, ChangesAreSteps}
 use Rattle.change_steps.proofs.Rows.{refused_by, file_by, no_file, no_place, rows_of_change, change_rows_behind, change_rows_stay}
 use Rattle.change_steps.proofs.Finding.{Reached, reached_by, node_there, no_place_is_file}
 use Rattle.change_steps.proofs.Planning.{without_journal, plan_of_file, plan_is, one_row, ok_and, at_node, left_with_journal}
@@ -150,12 +154,12 @@ own_is c v path o r a k =
     (plan_is c v r o a k.file ∙ ap (λ (b : Bool). change_or_none b c v o a) (sym k.changes))
 
 rows_are : (c : Content) (v : Volume) (path : List (List ℕ)) (o : Op) (r : Record) (a : Node) → Same c v path o r a → rows_of_change (upper_of c v) (tree_of c v) [] path o ≡ None
-    → rows_of_change (upper_of c v) (tree_of c v) (content_rows (plan_of_file c v r o a)) path o ≡ record_row c v r o a
+    → rows_of_change (upper_of c v) (tree_of c v) (content_rows (plan_of_file c v r o a)) path o ≡ row_of (cluster_bits c v) r o a
 rows_are c v path o r a k none =
-    change_rows_behind (upper_of c v) (tree_of c v) (content_rows (plan_of_file c v r o a)) path o a k.walked k.changes none ∙ one_row (record_row c v r o a)
+    change_rows_behind (upper_of c v) (tree_of c v) (content_rows (plan_of_file c v r o a)) path o a k.walked k.changes none ∙ one_row (row_of (cluster_bits c v) r o a)
 
 written_parts : (c : Content) (g : Geometry) (clusters : ℕ) (v : Volume) (path : List (List ℕ)) (o : Op) (stamp : ℕ) (said : Reply) (r : Record) (a : Node) (d : Content) → (tree_of c v).journal ≡ None → Same c v path o r a
-    → rows_of_change (upper_of c v) (tree_of c v) [] path o ≡ None → record_row c v r o a ≡ None → IsWritten c g clusters v o stamp r a d → Parts c v g clusters path o stamp said d
+    → rows_of_change (upper_of c v) (tree_of c v) [] path o ≡ None → row_of (cluster_bits c v) r o a ≡ None → IsWritten c g clusters v o stamp r a d → Parts c v g clusters path o stamp said d
 written_parts c g clusters v path o stamp said r a d journal k none room w =
     let t = tree_of c v in
     let t' = tree_of d w.after in
@@ -242,7 +246,7 @@ stays c g clusters v o stamp node has finds =
     done_by c c g clusters v o stamp f.path has f.is_on (stays_parts c g clusters v f.path o stamp (change_reply o) node has.stands has.journal f.at)
 
 written : (c : Content) (g : Geometry) (clusters : ℕ) (v : Volume) (o : Op) (stamp : ℕ) (node a : Node) (r : Record) (d : Content) → HasChange c g clusters v o → Finds c v o (found.File node true) → IsChangeable c v node.number r a
-    → record_row c v r o a ≡ None → IsWritten c g clusters v o stamp r a d → Step g clusters o stamp (change_reply o) c d
+    → row_of (cluster_bits c v) r o a ≡ None → IsWritten c g clusters v o stamp r a d → Step g clusters o stamp (change_reply o) c d
 written c g clusters v o stamp node a r d has finds k room w =
     let f = on_file c v o node true has.changes finds in
     done_by c d g clusters v o stamp f.path has f.is_on (written_parts c g clusters v f.path o stamp (change_reply o) r a d has.journal (same_file c v f.path o node a r f.at k) f.at.none room w)
@@ -255,7 +259,7 @@ content_refused c g clusters v o stamp said p has plan none row =
     refused_step c g clusters v o stamp said has (answers_listed.content c v o 0 p said (has_step o (tree_of c v) has.changes has.journal) plan none row) (inr (none, (p, plan, row)))
 
 full_by : (c : Content) (g : Geometry) (clusters : ℕ) (v : Volume) (o : Op) (stamp : ℕ) (said : Reply) (r : Record) (a : Node) (path : List (List ℕ)) → HasChange c g clusters v o → IsOn path o → Same c v path o r a
-    → rows_of_change (upper_of c v) (tree_of c v) [] path o ≡ None → record_row c v r o a ≡ Some said → Step g clusters o stamp said c c
+    → rows_of_change (upper_of c v) (tree_of c v) [] path o ≡ None → row_of (cluster_bits c v) r o a ≡ Some said → Step g clusters o stamp said c c
 full_by c g clusters v (op.Write at offset bytes) stamp said r a path has is same none row =
     let o = op.Write at offset bytes in
     let k = subst (λ (x : List (List ℕ)). Same c v x o r a) (sym is) same in
@@ -277,10 +281,22 @@ full_by c g clusters v (op.Truncate at size) stamp said r a path has is same non
 full_by c g clusters v other stamp said r a path has is same none row = absurd is
 
 full : (c : Content) (g : Geometry) (clusters : ℕ) (v : Volume) (o : Op) (stamp : ℕ) (node a : Node) (r : Record) (said : Reply) → HasChange c g clusters v o → Finds c v o (found.File node true) → IsChangeable c v node.number r a
-    → record_row c v r o a ≡ Some said → Step g clusters o stamp said c c
+    → row_of (cluster_bits c v) r o a ≡ Some said → Step g clusters o stamp said c c
 full c g clusters v o stamp node a r said has finds k row =
     let f = on_file c v o node true has.changes finds in
     full_by c g clusters v o stamp said r a f.path has f.is_on (same_file c v f.path o node a r f.at k) f.at.none row
+
+-- ---- a draft
+
+pub drafts_are_written : DraftsAreWritten
+drafts_are_written c g clusters v o n stamp r a new k w =
+    let number : a.number ≡ n = (node_shows c v n r a k).number in
+    record {
+      after = w.after;
+      stands = subst (λ (d : Content). Stands d g clusters w.after) w.content w.draft.stands;
+      tree = w.tree;
+      left = subst (λ (m : ℕ). IsLeft c v clusters (m ∷ []) (growth_of (cluster_bits c v) r o a ∷ []) (drafted new c) w.after) (sym number) w.left;
+    }
 
 pub changes_are_steps : ChangesAreSteps
 changes_are_steps = record { refused = refused; given_up = given_up; stays = stays; full = full; written = written }

@@ -18,7 +18,7 @@ use Rattle.change_lookup.specs.declared.found.Found.{Found}
 use Rattle.change_lookup.specs.declared.found.Found.TheVariants.{File, Place}
 use Rattle.change_lookup.specs.Comes.{is_file_change, ComesTo}
 use Rattle.plan_owners.specs.States.{Stands}
-use Rattle.change_steps.specs.Files.{IsChangeable}
+use Rattle.plan_changes.specs.Files.{IsChangeable}
 
 -- A content without a change journal, of eight sectors a cluster, and an operation that makes, writes or cuts a file.
 pub record HasChange (c : Content) (g : Geometry) (clusters : ℕ) (v : Volume) (op : Op) : Type 0 where

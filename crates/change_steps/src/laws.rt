@@ -1,4 +1,4 @@
-ghost use Rattle.change_steps.specs.Changes.{ChangesAreSteps};
+ghost use Rattle.change_steps.specs.Changes.{ChangesAreSteps, DraftsAreWritten};
 ghost use Rattle.change_steps.specs.Found.{FoundIsThere};
 ghost use Rattle.change_steps.specs.Makings.{MakingsAreSteps};
 
@@ -12,6 +12,11 @@ pub fn found_is_there()
 /// has been written or cut, the content has taken its step.
 pub fn changes_are_steps()
     ensures { ChangesAreSteps }
+{}
+
+/// Law: where a draft has put what an operation writes or cuts, its content has it.
+pub fn drafts_are_written()
+    ensures { DraftsAreWritten }
 {}
 
 /// Law: where a file can't be made for its records, or has been made, the content has taken its

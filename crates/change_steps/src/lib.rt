@@ -6,4 +6,4 @@
 
 mod laws;
 
-pub use laws::{changes_are_steps, found_is_there, makings_are_steps};
+pub use laws::{changes_are_steps, drafts_are_written, found_is_there, makings_are_steps};
