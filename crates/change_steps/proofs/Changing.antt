@@ -180,7 +180,7 @@ written_parts c g clusters v path o stamp said r a d journal k none room w =
 -- ---- by operations
 
 -- an operation that writes or cuts the file at a path
-abbrev IsOn : List (List ℕ) → Op → Type 0
+abbrev pub IsOn : List (List ℕ) → Op → Type 0
 IsOn path (op.Write at offset bytes) = at ≡ path
 IsOn path (op.Fill at offset count byte) = at ≡ path
 IsOn path (op.Truncate at size) = at ≡ path
@@ -228,12 +228,12 @@ done_by c d g clusters v (op.Truncate at size) stamp path has is parts =
     })
 done_by c d g clusters v other stamp path has is parts = absurd is
 
-record OnFile (c : Content) (v : Volume) (o : Op) (node : Node) (changes : Bool) : Type 0 where
-  path : List (List ℕ)
-  is_on : IsOn path o
-  at : Reached (upper_of c v) (tree_of c v) path o node changes
+pub record OnFile (c : Content) (v : Volume) (o : Op) (node : Node) (changes : Bool) : Type 0 where
+  pub path : List (List ℕ)
+  pub is_on : IsOn path o
+  pub at : Reached (upper_of c v) (tree_of c v) path o node changes
 
-on_file : (c : Content) (v : Volume) (o : Op) (node : Node) (changes : Bool) → is_file_change o ≡ true → Finds c v o (found.File node changes) → OnFile c v o node changes
+pub on_file : (c : Content) (v : Volume) (o : Op) (node : Node) (changes : Bool) → is_file_change o ≡ true → Finds c v o (found.File node changes) → OnFile c v o node changes
 on_file c v (op.Create path) node changes is finds = absurd (none_found c v path node changes finds)
 on_file c v (op.Write path offset bytes) node changes is finds = record { path = path; is_on = refl; at = reached_by (upper_of c v) (tree_of c v) path (op.Write path offset bytes) node changes (file_by _ _ node changes finds) }
 on_file c v (op.Fill path offset count byte) node changes is finds = record { path = path; is_on = refl; at = reached_by (upper_of c v) (tree_of c v) path (op.Fill path offset count byte) node changes (file_by _ _ node changes finds) }

@@ -3,3 +3,4 @@ pub mod Finding
 pub mod Planning
 pub mod Changing
 pub mod Making
+pub mod Readying

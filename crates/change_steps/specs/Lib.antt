@@ -1,3 +1,4 @@
 pub mod Found
 pub mod Changes
 pub mod Makings
+pub mod Ready

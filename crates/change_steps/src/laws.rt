@@ -1,6 +1,7 @@
 ghost use Rattle.change_steps.specs.Changes.{ChangesAreSteps, DraftsAreWritten};
 ghost use Rattle.change_steps.specs.Found.{FoundIsThere};
 ghost use Rattle.change_steps.specs.Makings.{MakingsAreSteps};
+ghost use Rattle.change_steps.specs.Ready.{BareIsEnough, FilesAreReady};
 
 /// Law: the file that an operation is found to write or cut is one that can be changed, and the
 /// directory that a new file comes into is the one that its path names.
@@ -23,4 +24,14 @@ pub fn drafts_are_written()
 /// step.
 pub fn makings_are_steps()
     ensures { MakingsAreSteps }
+{}
+
+/// Law: what is said of a file's data, and put of it, doesn't hang on the bytes of its node.
+pub fn bare_is_enough()
+    ensures { BareIsEnough }
+{}
+
+/// Law: a file that was found shows its data, and has the room that a write takes.
+pub fn files_are_ready()
+    ensures { FilesAreReady }
 {}

@@ -6,4 +6,7 @@
 
 mod laws;
 
-pub use laws::{changes_are_steps, drafts_are_written, found_is_there, makings_are_steps};
+pub use laws::{
+    bare_is_enough, changes_are_steps, drafts_are_written, files_are_ready, found_is_there,
+    makings_are_steps,
+};
