@@ -1,0 +1,6 @@
+pub mod Rows
+pub mod Finding
+pub mod Planning
+pub mod Changing
+pub mod Making
+pub mod Readying

@@ -1,0 +1,5 @@
+use Rattle.change_steps.proofs.Readying.{files_are_ready}
+use Rattle.change_steps.proofs.laws.files_are_ready.Goals as goal
+
+pub returns : goal.returns
+returns c = files_are_ready
