@@ -62,8 +62,3 @@ pub record HasWritten (c : Content) (g : Geometry) (clusters : ℕ) (v : Volume)
   pub draft : DraftIn c g clusters v bodies after gave
   pub tree : HasChanged (tree_of c v) (needed (tree_of c v) 0 op a) op a stamp (tree_of (drafted new c) after)
   pub left : IsLeft c v clusters (n ∷ []) (growth ∷ []) (drafted new c) after
-
--- So it is with each of them.
-abbrev pub WritesAreDone : Type 0
-WritesAreDone = (c : Content) (g : Geometry) (clusters : ℕ) (v : Volume) (s : VolumeStreams) (op : Op) (n stamp : ℕ) (a : Node) (r : Record) (change : DataChange) (new : List Touched) → WritesFile c g clusters v s op n stamp a r change new
-    → HasWritten c g clusters v op n stamp a (growth_of (cluster_bits c v) r op a) new

@@ -1,0 +1,26 @@
+-- A write or a cut of a file that was found is a step of the content.
+use Rattle.std.specs.Prelude.{◌≡◌, ℕ, true, List, None}
+use Rattle.disk_model.specs.Content.{Content}
+use Rattle.record_model.specs.Records.{Record}
+use Rattle.file_tree.specs.declared.node.Node.{Node}
+use Rattle.state_model.specs.declared.geometry.Geometry.{Geometry}
+use Rattle.volume_model.specs.Volumes.{Volume, cluster_bits}
+use Rattle.tree_model.specs.declared.script.Op.{Op}
+use Rattle.tree_model.specs.Needs.{shrinks}
+use Rattle.change_lookup.specs.declared.found.Found.TheVariants.{File}
+use Rattle.plan_draft.specs.declared.touched.Touched.{Touched}
+use Rattle.plan_draft.specs.Drafts.{drafted}
+use Rattle.step_model.specs.Steps.{Step}
+use Rattle.data_plan.specs.declared.change.DataChange.{DataChange}
+use Rattle.data_plan.specs.Changes.{row_of}
+use Rattle.file_puts.specs.declared.streams.VolumeStreams.{VolumeStreams}
+use Rattle.file_puts.specs.Written.{WritesFile}
+use Rattle.change_steps.specs.Found.{HasChange, Finds}
+use Rattle.change_steps.specs.Changes.{change_reply}
+use Rattle.written_files.specs.Writes.{LeavesWhole}
+
+-- A file is found to be written or cut, no row of its record refuses it, and the draft has put what comes of its data: the content that the
+-- draft stands for is the step's. A value that is cut doesn't leave its record.
+abbrev pub WritesAreSteps : Type 0
+WritesAreSteps = (c : Content) (g : Geometry) (clusters : ℕ) (v : Volume) (s : VolumeStreams) (op : Op) (stamp : ℕ) (node a : Node) (r : Record) (what : DataChange) (new : List Touched) → HasChange c g clusters v op → Finds c v op (File node true)
+    → row_of (cluster_bits c v) r op a ≡ None → LeavesWhole (shrinks op a) what → WritesFile c g clusters v s op node.number stamp a r what new → Step g clusters op stamp (change_reply op) c (drafted new c)

@@ -1,0 +1,30 @@
+-- The cases of a write, joined.
+use Rattle.std.proofs.Common.{◌≡◌, ℕ, Bool, true, false, List, refl}
+use Rattle.disk_model.specs.Content.{Content}
+use Rattle.record_model.specs.Records.{Record}
+use Rattle.file_tree.specs.declared.node.Node.{Node}
+use Rattle.state_model.specs.declared.geometry.Geometry.{Geometry}
+use Rattle.volume_model.specs.Volumes.{Volume, cluster_bits}
+use Rattle.tree_model.specs.declared.script.Op.{Op}
+use Rattle.tree_model.specs.Needs.{shrinks}
+use Rattle.plan_draft.specs.declared.touched.Touched.{Touched}
+use Rattle.resized_streams.specs.declared.resized.Resized.{Resized}
+use Rattle.data_plan.specs.declared.change.DataChange.{DataChange}
+use Rattle.data_plan.specs.declared.change.DataChange.TheVariants as change
+use Rattle.data_plan.specs.Changes.{growth_of}
+use Rattle.file_puts.specs.declared.streams.VolumeStreams.{VolumeStreams}
+use Rattle.file_puts.specs.Written.{WritesFile, HasWritten}
+use Rattle.written_values.specs.Laws.{ValuesAreDone, ShorterAreDone, CutsAreDone}
+use Rattle.written_clusters.specs.Done.{HasClusters, LongerIsDone, GrowthIsDone, LeavingIsDone}
+use Rattle.written_files.specs.Writes.{LeavesWhole, WritesAreDone}
+
+pub joined : ValuesAreDone → ShorterAreDone → CutsAreDone → LongerIsDone → GrowthIsDone → LeavingIsDone → WritesAreDone
+joined values shorter cuts longer growth leaving c g clusters v s op n stamp a r (change.Stays size) new has whole w = values c g clusters v s op n stamp a r size new w
+joined values shorter cuts longer growth leaving c g clusters v s op n stamp a r (change.Leaves z) new has whole w = leaving c g clusters v s op n stamp a r z new whole has w
+joined values shorter cuts longer growth leaving c g clusters v s op n stamp a r (change.Grows z) new has whole w = growth c g clusters v s op n stamp a r z new has w
+joined values shorter cuts longer growth leaving c g clusters v s op n stamp a r (change.Cut z) new has whole w = cuts c g clusters v s op n stamp a r z new w
+joined values shorter cuts longer growth leaving c g clusters v s op n stamp a r (change.Sized z) new has whole w = by (shrinks op a) refl
+  where
+    by : (t : Bool) → shrinks op a ≡ t → HasWritten c g clusters v op n stamp a (growth_of (cluster_bits c v) r op a) new
+    by true is = shorter c g clusters v s op n stamp a r z new is w
+    by false is = longer c g clusters v s op n stamp a r z new is has w
