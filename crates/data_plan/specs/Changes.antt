@@ -1,5 +1,5 @@
 -- What comes of a file's unnamed data, in the words of a step.
-use Rattle.std.specs.Prelude.{◌≡◌, ⊤, ℕ, ◌+◌, ◌^◌, ◌<◌, ◌≤◌, Bool, true, false, not, List, [], ◌∷◌, length, count_by, Option, Some, None, Result, Ok, Err, IfSome, IfOk, OnErr}
+use Rattle.std.specs.Prelude.{◌≡◌, ⊤, ℕ, ◌+◌, ◌^◌, ◌<◌, ◌≤◌, Bool, true, false, not, List, [], ◌∷◌, All, length, count_by, Option, Some, None, Result, Ok, Err, IfSome, IfOk, OnErr}
 use Rattle.record_model.specs.declared.attribute.Attr.{Attr}
 use Rattle.record_model.specs.Constants.{data_type}
 use Rattle.record_model.specs.Pairs.{cluster_limit, HasSpelling}
@@ -18,7 +18,7 @@ use Rattle.tree_model.specs.Needs.{clusters_for, size_after}
 use Rattle.tree_model.specs.Effects.{valid_after, clusters_after}
 use Rattle.space_model.specs.Choosing.{with_runs}
 use Rattle.plan_space.specs.Choices.{TakesFirst}
-use Rattle.stream_runs.specs.Runs.{last_cluster}
+use Rattle.stream_runs.specs.Runs.{last_cluster, IsNear}
 use Rattle.record_streams.specs.Fitting.{FitsButRoom}
 use Rattle.record_values.specs.Values.{valued_record}
 use Rattle.resized_streams.specs.declared.resized.Resized.{Resized}
@@ -153,6 +153,25 @@ IsChange g r op node (change.Leaves z) = Leaves g r op node z
 IsChange g r op node (change.Grows z) = Grows g r z
 IsChange g r op node (change.Cut z) = IsCutOff g r op node z
 IsChange g r op node (change.Sized z) = ChangesSizes g r op node z
+
+-- ---- what a draft asks of it
+
+-- its record has a spelling but for its room, and its runs, those that come and those that go aren't too many or too far
+pub record IsReady (z : Resized) : Type 0 where
+  pub fits : FitsButRoom z.file
+  pub taken : All IsNear z.taken.items
+  pub freed : All IsNear z.freed.items
+  pub spelled : HasSpelling 0 z.extents.runs
+  pub few : length z.extents.runs ≤ 2 ^ 16
+
+abbrev pub IsReadyChange : DataChange → Type 0
+IsReadyChange (change.Stays size) = ⊤
+IsReadyChange (change.Leaves z) = IsReady z
+IsReadyChange (change.Grows z) = IsReady z
+IsReadyChange (change.Cut z) = IsReady z
+IsReadyChange (change.Sized z) = IsReady z
+
+-- ---- the answer
 
 -- What comes of the data is what the step says, and the bits of the runs that it takes are set. It is Short where fewer bits are clear than
 -- it wants, and none is set then; else it is Full exactly where the record would be too full.

@@ -7,12 +7,11 @@ ghost use Rattle.record_streams.specs.Fitting.{FitsButRoom};
 ghost use Rattle.resized_streams.specs.Resizing.{unplaced};
 ghost use Rattle.step_model.specs.Used.{used_after, own_attr, value_attr};
 ghost use Rattle.tree_model.specs.Steps.{IsWithinBounds};
-ghost use Rattle.data_plan.specs.Changes.{data_in, ShowsData, BeginsAtZero, HasData, GrowsLittle, IsHeld, MustLeave, IsKept, DataAfter};
+ghost use Rattle.data_plan.specs.Changes.{data_in, ShowsData, BeginsAtZero, HasData, GrowsLittle, IsHeld, MustLeave, IsKept, IsReadyChange, DataAfter};
 
 use crate::change::DataChange;
 use crate::fault::DataFault;
 use crate::resizing::{MOST_USED, grown, used};
-use crate::sizes::{clusters_for, size_after};
 use file_record::FileRec;
 use file_tree::Node;
 use host_base::Memory;
@@ -21,7 +20,7 @@ use record_model::{DATA, Runs};
 use record_values::valued_record;
 use state_model::{ClusterSize, Extents};
 use std::alloc::Global;
-use tree_model::Op;
+use tree_model::{Op, clusters_for, size_after};
 
 // The bytes that the record uses where its data is a value of so many bytes.
 fn used_as_value(alloc: Global, file: &FileRec, size: u64) -> Result<u64, Memory>
@@ -63,7 +62,8 @@ fn leaves<B: FreeBits>(
     requires little { GrowsLittle op.now node.now }
     requires held { IsHeld (data_in file.now) }
     requires leaves { MustLeave file.now op.now node.now }
-    ensures { DataAfter (B.bits bits.old) (B.bits bits.new) file.now op.now node.now result }
+    ensures after { DataAfter (B.bits bits.old) (B.bits bits.new) file.now op.now node.now result }
+    ensures ready { IfOk result IsReadyChange }
 {
     let size = size_after(op, node);
     let value = unplaced(alloc, size);
@@ -73,7 +73,8 @@ fn leaves<B: FreeBits>(
 
 // A value stays in its record, where that has room with it.
 fn stays(size: u64, used: u64) -> Result<DataChange, DataFault>
-    ensures { IsKept size used result }
+    ensures kept { IsKept size used result }
+    ensures ready { IfOk result IsReadyChange }
 {
     if used > MOST_USED {
         return Err(DataFault::Full { used });
@@ -97,7 +98,8 @@ pub fn held_after<B: FreeBits>(
     requires shows { ShowsData node.now file.now }
     requires little { GrowsLittle op.now node.now }
     requires held { IsHeld (data_in file.now) }
-    ensures { DataAfter (B.bits bits.old) (B.bits bits.new) file.now op.now node.now result }
+    ensures after { DataAfter (B.bits bits.old) (B.bits bits.new) file.now op.now node.now result }
+    ensures ready { IfOk result IsReadyChange }
 {
     let size = size_after(op, node);
     let used = used_as_value(alloc, file, size)?;

@@ -9,7 +9,6 @@ mod laws;
 mod placed;
 mod planning;
 mod resizing;
-mod sizes;
 
 pub use change::DataChange;
 pub use fault::DataFault;

@@ -1,15 +1,14 @@
 //! Data that stands in clusters.
-ghost use Rattle.std.specs.Prelude.{◌≡◌, ◌<◌, ◌≤◌, ◌^◌, ℕ, false, List, Bool, Some, length};
+ghost use Rattle.std.specs.Prelude.{◌≡◌, ◌<◌, ◌≤◌, ◌^◌, ℕ, false, List, Bool, Some, IfOk, length};
 ghost use Rattle.record_model.specs.Pairs.{cluster_limit};
 ghost use Rattle.state_model.specs.declared.stream.Stream.TheVariants.{Placed};
 ghost use Rattle.tree_model.specs.Effects.{clusters_after};
 ghost use Rattle.tree_model.specs.Steps.{IsWithinBounds};
-ghost use Rattle.data_plan.specs.Changes.{data_in, ShowsData, HasData, GrowsLittle, DataAfter};
+ghost use Rattle.data_plan.specs.Changes.{data_in, ShowsData, HasData, GrowsLittle, IsReadyChange, DataAfter};
 
 use crate::change::DataChange;
 use crate::fault::DataFault;
 use crate::resizing::{MOST_USED, grown, have_bytes, used, with_room};
-use crate::sizes::{clusters_after, size_after, valid_after};
 use file_record::FileRec;
 use file_tree::Node;
 use plan_space::FreeBits;
@@ -17,7 +16,7 @@ use record_model::DATA;
 use resized_streams::{cut, sized};
 use state_model::{ClusterSize, Extents};
 use std::alloc::Global;
-use tree_model::Op;
+use tree_model::{Op, clusters_after, size_after, valid_after};
 
 // Data takes clusters behind its own.
 fn grows<B: FreeBits>(
@@ -37,7 +36,8 @@ fn grows<B: FreeBits>(
     requires little { GrowsLittle op.now node.now }
     requires placed { data_in file.now ≡ Some (Placed extents.now) }
     requires more { node.now.clusters < clusters_after false op.now node.now }
-    ensures { DataAfter (B.bits bits.old) (B.bits bits.new) file.now op.now node.now result }
+    ensures after { DataAfter (B.bits bits.old) (B.bits bits.new) file.now op.now node.now result }
+    ensures ready { IfOk result IsReadyChange }
 {
     let wanted = clusters_after(op, node) - node.clusters;
     let z = grown(alloc, per, bits, extents, file, wanted)?;
@@ -59,7 +59,8 @@ fn cuts(
     requires shows { ShowsData node.now file.now }
     requires placed { data_in file.now ≡ Some (Placed extents.now) }
     requires fewer { clusters_after false op.now node.now < node.now.clusters }
-    ensures { (bits : List Bool) → DataAfter bits bits file.now op.now node.now result }
+    ensures after { (bits : List Bool) → DataAfter bits bits file.now op.now node.now result }
+    ensures ready { IfOk result IsReadyChange }
 {
     let z = cut(alloc, per, DATA, &[], extents, file, size_after(op, node))?;
     let whole = with_room(z)?;
@@ -81,7 +82,8 @@ fn changes_sizes(
     requires shows { ShowsData node.now file.now }
     requires placed { data_in file.now ≡ Some (Placed extents.now) }
     requires same { clusters_after false op.now node.now ≡ node.now.clusters }
-    ensures { (bits : List Bool) → DataAfter bits bits file.now op.now node.now result }
+    ensures after { (bits : List Bool) → DataAfter bits bits file.now op.now node.now result }
+    ensures ready { IfOk result IsReadyChange }
 {
     let used = used(file);
     if used > MOST_USED {
@@ -110,7 +112,8 @@ pub fn placed_after<B: FreeBits>(
     requires shows { ShowsData node.now file.now }
     requires little { GrowsLittle op.now node.now }
     requires placed { data_in file.now ≡ Some (Placed extents.now) }
-    ensures { DataAfter (B.bits bits.old) (B.bits bits.new) file.now op.now node.now result }
+    ensures after { DataAfter (B.bits bits.old) (B.bits bits.new) file.now op.now node.now result }
+    ensures ready { IfOk result IsReadyChange }
 {
     let wanted = clusters_after(op, node);
     if wanted > node.clusters {

@@ -1,8 +1,8 @@
 //! What comes of a file's unnamed data.
-ghost use Rattle.std.specs.Prelude.{◌≡◌, ◌≤◌, length};
+ghost use Rattle.std.specs.Prelude.{◌≡◌, ◌≤◌, IfOk, length};
 ghost use Rattle.record_model.specs.Pairs.{cluster_limit};
 ghost use Rattle.tree_model.specs.Steps.{IsWithinBounds};
-ghost use Rattle.data_plan.specs.Changes.{ShowsData, HasData, GrowsLittle, DataAfter};
+ghost use Rattle.data_plan.specs.Changes.{ShowsData, HasData, GrowsLittle, IsReadyChange, DataAfter};
 
 use crate::change::DataChange;
 use crate::fault::DataFault;
@@ -22,7 +22,7 @@ use tree_model::Op;
 /// it, takes clusters behind its own, gives some back, or has other sizes alone. The record is made
 /// with it, but where a value stays; nothing is put. `node` shows the data's sizes and clusters; the
 /// volume has 8 sectors a cluster, and `bits` are those of its clusters. The operation has numbers
-/// within bounds, and the data grows by at most 32,768 clusters.
+/// within bounds, and the data grows by at most 32,768 clusters. A draft can put what is made.
 ///
 /// - [`DataFault::Short`]: fewer bits are clear than the data wants, so many. All stay as they were.
 /// - [`DataFault::Full`]: the record would use so many bytes, which are above 1,024. All runs that
@@ -46,6 +46,7 @@ pub fn data_after<B: FreeBits>(
     requires shows { ShowsData node.now file.now }
     requires little { GrowsLittle op.now node.now }
     ensures after { DataAfter (B.bits bits.old) (B.bits bits.new) file.now op.now node.now result }
+    ensures ready { IfOk result IsReadyChange }
 {
     let stream = stream_of(alloc, DATA, &[], file.attrs().as_slice())?;
     match &stream {

@@ -13,6 +13,7 @@ ghost use Rattle.resized_streams.specs.Resizing.{lengthened, IsGrown};
 ghost use Rattle.used_laws.specs.Laws.{AreFormBytes, HasBytes};
 ghost use Rattle.disk_model.specs.Bytes.{AreBytes};
 ghost use Rattle.step_model.specs.Plans.{full_row};
+ghost use Rattle.data_plan.specs.Changes.{IsReady};
 ghost use Rattle.data_plan.specs.Faults.{IsShortOf, HasRow};
 
 use crate::fault::DataFault;
@@ -70,6 +71,7 @@ pub fn grown<B: FreeBits>(
     ensures unchanged { count_by not (B.bits bits.old) < wanted → B.bits bits.new ≡ B.bits bits.old }
     ensures room { wanted ≤ count_by not (B.bits bits.old) → HasRow (full_row (used_of (placed_record per data_type [] (lengthened per (chosen (B.bits bits.old) (last_cluster extents.now.runs) wanted) extents.now) file.now).attrs ∷ [])) result }
     ensures first { OnErr result (TakesFirst (chosen (B.bits bits.old) (last_cluster extents.now.runs) wanted) (B.bits bits.old) (B.bits bits.new)) }
+    ensures ready { IfOk result IsReady }
 {
     let z = grow(alloc, per, bits, DATA, &[], extents, file, wanted)?;
     with_room(z)

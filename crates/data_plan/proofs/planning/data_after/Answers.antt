@@ -6,10 +6,9 @@ use Rattle.data_plan.proofs.Cases.{memory_err}
 use Rattle.data_plan.proofs.Taking.{some_data}
 use Rattle.data_plan.proofs.planning.data_after.Goals as goal
 
-pub returns-in_err-stream : goal.returns-in_err-stream
-returns-in_err-stream g c = record {
-  after = let p = err_from_is_err_and c.from_residual.result c.from_residual.ensures.1 in rw (p.1, p.2) (memory_err (g.B.FreeBits.bits c.args.bits.now) c.args.file.now c.args.op.now c.args.node.now);
-}
+pub returns-in_err-stream-clause-after : goal.returns-in_err-stream-clause-after
+returns-in_err-stream-clause-after g c =
+    let p = err_from_is_err_and c.from_residual.result c.from_residual.ensures.1 in rw (p.1, p.2) (memory_err (g.B.FreeBits.bits c.args.bits.now) c.args.file.now c.args.op.now c.args.node.now)
 
 pub held_after-requires-in-None-clause-held : goal.held_after-requires-in-None-clause-held
 held_after-requires-in-None-clause-held g c =

@@ -1,0 +1,4 @@
+pub mod Rooms
+pub mod Lengths
+pub mod Joins
+pub mod Cases
