@@ -1,5 +1,5 @@
 -- What a growing index puts is the edit by which it has more blocks.
-use Rattle.std.proofs.Common.{◌≡◌, ◌⊎◌, ℕ, ◌+◌, ◌-◌, ◌*◌, ◌/◌, ◌<◌, ◌≤◌, Bool, true, false, List, [], ◌∷◌, Some, Ok, refl, sym, ap, subst, ◌∙◌, arith}
+use Rattle.std.proofs.Common.{◌≡◌, ◌⊎◌, ℕ, ◌+◌, ◌-◌, ◌*◌, ◌/◌, ◌%◌, ◌<◌, ◌≤◌, Bool, true, false, List, [], ◌∷◌, Option, Some, None, Ok, refl, sym, ap, subst, ◌∙◌, arith}
 use Rattle.std.specs.Prelude.{All}
 use Rattle.std.specs.List.{list_all}
 use Rattle.std.proofs.lemmas.Bool.{and_parts, and_from}
@@ -95,16 +95,13 @@ some_of_stream : (kind : ℕ) (name : List ℕ) (attrs : List Attr) (s : Stream)
 unfolding stream_of
 some_of_stream kind name attrs s is = some_attributes (attributes_of kind name attrs) s is
 
-module _ (c : Content) (g : Geometry) (clusters : ℕ) (v : Volume) (bits : List Bool) (bitmap mirror : Extents) (i : IndexBlocks) (more : ℕ) (old new : List Touched) (z : Resized) (eight : g.per_cluster ≡ 8) (state : Stands (drafted old c) g clusters v)
-    (k : GrowsOfVolume c v bits bitmap mirror i more old new z) where
+module _ (c : Content) (g : Geometry) (clusters : ℕ) (v : Volume) (bits : List Bool) (bitmap mirror : Extents) (r : Record) (i : IndexBlocks) (more : ℕ) (old new : List Touched) (z : Resized) (eight : g.per_cluster ≡ 8) (state : Stands (drafted old c) g clusters v)
+    (k : GrowsOfVolume c v bits bitmap mirror r i more old new z) where
   abbrev d : Content
   d = drafted old c
 
   abbrev n : ℕ
   n = i.number
-
-  abbrev r : Record
-  r = i.file
 
   abbrev e : Extents
   e = i.extents
@@ -122,7 +119,7 @@ module _ (c : Content) (g : Geometry) (clusters : ℕ) (v : Volume) (bits : List
   f = blocks_with v.per runs more e
 
   abbrev p : Record
-  p = placed_record v.per index_allocation names_index f r
+  p = placed_record v.per index_allocation names_index f i.file
 
   abbrev value : List ℕ
   value = bits_with more e i.bits
@@ -134,7 +131,7 @@ module _ (c : Content) (g : Geometry) (clusters : ℕ) (v : Volume) (bits : List
   per_8 = per_is d g clusters v eight state
 
   before : blocks_before r ≡ e
-  before = ap extents_or k.blocks
+  before = k.streams.before
 
   same_blocks : f ≡ behind
   same_blocks = ap (λ (x : Extents). with_sizes size size (lengthened v.per runs x)) (sym before)
@@ -164,10 +161,16 @@ module _ (c : Content) (g : Geometry) (clusters : ℕ) (v : Volume) (bits : List
   its_own : OwnRecord d v n r
   its_own = own_record d g clusters v n r state k.file k.no_list
 
+  was_used : IsInUse r
+  was_used = written_read.used d v.per v.table n r its_own.slot
+
+  now_used : IsInUse i.file
+  now_used = record { flag = subst (λ (x : ℕ). x % 2 ≡ 1) (sym k.streams.flags) was_used.flag; pairs = k.streams.pairs was_used.pairs }
+
   in_use : IsInUse z.file
   in_use =
       subst IsInUse (sym k.grows.longer.file)
-      (valued_by bitmap_type names_index value p (attributes_of bitmap_type names_index p.attrs) (written_read.placed v.per index_allocation names_index f r follow (written_read.used d v.per v.table n r its_own.slot)))
+      (valued_by bitmap_type names_index value p (attributes_of bitmap_type names_index p.attrs) (written_read.placed v.per index_allocation names_index f i.file follow now_used))
 
   abbrev mid : List Touched
   mid = k.grows.put.0
@@ -223,12 +226,17 @@ module _ (c : Content) (g : Geometry) (clusters : ℕ) (v : Volume) (bits : List
 
   -- ---- the index
 
-  placed_in : IsPlacedIn v n index_allocation names_index e
+  placed_in : (x : Extents) → index_stream r ≡ Some (Placed x) → IsPlacedIn v n index_allocation names_index x
   unfolding index_stream
-  placed_in = record { file = r; is_file = k.file; no_name = (λ same. absurd (omega (arith, same))); stream = k.blocks }
+  placed_in x is = record { file = r; is_file = k.file; no_name = (λ same. absurd (omega (arith, same))); stream = is }
+
+  lawful_by : (o : Option Stream) → index_stream r ≡ o → (extents_or o).initialised ≤ (extents_or o).real
+  lawful_by None is = omega arith
+  lawful_by (Some (Held bytes)) is = omega arith
+  lawful_by (Some (Placed x)) is = (sizes_are d g clusters v n index_allocation names_index x state (placed_in x is)).initialised
 
   lawful : e.initialised ≤ e.real
-  lawful = (sizes_are d g clusters v n index_allocation names_index e state placed_in).initialised
+  lawful = subst (λ (x : Extents). x.initialised ≤ x.real) before (lawful_by (index_stream r) refl)
 
   sizes : SizesRise (blocks_before r) behind
   sizes =
@@ -243,13 +251,32 @@ module _ (c : Content) (g : Geometry) (clusters : ℕ) (v : Volume) (bits : List
       } in
       subst (λ (x : Extents). SizesRise x (with_sizes size size (lengthened v.per runs x))) (sym before) own
 
-  made : MakesBlocks r z.file behind
+  own_made : MakesBlocks i.file (grown_file v.per runs more i) f
   unfolding index_stream
-  made =
-      let a = some_of_stream index_allocation names_index r.attrs (Placed e) k.blocks in
-      let b = some_of_stream bitmap_type names_index r.attrs (Held i.bits) k.used in
-      let own = blocks_written.made v.per r f value a.0 b.0 a.1 b.1 follow a.2 b.2 in
-      subst (λ (x : Record). MakesBlocks r x behind) (sym k.grows.longer.file) (subst (MakesBlocks r (grown_file v.per runs more i)) same_blocks own)
+  own_made =
+      let a = some_of_stream index_allocation names_index i.file.attrs (Placed e) k.streams.blocks in
+      let b = some_of_stream bitmap_type names_index i.file.attrs (Held i.bits) k.streams.used in
+      blocks_written.made v.per i.file f value a.0 b.0 a.1 b.1 follow a.2 b.2
+
+  from_own : MakesBlocks r (grown_file v.per runs more i) f
+  from_own = record {
+    seq = own_made.seq ∙ k.streams.seq;
+    flags = own_made.flags ∙ k.streams.flags;
+    base = own_made.base ∙ k.streams.base;
+    others = own_made.others ∙ k.streams.others;
+    blocks = own_made.blocks;
+    one = own_made.one;
+    first = own_made.first;
+    placed = own_made.placed;
+    bits = own_made.bits;
+    one_value = own_made.one_value;
+    first_value = own_made.first_value;
+    value = own_made.value;
+    held = own_made.held;
+  }
+
+  made : MakesBlocks r z.file behind
+  made = subst (λ (x : Record). MakesBlocks r x behind) (sym k.grows.longer.file) (subst (MakesBlocks r (grown_file v.per runs more i)) same_blocks from_own)
 
   makes : MakesIndex d v n r runs size size z
   makes = record {
@@ -262,7 +289,7 @@ module _ (c : Content) (g : Geometry) (clusters : ℕ) (v : Volume) (bits : List
     room = subst (λ (x : Extents). total_clusters x.runs + total_clusters runs ≤ cluster_limit) (sym before) room;
     sizes = sizes;
     begun = subst (λ (x : Extents). (x.real ≤ x.initialised) ⊎ (is_index_body (d void_block) ≡ false)) (sym before) k.begun;
-    no_place = subst HasNoPlace (sym k.used) tt;
+    no_place = k.streams.no_place;
     made = made;
     in_use = in_use;
     came = k.grows.longer.taken;
@@ -274,4 +301,4 @@ module _ (c : Content) (g : Geometry) (clusters : ℕ) (v : Volume) (bits : List
   grown_edit = index_edit c g clusters v n r runs size size z old mid new k.sized eight k.kept new_kept state makes edit blocks
 
 pub grown_is : GrownIsEdit
-grown_is c g clusters v bits bitmap mirror i more old new z eight state k = (new_kept c g clusters v bits bitmap mirror i more old new z eight state k, grown_edit c g clusters v bits bitmap mirror i more old new z eight state k)
+grown_is c g clusters v bits bitmap mirror r i more old new z eight state k = (new_kept c g clusters v bits bitmap mirror r i more old new z eight state k, grown_edit c g clusters v bits bitmap mirror r i more old new z eight state k)
