@@ -1,0 +1,21 @@
+//! A directory's index that gets more blocks in a plan while it is made: its clusters, the bytes of
+//! their bitmap, and the blocks as zeros.
+//!
+//! The contract: the record is the one of the definition, the clusters are those that the choice of
+//! clusters gives, and each block that comes to be initialised is put whole. The layouts are those of
+//! the Linux-NTFS documentation, "$INDEX_ALLOCATION", "$BITMAP" and "Data runs".
+#![tactic(auto)]
+
+mod blocks;
+mod fresh;
+mod growing;
+mod longer;
+
+pub use block_view::View;
+pub use blocks::IndexBlocks;
+pub use draft_growth::GrowthFault;
+pub use growing::grow_blocks;
+pub use plan_draft::Draft;
+pub use plan_space::FreeBits;
+pub use resized_streams::Resized;
+pub use state_model::{ClusterSize, Extents};
