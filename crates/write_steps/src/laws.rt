@@ -1,7 +1,7 @@
 //! The law of these definitions.
 ghost use Rattle.write_steps.specs.Steps.{WritesAreSteps};
 
-use change_steps::{bare_is_enough, changes_are_steps, drafts_are_written, files_are_ready};
+use change_steps::{changes_are_steps, drafts_are_written};
 use written_files::writes_are_done;
 
 /// Law: where an operation is found to write or cut a file, and a draft has put what comes of the
@@ -12,6 +12,4 @@ pub fn writes_are_steps()
     writes_are_done();
     drafts_are_written();
     changes_are_steps();
-    files_are_ready();
-    bare_is_enough();
 }
