@@ -7,3 +7,5 @@ pub mod Taking
 pub mod Sizes
 pub mod Beginning
 pub mod Longer
+pub mod Growing
+pub mod Moving

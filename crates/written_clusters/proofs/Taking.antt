@@ -1,7 +1,11 @@
 -- The clusters that a file's data takes, as a step counts them.
-use Rattle.std.proofs.Common.{◌≡◌, ℕ, ◌+◌, ◌<◌, ◌≤◌, max, Bool, true, false, cond, eqb, ltb, List, [], ◌∷◌, Option, refl, ap, ◌∙◌, inl, inr, arith}
+use Rattle.std.proofs.Common.{◌≡◌, ℕ, ◌+◌, ◌*◌, ◌<◌, ◌≤◌, max, Bool, true, false, cond, eqb, ltb, List, [], ◌∷◌, length, Option, Some, None, refl, ap, ◌∙◌, inl, inr, arith}
 use Rattle.std.specs.Prelude.{not, count_by}
-use Rattle.std.proofs.lemmas.Bool.{cases_lt, both_ways, ltb-false, eq-eqb}
+use Rattle.std.proofs.lemmas.Bool.{cases_lt, both_ways, ltb-true, ltb-false, eq-eqb}
+use Rattle.disk_model.specs.declared.block.BlockKind.{BlockKind}
+use Rattle.disk_model.specs.Content.{Content}
+use Rattle.bit_set.proofs.Views.{length-bits_of_bytes}
+use Rattle.volume_model.specs.Volumes.{Volume, cluster_bits, cluster_bitmap, bytes_or}
 use Rattle.record_model.specs.declared.runs.Run.{Run}
 use Rattle.file_tree.specs.declared.node.Node.{Node}
 use Rattle.state_model.specs.Loads.{total_clusters}
@@ -38,3 +42,22 @@ grows_file other a changes longer = absurd cc
 
 pub clusters_are : (o : Op) (a : Node) → shrinks o a ≡ false → clusters_after false o a ≡ max a.clusters (clusters_for (size_after o a))
 clusters_are o a longer = ap (λ (t : Bool). cond t (clusters_for (size_after o a)) (max a.clusters (clusters_for (size_after o a)))) longer
+
+-- data that is cut is to have no more clusters than had room for it
+shrinks_less : (o : Op) (a : Node) → shrinks o a ≡ true → size_after o a < a.size
+shrinks_less (op.Truncate path size) a cut = ltb-true size a.size cut
+shrinks_less other a cut = absurd cc
+
+pub cut_takes : (o : Op) (a : Node) (total : ℕ) → shrinks o a ≡ true → a.size ≤ total * 4096 → clusters_after false o a ≤ total
+cut_takes o a total cut within =
+    let is = ap (λ (t : Bool). cond t (clusters_for (size_after o a)) (max a.clusters (clusters_for (size_after o a)))) cut in
+    let less = shrinks_less o a cut in
+    omega (arith, is, less, within)
+
+-- nothing was given
+pub never_given : (kind : BlockKind) → None ≡ Some kind → ⊥
+never_given kind given = cc
+
+pub length-cluster_bits : (c : Content) (v : Volume) → length (cluster_bits c v) ≡ v.clusters
+unfolding cluster_bits
+length-cluster_bits c v = length-bits_of_bytes (bytes_or c v.per (cluster_bitmap v)) v.clusters

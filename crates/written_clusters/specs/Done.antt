@@ -1,4 +1,4 @@
--- A write in clusters is done.
+-- An operation that has written a file, or made it longer, whose data stands in clusters then, is done.
 use Rattle.std.specs.Prelude.{◌≡◌, ℕ, ◌≤◌, not, false, List, count_by}
 use Rattle.disk_model.specs.Content.{Content}
 use Rattle.record_model.specs.Records.{Record}
@@ -23,3 +23,13 @@ HasClusters c v op a r = more_of (growth_of (cluster_bits c v) r op a) ≤ count
 abbrev pub LongerIsDone : Type 0
 LongerIsDone = (c : Content) (g : Geometry) (clusters : ℕ) (v : Volume) (s : VolumeStreams) (op : Op) (n stamp : ℕ) (a : Node) (r : Record) (z : Resized) (new : List Touched) → shrinks op a ≡ false → HasClusters c v op a r
     → WritesFile c g clusters v s op n stamp a r (change.Sized z) new → HasWritten c g clusters v op n stamp a (growth_of (cluster_bits c v) r op a) new
+
+-- Data that takes clusters behind its own.
+abbrev pub GrowthIsDone : Type 0
+GrowthIsDone = (c : Content) (g : Geometry) (clusters : ℕ) (v : Volume) (s : VolumeStreams) (op : Op) (n stamp : ℕ) (a : Node) (r : Record) (z : Resized) (new : List Touched) → HasClusters c v op a r → WritesFile c g clusters v s op n stamp a r (change.Grows z) new
+    → HasWritten c g clusters v op n stamp a (growth_of (cluster_bits c v) r op a) new
+
+-- A value that leaves its record for clusters, and isn't cut.
+abbrev pub LeavingIsDone : Type 0
+LeavingIsDone = (c : Content) (g : Geometry) (clusters : ℕ) (v : Volume) (s : VolumeStreams) (op : Op) (n stamp : ℕ) (a : Node) (r : Record) (z : Resized) (new : List Touched) → shrinks op a ≡ false → HasClusters c v op a r
+    → WritesFile c g clusters v s op n stamp a r (change.Leaves z) new → HasWritten c g clusters v op n stamp a (growth_of (cluster_bits c v) r op a) new

@@ -6,4 +6,4 @@
 
 mod laws;
 
-pub use laws::longer_is_done;
+pub use laws::{growth_is_done, leaving_is_done, longer_is_done};
