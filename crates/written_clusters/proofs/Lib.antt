@@ -1,0 +1,11 @@
+pub mod Known
+pub mod Staying
+pub mod Chaining
+pub mod Left
+pub mod Timing
+pub mod Taking
+pub mod Sizes
+pub mod Beginning
+pub mod Longer
+pub mod Growing
+pub mod Moving
