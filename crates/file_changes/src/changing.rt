@@ -1,0 +1,70 @@
+//! A file that is written or cut.
+ghost use Rattle.std.specs.Prelude.{◌≡◌, ◌<◌, ℕ, IfErr, IfOk, IfSome, OnOk, OnErr, not, count_by, length};
+ghost use Rattle.block_view.specs.Views.{AsksView};
+ghost use Rattle.file_tree.specs.declared.node.Node.{Node as the_node};
+ghost use Rattle.state_model.specs.declared.geometry.Geometry.{Geometry};
+ghost use Rattle.volume_model.specs.Volumes.{Volume};
+ghost use Rattle.space_model.specs.Choosing.{with_runs};
+ghost use Rattle.step_model.specs.Placing.{more_of};
+ghost use Rattle.data_plan.specs.Changes.{growth_of};
+ghost use Rattle.file_writes.specs.Faults.{write_cause, IsShortOf, StaysWhereRefused};
+ghost use Rattle.file_writes.specs.Writing.{MayWrite};
+ghost use Rattle.file_changes.specs.Steps.{IsAsked, StepsTo, StepsFrom};
+
+use block_view::View;
+use change_steps::{bare_is_enough, changes_are_steps};
+use file_puts::VolumeStreams;
+use file_record::FileRec;
+use file_tree::Node;
+use file_writes::{WriteFault, write_file};
+use plan_draft::Draft;
+use plan_space::FreeBits;
+use state_model::ClusterSize;
+use std::alloc::Global;
+use tree_model::Op;
+use write_steps::writes_are_steps;
+
+/// Writes or cuts the file that an operation was found to change
+/// ([`change_found`](change_lookup::change_found)), in a draft that touched nothing before
+/// (Linux-NTFS documentation, "FILE Record", "$DATA"): as [`write_file`] does it, with its errors,
+/// conditions and costs. `file` is the record of the node, as it was read, and `bits` are those of
+/// the volume's clusters. Where the view's content is a state, the draft stands for the content that
+/// the step of the operation leaves, of which the reply is how many bytes were written, or the size;
+/// after [`WriteFault::Full`] the step is that the record is too full, and after a failure or want
+/// of memory that it was given up.
+pub fn change_file<V: View, B: FreeBits>(
+    draft: &mut Draft<'_, V>,
+    alloc: Global,
+    per: ClusterSize,
+    bits: &mut B,
+    streams: &VolumeStreams,
+    file: &FileRec,
+    op: &Op,
+    node: &Node,
+    stamp: u64,
+) -> Result<(), WriteFault>
+    requires per { per ≡ 8 }
+    requires may { MayWrite (length (B.bits bits.old)) node.now.number streams.now file.now op.now node.now }
+    ensures step { IfSome (V.content draft.old.view.now) (StepsFrom streams.now op.now node.now stamp file.now (B.bits bits.old) draft.old.touched.items draft.new.touched.items result) }
+    ensures bits { OnOk result (B.bits bits.new ≡ with_runs (growth_of (B.bits bits.old) file.now op.now node.now).runs (B.bits bits.old)) }
+    ensures short { count_by not (B.bits bits.old) < more_of (growth_of (B.bits bits.old) file.now op.now node.now) → IsShortOf (count_by not (B.bits bits.old)) result }
+    ensures refused { IfErr result (StaysWhereRefused draft.old.touched.items draft.new.touched.items) }
+    ensures asks { AsksView V.content V.kept V.faults write_cause draft.old.view.now draft.new.view.now result }
+    ensures reference { draft.new.view.ghost_name ≡ draft.old.view.ghost_name }
+{
+    writes_are_steps();
+    changes_are_steps();
+    bare_is_enough();
+    write_file(
+        draft,
+        alloc,
+        per,
+        bits,
+        streams,
+        node.number,
+        file,
+        op,
+        node,
+        stamp,
+    )
+}
