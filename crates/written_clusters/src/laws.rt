@@ -10,16 +10,15 @@ pub fn longer_is_done()
     times_are_set();
 }
 
-/// Law: where data took clusters behind its own, and got its sizes and bytes in them, the operation is
-/// done.
+/// Law: where data took clusters behind its own, and got its sizes and bytes in them, the operation
+/// is done.
 pub fn growth_is_done()
     ensures { GrowthIsDone }
 {
     times_are_set();
 }
 
-/// Law: where a value left its record for clusters with the bytes after the operation, the operation
-/// is done.
+/// Law: where a value left its record for clusters with the bytes after the operation, it is done.
 pub fn leaving_is_done()
     ensures { LeavingIsDone }
 {
