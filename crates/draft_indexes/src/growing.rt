@@ -66,15 +66,16 @@ fn put_blocks<V: View>(
 
 /// Gives a directory's index so many blocks more, where it has an allocation and a bitmap already
 /// (Linux-NTFS documentation, "$INDEX_ALLOCATION" and "$BITMAP"): its sizes rise by 4,096 bytes for
-/// each, all of it initialised; it takes the clusters that it lacks for them, chosen behind its last
-/// one, as [`grow`](resized_streams::grow) does; the bitmap of its blocks has 8 bytes for each 64 of
-/// them, with zeros behind the bytes that it had. The record is put, the bits of the clusters are set
-/// in the data of `$Bitmap`, which `bitmap` is, and each block that comes to be initialised is put
-/// whole, as zeros. `table` has the clusters of the file table and `mirror` those of its mirror, of
-/// `per` sectors each. The answer is what [`put_resized`](draft_resized::put_resized) put.
+/// each, all of it initialised; it takes the clusters that it lacks for them, chosen behind its
+/// last one, as [`grow`](resized_streams::grow) does; the bitmap of its blocks has 8 bytes for each
+/// 64 of them, with zeros behind the bytes that it had. The record is put, the bits of the clusters
+/// are set in the data of `$Bitmap`, which `bitmap` is, and each block that comes to be initialised
+/// is put whole, as zeros. `table` has the clusters of the file table and `mirror` those of its
+/// mirror, of `per` sectors each. The answer is what [`put_resized`](draft_resized::put_resized)
+/// put.
 ///
-/// - [`GrowthFault::Full`]: the record would use these bytes, which are above 1,024; the draft is as
-///   it was, and the clusters are taken among the bits.
+/// - [`GrowthFault::Full`]: the record would use these bytes, which are above 1,024; the draft is
+///   as it was, and the clusters are taken among the bits.
 /// - [`GrowthFault::Short`]: fewer clusters are clear than it lacks, so many; all is as it was.
 /// - [`GrowthFault::Fault`]: the view failed, which is asked where a block wasn't touched.
 /// - [`GrowthFault::Memory`]: want of memory.

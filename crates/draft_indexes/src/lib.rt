@@ -2,8 +2,8 @@
 //! their bitmap, and the blocks as zeros.
 //!
 //! The contract: the record is the one of the definition, the clusters are those that the choice of
-//! clusters gives, and each block that comes to be initialised is put whole. The layouts are those of
-//! the Linux-NTFS documentation, "$INDEX_ALLOCATION", "$BITMAP" and "Data runs".
+//! clusters gives, and each block that comes to be initialised is put whole. The layouts are those
+//! of the Linux-NTFS documentation, "$INDEX_ALLOCATION", "$BITMAP" and "Data runs".
 #![tactic(auto)]
 
 mod blocks;

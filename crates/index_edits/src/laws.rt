@@ -8,8 +8,8 @@ pub fn grown_is_edit()
     ensures { GrownIsEdit }
 {}
 
-/// Law: the blocks of a directory's index and their bitmap stand as a plan has them where its record
-/// has both, and where it has neither and they come empty.
+/// Law: the blocks of a directory's index and their bitmap stand as a plan has them where its
+/// record has both, and where it has neither and they come empty.
 pub fn index_streams_stand()
     ensures { StreamsOfIndexes }
 {}
