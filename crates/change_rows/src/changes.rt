@@ -8,8 +8,9 @@ use std::test::Fail;
 use tree_model::{Name, Reply, Tree, Why};
 use upcase_order::Upcase;
 
-// What comes of an operation: its refusal, as the word and the numbers that are printed; the number of a file, and whether it changes; or
-// the number of a directory, a new name there, and the number and the sequence of the new file.
+// What comes of an operation: its refusal, as the word and the numbers that are printed; the number
+// of a file, and whether it changes; or the number of a directory, a new name there, and the number
+// and the sequence of the new file.
 enum Wanted {
     Refused(&'static str, u64, u64),
     File(u64, bool),
@@ -232,8 +233,8 @@ static FILES: [Row; 15] = [
     ),
 ];
 
-// A file of two bytes, of which one is initialised, and no clusters: 65,536 bytes may be written from
-// there or from the offset on, and 64 clusters have to stay beside those that it takes.
+// A file of two bytes, of which one is initialised, and no clusters: 65,536 bytes may be written
+// from there or from the offset on, and 64 clusters have to stay beside those that it takes.
 static CHANGES: [Row; 14] = [
     Row(
         Asked::Write(&["old"], 65_537, &[0]),

@@ -9,8 +9,8 @@ use std::alloc::Global;
 use std::test::Fail;
 use tree_model::{Bytes, FileRef, Kind, Link, Name, NameList, Node};
 
-// A tree that can't be known: below the root stands a directory 65 with the name `d`, and in each of
-// these a file 72 with the name `old`. One question fails, by its number from 0 on.
+// A tree that can't be known: below the root stands a directory 65 with the name `d`, and in each
+// of these a file 72 with the name `old`. One question fails, by its number from 0 on.
 #[derive(Drop)]
 struct Failing {
     asked: u64,

@@ -38,8 +38,8 @@ fn node(number: u64, kind: Kind, why: Option<Why>, bytes: Bytes) -> Node {
     }
 }
 
-// The root, two files of the volume itself, five directories, of which three are fixed, six files that
-// are fixed, and one of two bytes, of which one is initialised.
+// The root, two files of the volume itself, five directories, of which three are fixed, six files
+// that are fixed, and one of two bytes, of which one is initialised.
 fn nodes(alloc: Global) -> Result<NodeList, Fail> {
     let mut nodes = NodeList::new(alloc);
     for (number, kind, why) in [

@@ -41,8 +41,8 @@ static INFO: [Edit; 7] = [
     Edit(0x68, &[0xCD, 0xAB, 0x65, 0x87, 0x21, 0x43, 0xDB, 0x01]),
 ];
 
-// The name of 0x44 bytes, which an index lists: its directory, the times, no sizes, the flag, one unit,
-// the namespace POSIX; and data without bytes.
+// The name of 0x44 bytes, which an index lists: its directory, the times, no sizes, the flag, one
+// unit, the namespace POSIX; and data without bytes.
 static NAME: [Edit; 13] = [
     Edit(0x70, &[0x20, 0, 0, 0]),
     Edit(0x98, &[0x30, 0, 0, 0, 0x60, 0, 0, 0]),
@@ -62,9 +62,9 @@ static NAME: [Edit; 13] = [
     Edit(0x10C, &[0x18]),
 ];
 
-// Names by how many units they have, and the bytes that the record uses with one: 56 of the header, 96
-// of standard information, 24 and 66 of the name's attribute with 2 for each unit, up to the next
-// multiple of 8, 24 of data and 8 of the end mark.
+// Names by how many units they have, and the bytes that the record uses with one: 56 of the header,
+// 96 of standard information, 24 and 66 of the name's attribute with 2 for each unit, up to the
+// next multiple of 8, 24 of data and 8 of the end mark.
 static USED: [(u16, u32); 6] = [(1, 280), (3, 280), (4, 288), (7, 288), (8, 296), (255, 784)];
 
 fn root() -> FileRef
@@ -113,7 +113,8 @@ fn name_value(record: &FileRec) -> &[u8] {
     &[]
 }
 
-// The record of a name with so many letters uses these bytes, and its key those of the name's value.
+// The record of a name with so many letters uses these bytes, and its key those of the name's
+// value.
 fn has_size(alloc: Global, count: u16, bytes: u32) -> Result<bool, Fail> {
     let name = letters(alloc, count)?;
     let record = made(alloc, &name)?;

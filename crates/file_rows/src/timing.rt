@@ -13,8 +13,8 @@ const STAMP: u64 = 0x01DB_4321_8765_ABCD;
 
 static STAMP_BYTES: [u8; 8] = [0xCD, 0xAB, 0x65, 0x87, 0x21, 0x43, 0xDB, 0x01];
 
-// A record without information: its next id, the type and the id of each attribute, and then the id of
-// the information that comes, how many attributes stand before it, and the next id.
+// A record without information: its next id, the type and the id of each attribute, and then the id
+// of the information that comes, how many attributes stand before it, and the next id.
 struct Coming(u16, &'static [(u32, u16)], u16, usize, u16);
 
 // It stands by its type, before and behind others. Where the ids have come to their end, it has the
@@ -172,8 +172,8 @@ fn information_comes_with_an_id(rt: HostRuntime) -> Result<(), Fail> {
     Ok(())
 }
 
-// A record of 56 bytes of its header, 24 and so many of data, and 8 of the end mark: 96 more are too
-// many where the data has more than 840.
+// A record of 56 bytes of its header, 24 and so many of data, and 8 of the end mark: 96 more are
+// too many where the data has more than 840.
 #[test]
 fn a_record_may_be_too_full(rt: HostRuntime) -> Result<(), Fail> {
     for (count, has_room) in [(840, true), (841, false), (936, false)] {

@@ -32,7 +32,8 @@ enum Read {
     Placed(u64),
 }
 
-// A bitmap in clusters is one where its runs begin with VCN 0 and its initialised size is below 2^61.
+// A bitmap in clusters is one where its runs begin with VCN 0 and its initialised size is below
+// 2^61.
 static BITMAPS: [(Standing, Option<Read>); 7] = [
     (Standing::Nothing, None),
     (Standing::Value(0), Some(Read::Held(0))),
