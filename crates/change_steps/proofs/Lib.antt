@@ -4,3 +4,4 @@ pub mod Planning
 pub mod Changing
 pub mod Making
 pub mod Readying
+pub mod Little

@@ -45,7 +45,7 @@ use Rattle.file_puts.specs.declared.streams.VolumeStreams.{VolumeStreams}
 use Rattle.file_puts.specs.Puts.{with_bytes, first_fresh, PutsFileValue, PutsTimes, PutsSizes, PutsValue, PutsLeaving, PutsSized, PutsChange}
 use Rattle.plan_changes.specs.Bytes.{place_of, put_of}
 use Rattle.change_steps.specs.Found.{HasChange, Finds}
-use Rattle.change_steps.specs.Ready.{BareIsEnough, FilesAreReady}
+use Rattle.change_steps.specs.Ready.{BareIsEnough}
 use Rattle.change_steps.proofs.Rows.{change_rows_there}
 use Rattle.change_steps.proofs.Finding.{node_there}
 use Rattle.change_steps.proofs.Changing.{OnFile, on_file}
@@ -154,14 +154,14 @@ bare_is_enough = record {
 same_node : (o : Option Node) (a b : Node) → o ≡ Some a → o ≡ Some b → a ≡ b
 same_node o a b first second = cc
 
-found_bare : (c : Content) (v : Volume) (o : Op) (node a : Node) (r : Record) (changes : Bool) (f : OnFile c v o node changes) → IsChangeable c v node.number r a → (f.at.a ≡ a) × (node ≡ without_bytes a)
+pub found_bare : (c : Content) (v : Volume) (o : Op) (node a : Node) (r : Record) (changes : Bool) (f : OnFile c v o node changes) → IsChangeable c v node.number r a → (f.at.a ≡ a) × (node ≡ without_bytes a)
 found_bare c v o node a r changes f k =
     let t = tree_of c v in
     let numbers : node.number ≡ f.at.a.number = ap (λ (x : Node). x.number) f.at.bare in
     let same : f.at.a ≡ a = same_node (node_by_number t.nodes node.number) f.at.a a (ap (node_by_number t.nodes) numbers ∙ node_there (upper_of c v) t f.path f.at.a f.at.walked) k.node in
     (same, f.at.bare ∙ ap without_bytes same)
 
-shows : (c : Content) (g : Geometry) (clusters : ℕ) (v : Volume) (o : Op) (node a : Node) (r : Record) (changes : Bool) → HasChange c g clusters v o → Finds c v o (found.File node changes) → IsChangeable c v node.number r a → ShowsData node r
+pub shows : (c : Content) (g : Geometry) (clusters : ℕ) (v : Volume) (o : Op) (node a : Node) (r : Record) (changes : Bool) → HasChange c g clusters v o → Finds c v o (found.File node changes) → IsChangeable c v node.number r a → ShowsData node r
 shows c g clusters v o node a r changes has finds k =
     let both = found_bare c v o node a r changes (on_file c v o node changes has.changes finds) k in
     let shown = node_shows c v node.number r a k in
@@ -233,7 +233,7 @@ room_at c v o a r clusters fits grows =
     let after = clusters_grown o a grows in
     omega (arith, more, runs, room, after, clusters, fits)
 
-room : (c : Content) (g : Geometry) (clusters : ℕ) (v : Volume) (o : Op) (node a : Node) (r : Record) → HasChange c g clusters v o → Finds c v o (found.File node true) → IsChangeable c v node.number r a → shrinks o node ≡ false
+pub room : (c : Content) (g : Geometry) (clusters : ℕ) (v : Volume) (o : Op) (node a : Node) (r : Record) → HasChange c g clusters v o → Finds c v o (found.File node true) → IsChangeable c v node.number r a → shrinks o node ≡ false
     → more_of (growth_of (cluster_bits c v) r o node) ≤ count_by not (cluster_bits c v)
 room c g clusters v o node a r has finds k grows =
     let t = tree_of c v in
@@ -249,6 +249,3 @@ room c g clusters v o node a r has finds k grows =
     let there = room_at c v o at r clusters_there (omega (arith, fits, part)) grows_there in
     let growths : growth_of (cluster_bits c v) r o node ≡ growth_of (cluster_bits c v) r o at = ap (growth_of (cluster_bits c v) r o) f.at.bare ∙ ap (λ (z : Comes). z.growth) (comes_bare (cluster_bits c v) r o at) in
     subst (λ (x : Growth). more_of x ≤ count_by not (cluster_bits c v)) (sym growths) there
-
-pub files_are_ready : FilesAreReady
-files_are_ready = record { shows = shows; room = room }

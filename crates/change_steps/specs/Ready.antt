@@ -1,6 +1,7 @@
 -- What the calls that write or cut a file ask for, of a file that was found without its bytes.
-use Rattle.std.specs.Prelude.{◌≡◌, ℕ, ◌≤◌, Bool, true, false, not, List, count_by}
+use Rattle.std.specs.Prelude.{◌≡◌, ℕ, ◌+◌, ◌^◌, ◌≤◌, Bool, true, false, not, List, count_by}
 use Rattle.disk_model.specs.Content.{Content}
+use Rattle.record_model.specs.Pairs.{cluster_limit}
 use Rattle.record_model.specs.Records.{Record}
 use Rattle.file_tree.specs.declared.node.Node.{Node}
 use Rattle.file_tree.specs.Trees.{without_bytes}
@@ -12,8 +13,9 @@ use Rattle.change_lookup.specs.declared.found.Found.TheVariants.{File}
 use Rattle.step_model.specs.Placing.{Growth, more_of}
 use Rattle.plan_changes.specs.Files.{IsChangeable}
 use Rattle.plan_draft.specs.declared.touched.Touched.{Touched}
+use Rattle.record_streams.specs.Fitting.{FitsButRoom}
 use Rattle.data_plan.specs.declared.change.DataChange.{DataChange}
-use Rattle.data_plan.specs.Changes.{ShowsData, growth_of, row_of, IsChange}
+use Rattle.data_plan.specs.Changes.{ShowsData, GrowsLittle, growth_of, row_of, IsChange}
 use Rattle.file_puts.specs.declared.streams.VolumeStreams.{VolumeStreams}
 use Rattle.file_puts.specs.Puts.{PutsChange}
 use Rattle.change_steps.specs.Found.{HasChange, Finds}
@@ -25,8 +27,11 @@ pub record BareIsEnough : Type 0 where
   pub change : (g : Growth) (r : Record) (op : Op) (a : Node) (change : DataChange) → IsChange g r op (without_bytes a) change → IsChange g r op a change
   pub puts : (c : Content) (s : VolumeStreams) (n : ℕ) (op : Op) (a : Node) (stamp : ℕ) (r : Record) (change : DataChange) (old new : List Touched) → PutsChange c s n op (without_bytes a) stamp r change old new → PutsChange c s n op a stamp r change old new
 
--- A file that was found to be changed shows its data, and where it isn't cut, as many clusters are free as it takes.
+-- A file that was found to be changed shows its data, and comes to have few clusters more. Where it isn't cut, as many clusters are free as
+-- it takes.
 pub record FilesAreReady : Type 0 where
   pub shows : (c : Content) (g : Geometry) (clusters : ℕ) (v : Volume) (op : Op) (node a : Node) (r : Record) (changes : Bool) → HasChange c g clusters v op → Finds c v op (File node changes) → IsChangeable c v node.number r a → ShowsData node r
   pub room : (c : Content) (g : Geometry) (clusters : ℕ) (v : Volume) (op : Op) (node a : Node) (r : Record) → HasChange c g clusters v op → Finds c v op (File node true) → IsChangeable c v node.number r a → shrinks op node ≡ false
       → more_of (growth_of (cluster_bits c v) r op node) ≤ count_by not (cluster_bits c v)
+  pub little : (c : Content) (g : Geometry) (clusters : ℕ) (v : Volume) (op : Op) (node a : Node) (r : Record) → HasChange c g clusters v op → Finds c v op (File node true) → IsChangeable c v node.number r a → FitsButRoom r → node.clusters + 2 ^ 15 ≤ cluster_limit
+      → GrowsLittle op node

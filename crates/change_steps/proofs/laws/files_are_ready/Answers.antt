@@ -1,4 +1,4 @@
-use Rattle.change_steps.proofs.Readying.{files_are_ready}
+use Rattle.change_steps.proofs.Little.{files_are_ready}
 use Rattle.change_steps.proofs.laws.files_are_ready.Goals as goal
 
 pub returns : goal.returns
