@@ -1,16 +1,14 @@
 //! A file that is written or cut.
-ghost use Rattle.std.specs.Prelude.{◌≡◌, ◌<◌, ℕ, IfErr, IfOk, IfSome, OnOk, OnErr, not, count_by, length};
+ghost use Rattle.std.specs.Prelude.{◌≡◌, ◌<◌, IfErr, IfSome, OnOk, not, count_by, length};
 ghost use Rattle.block_view.specs.Views.{AsksView};
-ghost use Rattle.file_tree.specs.declared.node.Node.{Node as the_node};
-ghost use Rattle.state_model.specs.declared.geometry.Geometry.{Geometry};
-ghost use Rattle.volume_model.specs.Volumes.{Volume};
 ghost use Rattle.space_model.specs.Choosing.{with_runs};
 ghost use Rattle.step_model.specs.Placing.{more_of};
 ghost use Rattle.data_plan.specs.Changes.{growth_of};
 ghost use Rattle.file_writes.specs.Faults.{write_cause, IsShortOf, StaysWhereRefused};
 ghost use Rattle.file_writes.specs.Writing.{MayWrite};
-ghost use Rattle.file_changes.specs.Steps.{IsAsked, StepsTo, StepsFrom};
+ghost use Rattle.file_changes.specs.Calls.{IsAsked, StepsTo, StepsFrom};
 
+use crate::laws::writes_are_steps;
 use block_view::View;
 use change_steps::{bare_is_enough, changes_are_steps};
 use file_puts::VolumeStreams;
@@ -22,7 +20,6 @@ use plan_space::FreeBits;
 use state_model::ClusterSize;
 use std::alloc::Global;
 use tree_model::Op;
-use write_steps::writes_are_steps;
 
 /// Writes or cuts the file that an operation was found to change
 /// ([`change_found`](change_lookup::change_found)), in a draft that touched nothing before

@@ -5,8 +5,10 @@
 #![tactic(auto)]
 
 mod changing;
+mod laws;
 
 pub use changing::change_file;
 pub use file_writes::{
     ClusterSize, Draft, FileRec, FreeBits, Node, Op, View, VolumeStreams, WriteFault,
 };
+pub use laws::{writes_are_done, writes_are_steps};

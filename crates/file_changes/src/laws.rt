@@ -1,6 +1,8 @@
-//! The law of these definitions.
-ghost use Rattle.written_files.specs.Writes.{WritesAreDone};
+//! The laws of these definitions.
+ghost use Rattle.file_changes.specs.Writes.{WritesAreDone};
+ghost use Rattle.file_changes.specs.Steps.{WritesAreSteps};
 
+use change_steps::{changes_are_steps, drafts_are_written};
 use written_clusters::{growth_is_done, leaving_is_done, longer_is_done};
 use written_values::{cuts_are_done, shorter_are_done, values_are_done};
 
@@ -16,4 +18,14 @@ pub fn writes_are_done()
     longer_is_done();
     growth_is_done();
     leaving_is_done();
+}
+
+/// Law: where an operation is found to write or cut a file, and a draft has put what comes of the
+/// file's data, its content has taken the step of that operation.
+pub fn writes_are_steps()
+    ensures { WritesAreSteps }
+{
+    writes_are_done();
+    drafts_are_written();
+    changes_are_steps();
 }

@@ -16,7 +16,7 @@ use Rattle.file_puts.specs.declared.streams.VolumeStreams.{VolumeStreams}
 use Rattle.file_puts.specs.Written.{WritesFile, HasWritten}
 use Rattle.written_values.specs.Laws.{ValuesAreDone, ShorterAreDone, CutsAreDone}
 use Rattle.written_clusters.specs.Done.{HasClusters, LongerIsDone, GrowthIsDone, LeavingIsDone}
-use Rattle.written_files.specs.Writes.{LeavesWhole, WritesAreDone}
+use Rattle.file_changes.specs.Writes.{LeavesWhole, WritesAreDone}
 
 pub joined : ValuesAreDone → ShorterAreDone → CutsAreDone → LongerIsDone → GrowthIsDone → LeavingIsDone → WritesAreDone
 joined values shorter cuts longer growth leaving c g clusters v s op n stamp a r (change.Stays size) new has whole w = values c g clusters v s op n stamp a r size new w
