@@ -1,0 +1,11 @@
+pub mod Now
+pub mod Restreaming
+pub mod FreeBits
+pub mod FreeRuns
+pub mod OwnRuns
+pub mod Longer
+pub mod Shorter
+pub mod Between
+pub mod Taking
+pub mod Giving
+pub mod Rooms
