@@ -94,7 +94,7 @@ use Rattle.plan_edits.proofs.Recording.{no_sector}
 use Rattle.table_edits.proofs.Steps.{bitmap_goes, IsComing, IsOfBitmap}
 use Rattle.bitmap_edits.specs.Bitmaps.{in_range, IsClusterBitmap, KeepsOwners, PutsFreeBits, RoomDiffers, StandsAs}
 use Rattle.bitmap_edits.proofs.Now.{alike_itself, alike_written, AreAlike, HasNow, now_by, now_itself}
-use Rattle.bitmap_edits.proofs.Restreaming.{clusters_now, file_there, five_by, Follows, GoesTo, IsOneFile, now_leads, now_tree, one_edit, owned_once, owned_set, reads_on, same_files, six_by, which}
+use Rattle.bitmap_edits.proofs.Restreaming.{as_far, clusters_now, file_there, five_by, Follows, GoesTo, IsOneFile, now_leads, now_tree, one_edit, owned_once, owned_set, reads_on, same_files, six_by, which}
 
 -- ---- records in use
 
@@ -356,9 +356,9 @@ module _ (c : Content) (g : Geometry) (clusters : ℕ) (v : Volume) (mirror : Ex
       in (
         written_record after.file,
         other_put after k.stands room (ap (λ (x : Bitmap). x.number) becomes) (ap (λ (x : Bitmap). x.kind) becomes) other (ap (λ (x : Stream). fits_volume v.per v.clusters (Some x)) stream_is)
-            (subst IsInUse (sym file_is) (valued_used data_type [] bytes p (attributes_of data_type [] p.attrs) k.bitmap.used))
-            (ap (λ (x : Record). are_joined (attributes_of data_type [] x.attrs)) file_is ∙ ap are_joined (values_put.one data_type [] bytes p pieces.0 pieces.1 pieces.2))
-            (ap (λ (x : Stream). runs_in (Some x)) stream_is ∙ sym (ap (λ (x : Stream). runs_in (Some x)) is)) (ap real_size stream_is ∙ same ∙ sym (ap real_size is)) put,
+        (subst IsInUse (sym file_is) (valued_used data_type [] bytes p (attributes_of data_type [] p.attrs) k.bitmap.used))
+        (ap (λ (x : Record). are_joined (attributes_of data_type [] x.attrs)) file_is ∙ ap are_joined (values_put.one data_type [] bytes p pieces.0 pieces.1 pieces.2))
+        (ap (λ (x : Stream). runs_in (Some x)) stream_is ∙ sym (ap (λ (x : Stream). runs_in (Some x)) is)) (ap real_size stream_is ∙ same ∙ sym (ap real_size is)) put,
       )
 
   higher : (e : Extents) → b.stream ≡ Placed e → after ≡ with_extents v.per (raised first len e) b → fits_room after.file ≡ Ok tt → body_in (bodies_of new) block.0 ≡ Some (own_bytes after) → Result after
@@ -378,9 +378,9 @@ module _ (c : Content) (g : Geometry) (clusters : ℕ) (v : Volume) (mirror : Ex
       let fits : fits_volume v.per v.clusters (Some (Placed f)) ≡ true = raised_fits v.per v.clusters first len e ends (sym (ap (λ (x : Stream). fits_volume v.per v.clusters (Some x)) is) ∙ fits_was) in (
         written_record after.file,
         other_put after k.stands room (ap (λ (x : Bitmap). x.number) becomes) (ap (λ (x : Bitmap). x.kind) becomes) other (ap (λ (x : Stream). fits_volume v.per v.clusters (Some x)) stream_is ∙ fits)
-            (subst IsInUse (sym file_is) (written_read.placed v.per data_type [] f p spelled k.bitmap.used))
-            (ap (λ (x : Record). are_joined (attributes_of data_type [] x.attrs)) file_is ∙ ap are_joined (placed_one v.per data_type [] f p pieces.0 pieces.1 pieces.2))
-            (ap (λ (x : Stream). runs_in (Some x)) stream_is ∙ sym (ap (λ (x : Stream). runs_in (Some x)) is)) (ap real_size stream_is ∙ sym (ap real_size is)) put,
+        (subst IsInUse (sym file_is) (written_read.placed v.per data_type [] f p spelled k.bitmap.used))
+        (ap (λ (x : Record). are_joined (attributes_of data_type [] x.attrs)) file_is ∙ ap are_joined (placed_one v.per data_type [] f p pieces.0 pieces.1 pieces.2))
+        (ap (λ (x : Stream). runs_in (Some x)) stream_is ∙ sym (ap (λ (x : Stream). runs_in (Some x)) is)) (ap real_size stream_is ∙ sym (ap real_size is)) put,
       )
 
   below : (e : Extents) → PutsBits c v.per e first len value old new → after ≡ b → Result after
@@ -498,10 +498,10 @@ module _ (c : Content) (g : Geometry) (clusters : ℕ) (v : Volume) (mirror : Ex
   one_file = record { file = k.bitmap.is_file; table = λ e. omega (arith, e); upcase = λ e. omega (arith, e); no_list = no_list }
 
   leads : LeadsTo (is_edited (one_edit bitmap_file s)) d v (content_with d bodies) g clusters w
-  leads = now_leads d g clusters v bitmap_file data_type [] b.stream after.stream r put_as.0 bodies sized_d eight state one_file new_is.now follows slot each five six bitmaps
+  leads = now_leads d g clusters v bitmap_file data_type [] b.stream after.stream r put_as.0 bodies sized_d eight state one_file new_is.now follows slot (as_far v bitmap_file bodies each) five six bitmaps
 
   which_of : (t : StreamKey) → (t ≡ bitmap_key) ⊎ (stream_at w t ≡ stream_at v t)
-  which_of = which d g clusters v bitmap_file data_type [] b.stream after.stream r put_as.0 bodies sized_d eight state one_file new_is.now follows slot each five six bitmaps
+  which_of = which d g clusters v bitmap_file data_type [] b.stream after.stream r put_as.0 bodies sized_d eight state one_file new_is.now follows slot (as_far v bitmap_file bodies each) five six bitmaps
 
   runs_stay : (t : StreamKey) → runs_in (stream_at w t) ≡ runs_in (stream_at v t)
   runs_stay t = elim (which_of t) [
@@ -542,7 +542,7 @@ module _ (c : Content) (g : Geometry) (clusters : ℕ) (v : Volume) (mirror : Ex
     | inl same ↦ absurd (both_ways (marks_streams t) apart (ap marks_streams same ∙ mark))
     | inr stays ↦
         ap (bytes_or (content_with d bodies) v.per) stays
-        ∙ reads_on d g clusters v bitmap_file data_type [] b.stream after.stream r put_as.0 bodies sized_d eight state one_file new_is.now follows slot each five six bitmaps t apart other
+        ∙ reads_on d g clusters v bitmap_file data_type [] b.stream after.stream r put_as.0 bodies sized_d eight state one_file new_is.now follows slot (as_far v bitmap_file bodies each) five six bitmaps t apart other
   ]
 
   -- ---- the tree
@@ -561,14 +561,14 @@ module _ (c : Content) (g : Geometry) (clusters : ℕ) (v : Volume) (mirror : Ex
 
   node_stays : node_by_number (tree_of (content_with d bodies) w).nodes bitmap_file ≡ node_by_number (tree_of d v).nodes bitmap_file
   node_stays =
-      (now_tree d g clusters v bitmap_file data_type [] b.stream after.stream r put_as.0 bodies sized_d eight state one_file new_is.now follows slot each five six bitmaps whole_was).node
+      (now_tree d g clusters v bitmap_file data_type [] b.stream after.stream r put_as.0 bodies sized_d eight state one_file new_is.now follows slot (as_far v bitmap_file bodies each) five six bitmaps whole_was).node
       ∙ ap (λ (o : Option Stream). option_map (with_data o (bytes_or (content_with d bodies) v.per o)) (node_by_number (tree_of d v).nodes bitmap_file)) (shown_none put_as.0)
       ∙ same_change d v bitmap_file r (with_data None []) (λ (a : Node). a) k.bitmap.is_file (same_node (kind_in v bitmap_file r) (data_shown (kind_in v bitmap_file r) r) (shown_none r))
       ∙ option_same (node_by_number (tree_of d v).nodes bitmap_file)
 
   tree_stays : RoomDiffers (tree_of d v) (tree_of (content_with d bodies) w)
   tree_stays =
-      let follow = now_tree d g clusters v bitmap_file data_type [] b.stream after.stream r put_as.0 bodies sized_d eight state one_file new_is.now follows slot each five six bitmaps whole_was in
+      let follow = now_tree d g clusters v bitmap_file data_type [] b.stream after.stream r put_as.0 bodies sized_d eight state one_file new_is.now follows slot (as_far v bitmap_file bodies each) five six bitmaps whole_was in
       record {
         nodes = λ m. elim (cases_eq m bitmap_file) [
           | inl same ↦ subst (λ (x : ℕ). node_by_number (tree_of (content_with d bodies) w).nodes x ≡ node_by_number (tree_of d v).nodes x) (sym same) node_stays
@@ -590,7 +590,7 @@ module _ (c : Content) (g : Geometry) (clusters : ℕ) (v : Volume) (mirror : Ex
     clusters_stay = refl;
     table = refl;
     count_stays = leads.count;
-    files = same_files d g clusters v bitmap_file data_type [] b.stream after.stream r put_as.0 bodies sized_d eight state one_file new_is.now follows slot each five six bitmaps;
+    files = same_files d g clusters v bitmap_file data_type [] b.stream after.stream r put_as.0 bodies sized_d eight state one_file new_is.now follows slot (as_far v bitmap_file bodies each) five six bitmaps;
     runs = runs_stay;
     sizes = λ t differ. elim (which_of t) [
       | inl same ↦ absurd (differ (sym same))

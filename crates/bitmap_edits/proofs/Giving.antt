@@ -65,6 +65,7 @@ use Rattle.bitmap_edits.proofs.Longer.{grown_reads, takes_runs, TakesSet}
 use Rattle.bitmap_edits.proofs.OwnRuns.{all_owned, bits_stay, file_now, files_stay, leads, live_before, MovesRuns, owned_or_new, owners, stream_now, tree}
 use Rattle.bitmap_edits.proofs.Shorter.{back_inside, cut_reads, gives_runs_back, GivesSet, old_inside, uses_split}
 use Rattle.bitmap_edits.proofs.Between.{bitmap_beside, clear_free, clear_in, mirror_between, out_of, own_between, owned_as_before, set_in}
+use Rattle.bitmap_edits.proofs.Moving.{has_moved}
 use Rattle.bitmap_edits.proofs.Taking.{has_grown}
 
 -- ---- shorter runs
@@ -119,11 +120,11 @@ module _ (c : Content) (g : Geometry) (clusters : ℕ) (v : Volume) (mirror : Ex
     marked = λ x low. ap (λ (l : List Bool). bit l x) edit.marked;
   }
 
-  moves : MovesRuns d v n kind name e f r z.file s edit.bodies
+  moves : MovesRuns d v n kind name (Placed e) f r z.file s edit.bodies
   moves = gives_runs_back d g clusters v n kind name e r size z s edit.bodies sized_d eight state gives
 
   state_w : Stands (drafted mid c) g clusters w
-  state_w = subst (λ (y : Content). Stands y g clusters (with_record v n s)) edit.edits.content (leads d g clusters v n kind name e f r z.file s edit.bodies sized_d eight state moves).stands
+  state_w = subst (λ (y : Content). Stands y g clusters (with_record v n s)) edit.edits.content (leads d g clusters v n kind name (Placed e) f r z.file s edit.bodies sized_d eight state moves).stands
 
   abbrev freed : List Run
   freed = z.freed.items
@@ -133,13 +134,13 @@ module _ (c : Content) (g : Geometry) (clusters : ℕ) (v : Volume) (mirror : Ex
 
   owners_between : (x : ℕ) → uses (volume_runs w.files) x + uses freed x ≡ uses (volume_runs v.files) x
   owners_between x =
-      let sums = owners d g clusters v n kind name e f r z.file s edit.bodies sized_d eight state moves x in
+      let sums = owners d g clusters v n kind name (Placed e) f r z.file s edit.bodies sized_d eight state moves x in
       let split = uses_split d g clusters v n kind name e r size z s edit.bodies sized_d eight state gives x in
       let same : uses z.freed.items x ≡ uses (back (clusters_for v.per size) e.runs) x = ap (λ (l : List Run). uses l x) k.cut.freed in
       omega (arith, sums, split, same)
 
   same_others : (m : ℕ) → m ≢ n → file_in w m ≡ file_in v m
-  same_others = files_stay d g clusters v n kind name e f r z.file s edit.bodies sized_d eight state moves
+  same_others = files_stay d g clusters v n kind name (Placed e) f r z.file s edit.bodies sized_d eight state moves
 
   mirror_w : extents_or (stream_at w mirror_key) ≡ mirror
   mirror_w = ap (λ (o : Option Record). extents_or (file_stream data_type [] o)) (same_others mirror_file (λ e. k.no_mirror (sym e))) ∙ k.draft.mirror_is
@@ -180,7 +181,7 @@ module _ (c : Content) (g : Geometry) (clusters : ℕ) (v : Volume) (mirror : Ex
       ap (λ (y : Content). bit (cluster_bits y bits.volume) x) (edits.content ∙ sym bits.edits.content)
       ∙ bits.bits x low
       ∙ ap (λ (y : Content). cond (leb 1 (uses freed x)) false (bit (cluster_bits y (with_record v n s)) x)) (sym edit.edits.content)
-      ∙ ap (λ (t : Bool). cond (leb 1 (uses freed x)) false t) (bits_stay d g clusters v n kind name e f r z.file s edit.bodies sized_d eight state moves x low)
+      ∙ ap (λ (t : Bool). cond (leb 1 (uses freed x)) false t) (bits_stay d g clusters v n kind name (Placed e) f r z.file s edit.bodies sized_d eight state moves x low)
 
   as_clusters : (x : ℕ) → x < clusters → x < v.clusters
   as_clusters x low = subst (λ (y : ℕ). x < y) (clusters_are d g clusters v state) low
@@ -193,7 +194,7 @@ module _ (c : Content) (g : Geometry) (clusters : ℕ) (v : Volume) (mirror : Ex
   }
 
   takes_kind : (gave : ℕ → Option BlockKind) (other : BlockKind) (x : ℕ) → OwnsAs u other x → OwnsAs v other x ⊎ (gave x ≡ Some other)
-  takes_kind gave other x owns = elim (owned_or_new d g clusters v n kind name e f r z.file s edit.bodies sized_d eight state moves other x (owned_as_before (drafted mid c) g clusters (with_record v n s) bits.bodies bits.volume other x bits.keeps owns)) [
+  takes_kind gave other x owns = elim (owned_or_new d g clusters v n kind name (Placed e) f r z.file s edit.bodies sized_d eight state moves other x (owned_as_before (drafted mid c) g clusters (with_record v n s) bits.bodies bits.volume other x bits.keeps owns)) [
     | inl was ↦ inl was
     | inr is ↦
         (let split = uses_split d g clusters v n kind name e r size z s edit.bodies sized_d eight state gives x in
@@ -204,7 +205,10 @@ module _ (c : Content) (g : Geometry) (clusters : ℕ) (v : Volume) (mirror : Ex
 
   covered : (x : Block) → IsLive u x → IsLive v x ⊎ IsPut bodies x
   covered x live = elim (bits.keeps.covers x live) [
-    | inl before ↦ inl (live_before d g clusters v n kind name e f r z.file s edit.bodies sized_d eight state moves x before)
+    | inl between ↦ elim (live_before d g clusters v n kind name (Placed e) f r z.file s edit.bodies sized_d eight state moves x between) [
+      | inl was ↦ inl was
+      | inr put ↦ inr (put_first edit.bodies bits.bodies x bits.keeps.whole put)
+    ]
     | inr put ↦ inr (put_second edit.bodies bits.bodies x bits.keeps.whole put)
   ]
 
@@ -219,7 +223,7 @@ module _ (c : Content) (g : Geometry) (clusters : ℕ) (v : Volume) (mirror : Ex
   owned : AllByRecursion (λ q. Owns v q.block ⊎ Owns u q.block) bodies
   owned =
       all_in_both (λ q. Owns v q.block ⊎ Owns u q.block) edit.bodies bits.bodies
-      (all_by (λ q. Owns v q.block) (λ q. Owns v q.block ⊎ Owns u q.block) (λ q owns. inl owns) edit.bodies (all_owned d g clusters v n kind name e f r z.file s edit.bodies sized_d eight state moves))
+      (all_by (λ q. Owns v q.block) (λ q. Owns v q.block ⊎ Owns u q.block) (λ q owns. inl owns) edit.bodies (all_owned d g clusters v n kind name (Placed e) f r z.file s edit.bodies sized_d eight state moves edit.puts.each))
       (all_by (λ q. Owns w q.block) (λ q. Owns v q.block ⊎ Owns u q.block) (λ q owns. inr (owns_last q.block owns)) bits.bodies bits.keeps.owned)
 
   goes_on : (begin : Content) (start : Volume) (gave : ℕ → Option BlockKind) → ((other : BlockKind) (x : ℕ) → gave x ≡ Some other → bit (cluster_bits begin start) x ≡ false) → GoesOn begin start d g clusters v bodies u gave gave
@@ -238,7 +242,7 @@ module _ (c : Content) (g : Geometry) (clusters : ℕ) (v : Volume) (mirror : Ex
   table_apart same = k.own.apart.table (sym (ap (λ (t : StreamKey). t.file) same))
 
   stream_between : stream_at w key ≡ Some (Placed f)
-  stream_between = stream_now d g clusters v n kind name e f r z.file s edit.bodies sized_d eight state moves
+  stream_between = stream_now d g clusters v n kind name (Placed e) f r z.file s edit.bodies sized_d eight state moves
 
   bytes : marks_streams key ≡ false → bytes_or (drafted new c) v.per (stream_at u key) ≡ take size (bytes_or (drafted old c) v.per (stream_at v key))
   bytes apart =
@@ -249,7 +253,7 @@ module _ (c : Content) (g : Geometry) (clusters : ℕ) (v : Volume) (mirror : Ex
       ∙ cut_reads d g clusters v n kind name e r size z s edit.bodies sized_d eight state gives apart
 
   own_file : file_in w n ≡ Some s
-  own_file = file_now d g clusters v n kind name e f r z.file s edit.bodies sized_d eight state moves
+  own_file = file_now d g clusters v n kind name (Placed e) f r z.file s edit.bodies sized_d eight state moves
 
   pub has_cut : HasCut c g clusters v n kind name e r size z old mid new after
   has_cut = record {
@@ -260,10 +264,10 @@ module _ (c : Content) (g : Geometry) (clusters : ℕ) (v : Volume) (mirror : Ex
     stream = stream_between ∙ ap (λ (x : Extents). Some (Placed x)) (sym k.cut.extents);
     files = λ m other apart. bits.keeps.files m apart ∙ same_others m other;
     own_file = bits.keeps.files n k.own.apart.bitmap ∙ own_file;
-    tree = λ whole. subst (λ (y : Content). TreeFollows d y v n r s) edit.edits.content (tree d g clusters v n kind name e f r z.file s edit.bodies sized_d eight state moves whole);
+    tree = λ whole. subst (λ (y : Content). TreeFollows d y v n r s) edit.edits.content (tree d g clusters v n kind name (Placed e) f r z.file s edit.bodies sized_d eight state moves whole);
     bytes = bytes;
     goes_on = goes_on;
   }
 
 pub resized_edit : ResizedWithBits
-resized_edit = record { grown = has_grown; cut = has_cut }
+resized_edit = record { grown = has_grown; cut = has_cut; moved = has_moved }

@@ -5,7 +5,9 @@ pub mod FreeRuns
 pub mod OwnRuns
 pub mod Longer
 pub mod Shorter
+pub mod Leaving
 pub mod Between
 pub mod Taking
+pub mod Moving
 pub mod Giving
 pub mod Rooms

@@ -15,15 +15,17 @@ use Rattle.record_model.specs.Pairs.{cluster_limit, HasSpelling}
 use Rattle.bit_set.specs.Bits.{bit}
 use Rattle.state_model.specs.declared.geometry.Geometry.{Geometry}
 use Rattle.state_model.specs.declared.stream.Extents.{Extents}
+use Rattle.state_model.specs.declared.stream.Stream.{Stream}
 use Rattle.state_model.specs.declared.stream.Stream.TheVariants.{Placed}
 use Rattle.state_model.specs.Loads.{total_clusters}
 use Rattle.state_model.specs.Streams.{block_at, extent_bytes}
-use Rattle.volume_model.specs.Volumes.{Volume, bytes_or, cluster_bits}
+use Rattle.volume_model.specs.Volumes.{Volume, bytes_or, cluster_bits, file_stream}
 use Rattle.volume_model.specs.Indexes.{void_block, or_void, index_block, runs_end, block_count, blocks_of, stream_blocks}
 use Rattle.volume_model.specs.Owners.{uses, volume_runs}
 use Rattle.volume_model.specs.Sizes.{fits_volume, has_sizes, is_hole, lies_inside}
 use Rattle.stream_laws.specs.Places.{AreOnce}
-use Rattle.stream_laws.specs.Sharing.{stream_at}
+use Rattle.stream_laws.specs.Owners.{initialised_in, IsLive, stream_kind}
+use Rattle.stream_laws.specs.Sharing.{runs_in, stream_at}
 use Rattle.stream_laws.proofs.Changing.{length-extent_bytes}
 use Rattle.stream_laws.proofs.Framing.{same_map}
 use Rattle.stream_laws.proofs.Growing.{stream_cut as front_bytes}
@@ -35,14 +37,16 @@ use Rattle.resized_streams.specs.declared.resized.Resized.{Resized}
 use Rattle.resized_streams.specs.Resizing.{IsGrown, lengthened}
 use Rattle.plan_owners.specs.States.{Stands}
 use Rattle.plan_bodies.specs.Bodies.{content_with, NewBody}
+use Rattle.plan_model.specs.Drafts.{IsPut}
 use Rattle.plan_model.proofs.Drafting.{per_is}
 use Rattle.plan_growth.specs.Streams.{IsOwnStream, IsWritten, key_of, marks_streams, PutsFile}
 use Rattle.plan_growth.proofs.Alike.{one_cluster, SamePlaces, untorn_alike}
 use Rattle.plan_growth.proofs.Growing.{counted, still_allocated, total-grown, uses-grown}
 use Rattle.plan_growth.proofs.Ruled.{sizes_lawful, stream_fits}
 use Rattle.plan_growth.proofs.Runs.{end_is_total, grown_inside, grown_whole}
-use Rattle.bitmap_edits.proofs.OwnRuns.{MovesRuns, reads_stay}
-use Rattle.bitmap_edits.proofs.Restreaming.{Follows, owned_once}
+use Rattle.plan_table.proofs.Remade.{HasOther, placed_other}
+use Rattle.bitmap_edits.proofs.OwnRuns.{MovesRuns, own_other, reads_stay}
+use Rattle.bitmap_edits.proofs.Restreaming.{as_far, Follows, owned_once}
 
 -- a block that begins below so many bytes of clusters lies in one of them
 begins_in : (kind : BlockKind) (m total initialised : ℕ) → 512 * (sectors kind * m) < initialised → initialised ≤ total * (512 * 8) → sectors kind * m / 8 < total
@@ -147,20 +151,32 @@ module _ (c : Content) (g : Geometry) (clusters : ℕ) (v : Volume) (n kind : �
         | inr none ↦ omega (arith, sum, most, none)
       ]
 
-  pub takes_runs : MovesRuns c v n kind name e (lengthened v.per more e) r z.file s bodies
+  stream_before : stream_at v (key_of n kind name) ≡ Some (Placed e)
+  stream_before = ap (file_stream kind name) k.own.file ∙ k.own.stream
+
+  -- a block of it that is live was so
+  live_so : (m : ℕ) (b : Block) → block_at v.per f.runs (stream_kind (key_of n kind name)) m ≡ Some b → 512 * (sectors (stream_kind (key_of n kind name)) * m) < f.initialised → IsLive v b ⊎ IsPut bodies b
+  live_so m b lies begins =
+      inl
+      (record {
+        owned = record { stream = key_of n kind name; number = m; lies = ap (λ (o : Option Stream). block_at v.per (runs_in o) (stream_kind (key_of n kind name)) m) stream_before ∙ sym (places (stream_kind (key_of n kind name)) m begins) ∙ lies };
+        begins = subst (λ (o : Option Stream). 512 * (sectors (stream_kind (key_of n kind name)) * m) < initialised_in o) (sym stream_before) (omega (arith, begins));
+      })
+
+  pub takes_runs : MovesRuns c v n kind name (Placed e) (lengthened v.per more e) r z.file s bodies
   takes_runs = record {
     own = k.own;
-    spelled = spelled_now;
-    file = k.grown.file;
+    one = subst (HasOther v.per v.clusters kind name (Placed e) (Placed f) r) (sym k.grown.file) (placed_other v.per v.clusters kind name e f r (own_other v n kind name r (Placed e) k.own) spelled_now k.own.stream);
     written = k.written;
-    puts = k.puts;
+    whole = k.puts.whole;
+    anew = k.puts.anew;
+    each = as_far v n bodies k.puts.each;
     marked = k.marked;
     fits = new_fits;
     follows = follows;
     once = once_now;
     set = λ x low some none. k.set x low (let sum = uses-grown e.runs more x in omega (arith, sum, some, none));
-    places = places;
-    less = omega arith;
+    live = live_so;
   }
 
   all_front : (bytes : List ℕ) (size : ℕ) → length bytes ≡ size → take size bytes ≡ bytes
@@ -170,4 +186,4 @@ module _ (c : Content) (g : Geometry) (clusters : ℕ) (v : Volume) (n kind : �
   grown_reads apart =
       front_bytes d v.per e f (record { real = omega arith; initialised = (let low = old_sizes.0 in omega (arith, low)); places = λ m held. places Plain m (omega (arith, held)) })
       ∙ all_front (extent_bytes d v.per e) e.real (length-extent_bytes d v.per e)
-      ∙ reads_stay c g clusters v n kind name e f r z.file s bodies sized eight state takes_runs apart
+      ∙ reads_stay c g clusters v n kind name (Placed e) f r z.file s bodies sized eight state takes_runs apart

@@ -104,6 +104,14 @@ pub record Follows (d : Content) (v : Volume) (n kind : ℕ) (name : List ℕ) (
 abbrev pub GoesTo : Volume → ℕ → Block → Type 0
 GoesTo v n b = IsOwnedIn marks_streams v b ⊎ (block_at v.per v.table.runs FileRec n ≡ Some b)
 
+-- or it lies in clusters that no stream has, and is no index block
+abbrev pub GoesFar : Volume → ℕ → Block → Type 0
+GoesFar v n b = GoesTo v n b ⊎ (LiesFree v b × (Index ≢ b.kind))
+
+pub as_far : (v : Volume) (n : ℕ) (bodies : List NewBody) → AllByRecursion (λ q. GoesTo v n q.block) bodies → AllByRecursion (λ q. GoesFar v n q.block) bodies
+as_far v n [] all = tt
+as_far v n (q ∷ bodies) all = (inl all.0, as_far v n bodies all.1)
+
 -- ---- the files of the new volume
 
 abbrev pub one_edit : ℕ → Record → List FileEdit
@@ -186,7 +194,7 @@ asked true false y less is = ap not (less refl)
 asked true true y less is = absurd cc
 
 module _ (c : Content) (g : Geometry) (clusters : ℕ) (v : Volume) (n kind : ℕ) (name : List ℕ) (old new : Stream) (r s : Record) (bodies : List NewBody) (sized : HasSizes c) (eight : g.per_cluster ≡ 8) (state : Stands c g clusters v)
-    (own_file : IsOneFile v n r) (now : HasNow v.per v.clusters kind name old new r s) (k : Follows (content_with c bodies) v n kind name old new) (slot : table_slot (content_with c bodies) v.per v.table n ≡ Used s) (each : AllByRecursion (λ q. GoesTo v n q.block) bodies)
+    (own_file : IsOneFile v n r) (now : HasNow v.per v.clusters kind name old new r s) (k : Follows (content_with c bodies) v n kind name old new) (slot : table_slot (content_with c bodies) v.per v.table n ≡ Used s) (each : AllByRecursion (λ q. GoesFar v n q.block) bodies)
     (five : broken_5 (with_record v n s) ≡ None) (six : broken_6 (content_with c bodies) (with_record v n s) ≡ None) (bitmaps : keeps_bitmaps (with_record v n s) n ≡ true) where
   abbrev d : Content
   d = content_with c bodies
@@ -292,11 +300,12 @@ module _ (c : Content) (g : Geometry) (clusters : ℕ) (v : Volume) (n kind : �
 
   -- ---- the writes
 
-  as_write : (q : NewBody) → GoesTo v n q.block → IsInStream marks_streams v (whole_write q) ⊎ IsInRecord touched v (whole_write q) ⊎ LiesFree v (whole_write q).block
-  as_write q (inl owned) = inl (record { stream = owned.stream; chosen = owned.chosen; kind = stream_kind owned.stream; number = owned.number; lies = owned.lies })
-  as_write q (inr at) = inr (inl (record { number = n; chosen = at_own; lies = at }))
+  as_write : (q : NewBody) → GoesFar v n q.block → IsInStream marks_streams v (whole_write q) ⊎ IsInRecord touched v (whole_write q) ⊎ LiesFree v (whole_write q).block
+  as_write q (inl (inl owned)) = inl (record { stream = owned.stream; chosen = owned.chosen; kind = stream_kind owned.stream; number = owned.number; lies = owned.lies })
+  as_write q (inl (inr at)) = inr (inl (record { number = n; chosen = at_own; lies = at }))
+  as_write q (inr free) = inr (inr free.0)
 
-  each_write : (more : List NewBody) → AllByRecursion (λ q. GoesTo v n q.block) more → AllByRecursion (λ x. IsInStream marks_streams v x ⊎ IsInRecord touched v x ⊎ LiesFree v x.block) (writes_in more)
+  each_write : (more : List NewBody) → AllByRecursion (λ q. GoesFar v n q.block) more → AllByRecursion (λ x. IsInStream marks_streams v x ⊎ IsInRecord touched v x ⊎ LiesFree v x.block) (writes_in more)
   each_write [] all = tt
   each_write (q ∷ more) all = (as_write q all.0, each_write more all.1)
 
@@ -306,13 +315,14 @@ module _ (c : Content) (g : Geometry) (clusters : ℕ) (v : Volume) (n kind : �
       let kind_is : eqb t.kind data_type ≡ true = (and_parts own_file (eqb t.kind data_type) (and_parts (own_file && eqb t.kind data_type) (pointwise nat_eq t.name []) mark).0).1 in
       ne_eqb t.kind index_allocation (λ e. (let data_is : t.kind ≡ data_type = eqb-true t.kind data_type kind_is in omega (arith, e, data_is)))
 
-  not_index_kind : (q : NewBody) → GoesTo v n q.block → Index ≢ q.block.kind
-  not_index_kind q (inl owned) same =
+  not_index_kind : (q : NewBody) → GoesFar v n q.block → Index ≢ q.block.kind
+  not_index_kind q (inl (inl owned)) same =
       let kind_is : stream_kind owned.stream ≡ q.block.kind = (lies v.per (runs_in (stream_at v owned.stream)) (stream_kind owned.stream) owned.number q.block owned.lies).kind_is in
       not_allocation owned.stream (no_allocation owned.stream owned.chosen) (kind_is ∙ sym same)
-  not_index_kind q (inr at) same = let kind_is : FileRec ≡ q.block.kind = (lies v.per v.table.runs FileRec n q.block at).kind_is in absurd cc
+  not_index_kind q (inr free) same = free.1 same
+  not_index_kind q (inl (inr at)) same = let kind_is : FileRec ≡ q.block.kind = (lies v.per v.table.runs FileRec n q.block at).kind_is in absurd cc
 
-  no_void : (more : List NewBody) → AllByRecursion (λ q. GoesTo v n q.block) more → AllByRecursion (λ (x : Write). same_block void_block x.block ≡ false) (writes_in more)
+  no_void : (more : List NewBody) → AllByRecursion (λ q. GoesFar v n q.block) more → AllByRecursion (λ (x : Write). same_block void_block x.block ≡ false) (writes_in more)
   no_void [] all = tt
   no_void (q ∷ more) all = (void_apart q.block (not_index_kind q all.0), no_void more all.1)
 
@@ -321,7 +331,6 @@ module _ (c : Content) (g : Geometry) (clusters : ℕ) (v : Volume) (n kind : �
 
   spared_index : (m : ℕ) → marks_streams (record { file = m; kind = index_allocation; name = names_index }) ≡ false
   spared_index m = not_marks m index_allocation names_index (λ e. omega (arith, e))
-
   uncut_runs : (count : ℕ) (runs : List Run) → list_any (cuts_block v.per Index count) runs ≡ false
   uncut_runs count [] = refl
   uncut_runs count (x ∷ runs) =
@@ -339,7 +348,6 @@ module _ (c : Content) (g : Geometry) (clusters : ℕ) (v : Volume) (n kind : �
 
   alone : StandsAlone v.per (Used s)
   alone = (no_list_stream s no_list_now, none_of_two (is_directory_record s) _ (uncut_stream (stream_of index_allocation names_index s.attrs)))
-
   puts : WritesFiles marks_streams c v writes edits
   puts = record {
     distinct = (below, tt, tt);
@@ -399,7 +407,6 @@ module _ (c : Content) (g : Geometry) (clusters : ℕ) (v : Volume) (n kind : �
 
   bits_now : record_bits d w ≡ record_bits c v
   bits_now = record_bits_stay d v files n differs own_file.table ∙ same_record_bits c d v agree.bits
-
   flags_same : entries_flags s ≡ entries_flags r
   unfolding entries_flags
   flags_same = now.flags data_type entries_name
@@ -489,7 +496,6 @@ module _ (c : Content) (g : Geometry) (clusters : ℕ) (v : Volume) (n kind : �
         ap₂ implies directory_now (listed_now directory) ∙ old_3
     | inr none ↦ ap (λ (t : Bool). implies t (lists_names (upper_of c v) (files_by_number w) (count_of w) (reference n s) (index_links d w.per (upper_of c v) s))) (directory_now ∙ none)
   ]
-
   -- a test of no hole in a stream, and of none torn
   hole_kept : (t : Bool) (other : ℕ) (alias : List ℕ) → implies t (not (has_hole (stream_of other alias r.attrs))) ≡ true → implies t (not (has_hole (stream_of other alias s.attrs))) ≡ true
   hole_kept t other alias was =

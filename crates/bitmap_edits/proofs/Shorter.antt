@@ -3,6 +3,7 @@ use Rattle.std.proofs.Common.{◌≡◌, ◌≢◌, ◌⊎◌, ℕ, ◌+◌, ◌
 use Rattle.std.specs.List.{list_all}
 use Rattle.std.specs.Option.{option_map}
 use Rattle.std.proofs.lemmas.Bool.{cases_lt, and_parts, and_from, le-leb, leb-true, eq-eqb}
+use Rattle.disk_model.specs.declared.block.Block.{Block}
 use Rattle.disk_model.specs.declared.block.BlockKind.{BlockKind}
 use Rattle.disk_model.specs.declared.block.BlockKind.TheVariants.{Plain, FileRec, Index}
 use Rattle.disk_model.specs.Sectors.{sectors}
@@ -14,12 +15,15 @@ use Rattle.record_model.specs.Pairs.{HasSpelling}
 use Rattle.bit_set.specs.Bits.{bit}
 use Rattle.state_model.specs.declared.geometry.Geometry.{Geometry}
 use Rattle.state_model.specs.declared.stream.Extents.{Extents}
+use Rattle.state_model.specs.declared.stream.Stream.{Stream}
 use Rattle.state_model.specs.declared.stream.Stream.TheVariants.{Placed}
 use Rattle.state_model.specs.Loads.{total_clusters}
-use Rattle.volume_model.specs.Volumes.{Volume, bytes_or, cluster_bits}
+use Rattle.state_model.specs.Streams.{block_at}
+use Rattle.volume_model.specs.Volumes.{Volume, bytes_or, cluster_bits, file_stream}
 use Rattle.volume_model.specs.Owners.{uses, volume_runs}
 use Rattle.volume_model.specs.Sizes.{fits_volume, has_sizes, lies_below, lies_inside}
-use Rattle.stream_laws.specs.Sharing.{stream_at}
+use Rattle.stream_laws.specs.Owners.{initialised_in, IsLive, stream_kind}
+use Rattle.stream_laws.specs.Sharing.{runs_in, stream_at}
 use Rattle.stream_laws.proofs.Growing.{stream_cut as front_bytes}
 use Rattle.stream_runs.specs.Runs.{back, behind, front}
 use Rattle.stream_runs.specs.Laws.{InOneCluster}
@@ -30,13 +34,15 @@ use Rattle.resized_streams.specs.declared.resized.Resized.{Resized}
 use Rattle.resized_streams.specs.Resizing.{clusters_for, IsCut, shortened}
 use Rattle.plan_owners.specs.States.{Stands}
 use Rattle.plan_bodies.specs.Bodies.{content_with, NewBody}
+use Rattle.plan_model.specs.Drafts.{IsPut}
 use Rattle.plan_model.proofs.Drafting.{per_is}
 use Rattle.plan_growth.specs.Streams.{IsOwnStream, IsWritten, key_of, marks_streams, PutsFile}
 use Rattle.plan_growth.proofs.Alike.{one_cluster, SamePlaces, untorn_alike}
 use Rattle.plan_growth.proofs.Ruled.{sizes_lawful, stream_fits}
 use Rattle.plan_growth.proofs.Runs.{cut_inside, cut_whole}
-use Rattle.bitmap_edits.proofs.OwnRuns.{MovesRuns, reads_stay}
-use Rattle.bitmap_edits.proofs.Restreaming.{Follows, owned_once}
+use Rattle.plan_table.proofs.Remade.{HasOther, placed_other}
+use Rattle.bitmap_edits.proofs.OwnRuns.{MovesRuns, own_other, reads_stay}
+use Rattle.bitmap_edits.proofs.Restreaming.{as_far, Follows, owned_once}
 
 -- a size lies in the clusters that it needs
 cut_allocated : (per total size real : ℕ) → per ≡ 8 → size ≤ real → real ≤ total * (512 * per) → size ≤ min (clusters_for per size) total * (512 * per)
@@ -125,23 +131,35 @@ module _ (c : Content) (g : Geometry) (clusters : ℕ) (v : Volume) (n kind : �
   pub uses_split : (x : ℕ) → uses (shortened v.per size e).runs x + uses (back (clusters_for v.per size) e.runs) x ≡ uses e.runs x
   uses_split x = (let kept = uses-merged (front keep e.runs) x in let parts = uses_parts keep e.runs x in omega (arith, kept, parts))
 
-  pub gives_runs_back : MovesRuns c v n kind name e (shortened v.per size e) r z.file s bodies
+  stream_before : stream_at v (key_of n kind name) ≡ Some (Placed e)
+  stream_before = ap (file_stream kind name) k.own.file ∙ k.own.stream
+
+  -- a block of it that is live was so
+  live_so : (m : ℕ) (b : Block) → block_at v.per f.runs (stream_kind (key_of n kind name)) m ≡ Some b → 512 * (sectors (stream_kind (key_of n kind name)) * m) < f.initialised → IsLive v b ⊎ IsPut bodies b
+  live_so m b lies begins =
+      inl
+      (record {
+        owned = record { stream = key_of n kind name; number = m; lies = ap (λ (o : Option Stream). block_at v.per (runs_in o) (stream_kind (key_of n kind name)) m) stream_before ∙ sym (places (stream_kind (key_of n kind name)) m begins) ∙ lies };
+        begins = subst (λ (o : Option Stream). 512 * (sectors (stream_kind (key_of n kind name)) * m) < initialised_in o) (sym stream_before) (omega (arith, begins));
+      })
+
+  pub gives_runs_back : MovesRuns c v n kind name (Placed e) (shortened v.per size e) r z.file s bodies
   gives_runs_back = record {
     own = k.own;
-    spelled = follow-merged 0 0 (front keep e.runs) (follow-front 0 0 keep e.runs k.spelled);
-    file = k.cut.file;
+    one = subst (HasOther v.per v.clusters kind name (Placed e) (Placed f) r) (sym k.cut.file) (placed_other v.per v.clusters kind name e f r (own_other v n kind name r (Placed e) k.own) (follow-merged 0 0 (front keep e.runs) (follow-front 0 0 keep e.runs k.spelled)) k.own.stream);
     written = k.written;
-    puts = k.puts;
+    whole = k.puts.whole;
+    anew = k.puts.anew;
+    each = as_far v n bodies k.puts.each;
     marked = k.marked;
     fits = new_fits;
     follows = follows;
     once = λ x low. (let most = owned_once c g clusters v x state low in let sum = uses_split x in omega (arith, most, sum));
     set = λ x low some none. absurd (let sum = uses_split x in omega (arith, sum, some, none));
-    places = places;
-    less = omega arith;
+    live = live_so;
   }
 
   pub cut_reads : marks_streams (key_of n kind name) ≡ false → bytes_or (content_with c bodies) v.per (Some (Placed (shortened v.per size e))) ≡ take size (bytes_or c v.per (stream_at v (key_of n kind name)))
   cut_reads apart =
       front_bytes d v.per e f (record { real = k.less; initialised = refl; places = λ m held. places Plain m (omega (arith, held)) })
-      ∙ ap (take size) (reads_stay c g clusters v n kind name e f r z.file s bodies sized eight state gives_runs_back apart)
+      ∙ ap (take size) (reads_stay c g clusters v n kind name (Placed e) f r z.file s bodies sized eight state gives_runs_back apart)

@@ -159,7 +159,7 @@ module _ (c : Content) (g : Geometry) (clusters : ℕ) (v : Volume) (mirror : Ex
   abbrev f : Extents
   f = lengthened w.per more e
 
-  moves : MovesRuns (drafted mid c) w n kind name e f r z.file s edit.bodies
+  moves : MovesRuns (drafted mid c) w n kind name (Placed e) f r z.file s edit.bodies
   moves = takes_runs (drafted mid c) g clusters bits.volume n kind name e r more z s edit.bodies sized_mid eight state_w takes
 
   f_is : z.extents ≡ f
@@ -174,14 +174,14 @@ module _ (c : Content) (g : Geometry) (clusters : ℕ) (v : Volume) (mirror : Ex
   edits = both_edit c bits.bodies edit.bodies old mid new k.draft.sized bits.keeps.whole edit.puts.whole bits.edits edit.edits
 
   stands_there : Stands (content_with (drafted mid c) edit.bodies) g clusters u
-  stands_there = (leads (drafted mid c) g clusters bits.volume n kind name e f r z.file s edit.bodies sized_mid eight state_w moves).stands
+  stands_there = (leads (drafted mid c) g clusters bits.volume n kind name (Placed e) f r z.file s edit.bodies sized_mid eight state_w moves).stands
 
   stands_new : Stands (drafted new c) g clusters u
   stands_new = subst (λ (y : Content). Stands y g clusters (with_record bits.volume n s)) edit.edits.content stands_there
 
   owners_now : (x : ℕ) → uses (volume_runs u.files) x ≡ uses (volume_runs v.files) x + uses more x
   owners_now x =
-      let sums = owners (drafted mid c) g clusters bits.volume n kind name e f r z.file s edit.bodies sized_mid eight state_w moves x in
+      let sums = owners (drafted mid c) g clusters bits.volume n kind name (Placed e) f r z.file s edit.bodies sized_mid eight state_w moves x in
       let same = bits.keeps.owners x in
       let more_now = uses-grown e.runs more x in
       omega (arith, sums, same, more_now)
@@ -189,7 +189,7 @@ module _ (c : Content) (g : Geometry) (clusters : ℕ) (v : Volume) (mirror : Ex
   bit_now : (x : ℕ) → x < v.clusters → bit (cluster_bits (content_with (drafted old c) bodies) u) x ≡ cond (leb 1 (uses more x)) true (bit (cluster_bits (drafted old c) v) x)
   bit_now x low =
       ap (λ (y : Content). bit (cluster_bits y (with_record bits.volume n s)) x) (edits.content ∙ sym edit.edits.content)
-      ∙ bits_stay (drafted mid c) g clusters bits.volume n kind name e f r z.file s edit.bodies sized_mid eight state_w moves x (subst (λ (y : ℕ). x < y) (sym bits.keeps.clusters_stay) low)
+      ∙ bits_stay (drafted mid c) g clusters bits.volume n kind name (Placed e) f r z.file s edit.bodies sized_mid eight state_w moves x (subst (λ (y : ℕ). x < y) (sym bits.keeps.clusters_stay) low)
       ∙ bit_between x low
 
   as_clusters : (x : ℕ) → x < clusters → x < v.clusters
@@ -203,7 +203,7 @@ module _ (c : Content) (g : Geometry) (clusters : ℕ) (v : Volume) (mirror : Ex
   }
 
   takes_kind : (start : Volume) (gave : ℕ → Option BlockKind) (other : BlockKind) (x : ℕ) → OwnsAs u other x → OwnsAs v other x ⊎ (gives_runs block_kind more gave x ≡ Some other)
-  takes_kind start gave other x owns = elim (owned_or_new (drafted mid c) g clusters bits.volume n kind name e f r z.file s edit.bodies sized_mid eight state_w moves other x owns) [
+  takes_kind start gave other x owns = elim (owned_or_new (drafted mid c) g clusters bits.volume n kind name (Placed e) f r z.file s edit.bodies sized_mid eight state_w moves other x owns) [
     | inl was ↦ inl (owned_as_before (drafted old c) g clusters v bits.bodies bits.volume other x bits.keeps was)
     | inr is ↦
         (let sum = uses-grown e.runs more x in
@@ -213,16 +213,19 @@ module _ (c : Content) (g : Geometry) (clusters : ℕ) (v : Volume) (mirror : Ex
   ]
 
   covered : (x : Block) → IsLive u x → IsLive v x ⊎ IsPut bodies x
-  covered x live = elim (bits.keeps.covers x (live_before (drafted mid c) g clusters bits.volume n kind name e f r z.file s edit.bodies sized_mid eight state_w moves x live)) [
-    | inl was ↦ inl was
-    | inr put ↦ inr (put_first bits.bodies edit.bodies x edit.puts.whole put)
+  covered x live = elim (live_before (drafted mid c) g clusters bits.volume n kind name (Placed e) f r z.file s edit.bodies sized_mid eight state_w moves x live) [
+    | inl between ↦ elim (bits.keeps.covers x between) [
+      | inl was ↦ inl was
+      | inr put ↦ inr (put_first bits.bodies edit.bodies x edit.puts.whole put)
+    ]
+    | inr put ↦ inr (put_second bits.bodies edit.bodies x edit.puts.whole put)
   ]
 
   owned : AllByRecursion (λ q. Owns v q.block ⊎ Owns u q.block) bodies
   owned =
       all_by (λ q. Owns v q.block) (λ q. Owns v q.block ⊎ Owns u q.block) (λ q owns. inl owns) bodies
       (all_in_both (λ q. Owns v q.block) bits.bodies edit.bodies bits.keeps.owned
-      (all_by (λ q. Owns w q.block) (λ q. Owns v q.block) (λ q owns. owns_back (drafted old c) g clusters v bits.bodies bits.volume q.block bits.keeps owns) edit.bodies (all_owned (drafted mid c) g clusters bits.volume n kind name e f r z.file s edit.bodies sized_mid eight state_w moves)))
+      (all_by (λ q. Owns w q.block) (λ q. Owns v q.block) (λ q owns. owns_back (drafted old c) g clusters v bits.bodies bits.volume q.block bits.keeps owns) edit.bodies (all_owned (drafted mid c) g clusters bits.volume n kind name (Placed e) f r z.file s edit.bodies sized_mid eight state_w moves edit.puts.each)))
 
   goes_on : (begin : Content) (start : Volume) (gave : ℕ → Option BlockKind) → MayGive begin start block_kind more gave → GoesOn begin start (drafted old c) g clusters v bodies u gave (gives_runs block_kind more gave)
   goes_on begin start gave may = record {
@@ -241,7 +244,7 @@ module _ (c : Content) (g : Geometry) (clusters : ℕ) (v : Volume) (mirror : Ex
 
   bytes : marks_streams key ≡ false → bytes_or (drafted new c) v.per (stream_at u key) ≡ bytes_or (drafted old c) v.per (stream_at v key)
   bytes apart =
-      let now = stream_now (drafted mid c) g clusters bits.volume n kind name e f r z.file s edit.bodies sized_mid eight state_w moves in
+      let now = stream_now (drafted mid c) g clusters bits.volume n kind name (Placed e) f r z.file s edit.bodies sized_mid eight state_w moves in
       ap₂ (λ (y : Content) (o : Option Stream). bytes_or y v.per o) (sym edit.edits.content) now
       ∙ subst (λ (p : ℕ). bytes_or (content_with (drafted mid c) edit.bodies) p (Some (Placed f)) ≡ bytes_or (drafted mid c) p (stream_at bits.volume key)) bits.keeps.per (grown_reads (drafted mid c) g clusters bits.volume n kind name e r more z s edit.bodies sized_mid eight state_w takes apart)
       ∙ ap (λ (y : Content). bytes_or y v.per (stream_at bits.volume key)) (sym bits.edits.content)
@@ -254,10 +257,11 @@ module _ (c : Content) (g : Geometry) (clusters : ℕ) (v : Volume) (mirror : Ex
     edits = edits;
     kept = record_edit.kept c bits.volume mirror n z.file mid new put_file;
     stands = stands_new;
-    stream = stream_now (drafted mid c) g clusters bits.volume n kind name e f r z.file s edit.bodies sized_mid eight state_w moves ∙ ap (λ (x : Extents). Some (Placed x)) (sym f_is);
-    files = λ m other apart. files_stay (drafted mid c) g clusters bits.volume n kind name e f r z.file s edit.bodies sized_mid eight state_w moves m other ∙ bits.keeps.files m apart;
-    bitmap = bitmap_beside bits.volume (with_record bits.volume n s) n after k.own.apart.bitmap (files_stay (drafted mid c) g clusters bits.volume n kind name e f r z.file s edit.bodies sized_mid eight state_w moves) bits.bitmap;
-    tree = λ whole. subst (λ (y : Content). TreeFollows (drafted mid c) y bits.volume n r s) edit.edits.content (tree (drafted mid c) g clusters bits.volume n kind name e f r z.file s edit.bodies sized_mid eight state_w moves whole);
+    stream = stream_now (drafted mid c) g clusters bits.volume n kind name (Placed e) f r z.file s edit.bodies sized_mid eight state_w moves ∙ ap (λ (x : Extents). Some (Placed x)) (sym f_is);
+    files = λ m other apart. files_stay (drafted mid c) g clusters bits.volume n kind name (Placed e) f r z.file s edit.bodies sized_mid eight state_w moves m other ∙ bits.keeps.files m apart;
+    bitmap = bitmap_beside bits.volume (with_record bits.volume n s) n after k.own.apart.bitmap (files_stay (drafted mid c) g clusters bits.volume n kind name (Placed e) f r z.file s edit.bodies sized_mid eight state_w moves) bits.bitmap;
+    tree = λ whole. subst (λ (y : Content). TreeFollows (drafted mid c) y bits.volume n r s) edit.edits.content (tree (drafted mid c) g clusters bits.volume n kind name (Placed e) f r z.file s edit.bodies sized_mid eight state_w moves whole);
     bytes = bytes;
     goes_on = goes_on;
   }
+

@@ -1,6 +1,7 @@
 -- A stream that takes clusters or gives some back, with their bits wherever these stand.
-use Rattle.std.specs.Prelude.{◌≡◌, ◌≢◌, ℕ, ◌+◌, ◌≤◌, true, false, List, Ok, Option, Some, take}
+use Rattle.std.specs.Prelude.{◌≡◌, ◌≢◌, ℕ, ◌+◌, ◌≤◌, true, false, List, length, Ok, Option, Some, take}
 use Rattle.disk_model.specs.declared.block.BlockKind.{BlockKind}
+use Rattle.disk_model.specs.declared.block.BlockKind.TheVariants.{Plain}
 use Rattle.disk_model.specs.Content.{Content, HasSizes}
 use Rattle.record_model.specs.declared.runs.Run.{Run}
 use Rattle.record_model.specs.Constants.{index_allocation}
@@ -10,20 +11,22 @@ use Rattle.record_writer.specs.NormalLaws.{FitsByRoom}
 use Rattle.bit_set.specs.Bits.{bit}
 use Rattle.state_model.specs.declared.geometry.Geometry.{Geometry}
 use Rattle.state_model.specs.declared.stream.Extents.{Extents}
-use Rattle.state_model.specs.declared.stream.Stream.TheVariants.{Placed}
+use Rattle.state_model.specs.declared.stream.Stream.TheVariants.{Held, Placed}
 use Rattle.state_model.specs.Loads.{extents_or, total_clusters}
 use Rattle.volume_model.specs.Sizes.{has_hole}
 use Rattle.volume_model.specs.Volumes.{Volume, bitmap_file, bytes_or, cluster_bits, file_in, mirror_file}
+use Rattle.volume_state.specs.Journals.{limits_name}
 use Rattle.stream_laws.specs.Owners.{stream_kind}
 use Rattle.stream_laws.specs.Sharing.{stream_at}
 use Rattle.resized_streams.specs.declared.resized.Resized.{Resized}
-use Rattle.resized_streams.specs.Resizing.{IsCut, IsGrown}
+use Rattle.resized_streams.specs.Resizing.{clusters_for, IsCut, IsGrown, unplaced}
 use Rattle.plan_owners.specs.States.{Stands}
 use Rattle.plan_bodies.specs.Bodies.{NewBody}
 use Rattle.plan_draft.specs.declared.touched.Touched.{Touched}
 use Rattle.plan_draft.specs.Drafts.{drafted}
 use Rattle.plan_model.specs.Drafts.{GoesOn, gives_runs}
 use Rattle.plan_model.specs.Informed.{with_record}
+use Rattle.draft_streams.specs.Parts.{touch_bytes}
 use Rattle.draft_bits.specs.Effects.{IsKept}
 use Rattle.draft_records.specs.Records.{fits_room, touch_record, written_record}
 use Rattle.draft_bitmaps.specs.declared.bitmap.Bitmap.{Bitmap}
@@ -105,9 +108,45 @@ pub record HasCut (c : Content) (g : Geometry) (clusters : ℕ) (v : Volume) (n 
   pub goes_on : (first : Content) (start : Volume) (gave : ℕ → Option BlockKind) → ((other : BlockKind) (x : ℕ) → gave x ≡ Some other → bit (cluster_bits first start) x ≡ false)
       → GoesOn first start (drafted old c) g clusters v bodies bits.volume gave gave
 
--- So both lead from a state to a state, wherever the bits stand.
+-- ---- a value that leaves
+
+-- A stream that was a value, neither an index's nor the limits of a change journal, and has sectors for blocks, takes these runs, which may be
+-- taken and have room for another value or the same: their bits are set, its file is put with them, and then the value into its clusters.
+pub record MovesWithBits (c : Content) (v : Volume) (mirror : Extents) (b : Bitmap) (n kind : ℕ) (name was value : List ℕ) (r : Record) (more : List Run) (z : Resized) (old mid last new : List Touched) (after : Bitmap) : Type 0 where
+  pub draft : IsDraftOf c v mirror b old
+  pub own : IsOwnStream v n kind name r (Held was)
+  pub no_index : index_allocation ≢ kind
+  pub no_limits : limits_name ≢ name
+  pub plain : stream_kind (key_of n kind name) ≡ Plain
+  pub grown : IsGrown v.per kind name (unplaced (length value)) r more z
+  pub taken : MayTake v.clusters (cluster_bits (drafted old c) v) more
+  pub enough : clusters_for v.per (length value) ≤ total_clusters more
+  pub room : total_clusters more ≤ cluster_limit
+  pub bits : PutsRunsIn c v.per v.table mirror true more b old mid after
+  pub file : PutsFileOf c v mirror n z.file mid last
+  pub put : new ≡ touch_bytes c v.per z.extents.runs 0 0 value last
+
+-- What is put is an edit over the draft before: first the bits, which keep the owners, then the file and the value. It leads to a state with the
+-- stream in these clusters, in which the other files stay, and is an edit of a plan that gives them the kind of the stream's blocks; the stream reads as the value.
+pub record HasMoved (c : Content) (g : Geometry) (clusters : ℕ) (v : Volume) (n kind : ℕ) (name value : List ℕ) (r : Record) (more : List Run) (z : Resized) (old mid new : List Touched) (after : Bitmap) : Type 0 where
+  pub bits : PutsOwnersKept c g clusters v more true old mid after
+  pub bodies : List NewBody
+  pub edits : EditsDraft c old new bodies
+  pub kept : IsKept new
+  pub stands : Stands (drafted new c) g clusters (with_record bits.volume n (written_record z.file))
+  pub stream : stream_at (with_record bits.volume n (written_record z.file)) (key_of n kind name) ≡ Some (Placed z.extents)
+  pub files : (m : ℕ) → m ≢ n → m ≢ bitmap_file → file_in (with_record bits.volume n (written_record z.file)) m ≡ file_in v m
+  pub bitmap : IsClusterBitmap (with_record bits.volume n (written_record z.file)) after
+  pub tree : TreeFollows (drafted mid c) (drafted new c) bits.volume n r (written_record z.file)
+  pub bytes : bytes_or (drafted new c) v.per (stream_at (with_record bits.volume n (written_record z.file)) (key_of n kind name)) ≡ value
+  pub goes_on : (first : Content) (start : Volume) (gave : ℕ → Option BlockKind) → MayGive first start (stream_kind (key_of n kind name)) more gave
+      → GoesOn first start (drafted old c) g clusters v bodies (with_record bits.volume n (written_record z.file)) gave (gives_runs (stream_kind (key_of n kind name)) more gave)
+
+-- So they lead from a state to a state, wherever the bits stand.
 pub record ResizedWithBits : Type 0 where
   pub grown : (c : Content) (g : Geometry) (clusters : ℕ) (v : Volume) (mirror : Extents) (b : Bitmap) (n kind : ℕ) (name : List ℕ) (e : Extents) (r : Record) (more : List Run) (z : Resized) (old mid new : List Touched) (after : Bitmap) → g.per_cluster ≡ 8 → Stands (drafted old c) g clusters v
       → GrowsWithBits c v mirror b n kind name e r more z old mid new after → HasGrown c g clusters v n kind name e r more z old mid new after
   pub cut : (c : Content) (g : Geometry) (clusters : ℕ) (v : Volume) (mirror : Extents) (b : Bitmap) (n kind : ℕ) (name : List ℕ) (e : Extents) (r : Record) (size : ℕ) (z : Resized) (old mid new : List Touched) (after : Bitmap) → g.per_cluster ≡ 8 → Stands (drafted old c) g clusters v
       → CutsWithBits c v mirror b n kind name e r size z old mid new after → HasCut c g clusters v n kind name e r size z old mid new after
+  pub moved : (c : Content) (g : Geometry) (clusters : ℕ) (v : Volume) (mirror : Extents) (b : Bitmap) (n kind : ℕ) (name was value : List ℕ) (r : Record) (more : List Run) (z : Resized) (old mid last new : List Touched) (after : Bitmap) → g.per_cluster ≡ 8 → Stands (drafted old c) g clusters v
+      → MovesWithBits c v mirror b n kind name was value r more z old mid last new after → HasMoved c g clusters v n kind name value r more z old mid new after
