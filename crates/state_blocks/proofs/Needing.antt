@@ -1,5 +1,6 @@
 -- Two contents that agree on the blocks from which a state is read.
-use Rattle.std.proofs.Common.{◌≡◌, ◌≢◌, subst, ℕ, ◌*◌, ◌<◌, Bool, true, false, ◌&&◌, ◌||◌, cond, List, [], Option, Some, None, refl, sym, ap, ap₂, ◌∙◌, inl, inr, arith}
+use Rattle.std.proofs.Common.{◌≡◌, ◌≢◌, subst, ℕ, ◌*◌, ◌<◌, Bool, true, false, ◌&&◌, ◌||◌, cond, eqb, nat_eq, List, [], Option, Some, None, refl, sym, ap, ap₂, ◌∙◌, inl, inr, arith}
+use Rattle.std.specs.Cmp.Lexicographic.{pointwise}
 use Rattle.std.proofs.lemmas.Bool.{cases_Bool, cases_lt, both_ways, false_from_ne_true, le-leb, lt-leb, ne_eqb}
 use Rattle.disk_model.specs.declared.block.Block.{Block}
 use Rattle.disk_model.specs.declared.block.Body.{Body}
@@ -8,7 +9,7 @@ use Rattle.disk_model.specs.declared.block.BlockKind.TheVariants.{Plain, FileRec
 use Rattle.disk_model.specs.Sectors.{sectors}
 use Rattle.disk_model.specs.Content.{Content}
 use Rattle.record_model.specs.Records.{Record}
-use Rattle.record_model.specs.Constants.{data_type, bitmap_type}
+use Rattle.record_model.specs.Constants.{attribute_list, data_type, bitmap_type}
 use Rattle.state_model.specs.declared.geometry.Geometry.{Geometry}
 use Rattle.state_model.specs.declared.stream.Extents.{Extents}
 use Rattle.state_model.specs.declared.stream.Stream.{Stream}
@@ -29,9 +30,9 @@ use Rattle.stream_laws.proofs.Rewriting.{parts_of_files}
 use Rattle.stream_laws.proofs.Tabling.{table_extents_is, table_runs}
 use Rattle.tree_laws.proofs.Agreeing.{same_upper}
 use Rattle.plan_owners.specs.States.{Stands}
-use Rattle.plan_owners.specs.Agreeing.{AgreeOnOwned, IsJudged, log_key}
+use Rattle.plan_owners.specs.Agreeing.{AgreeOnOwned, IsJudged, list_key, log_key}
 use Rattle.plan_owners.proofs.Standing.{loaded_files, begins}
-use Rattle.state_blocks.specs.Needing.{IsNeeded, AgreeOnNeeded}
+use Rattle.state_blocks.specs.Needing.{IsListed, IsNeeded, AgreeOnNeeded}
 
 body_with : List ℕ → Bool → Body
 body_with bytes torn = record { bytes = bytes; torn = torn }
@@ -72,6 +73,24 @@ live_block v s e n b is plain other place below = record {
   };
   other = other;
 }
+
+-- the block of an attribute list of which no other record has a part is owned as the others are
+plain_list : (n : ℕ) (name : List ℕ) → stream_kind (record { file = n; kind = attribute_list; name = name }) ≡ Plain
+unfolding stream_kind
+plain_list n name = no_records ((eqb n table_file) || (eqb n mirror_file)) (pointwise nat_eq name [])
+  where
+    no_records : (a b : Bool) → cond (a && false && b) FileRec Plain ≡ Plain
+    no_records true b = refl
+    no_records false b = refl
+
+pub listed_judged : (c : Content) (v : Volume) (b : Block) (listed : IsListed c v b) → stream_at v (list_key listed.number listed.file) ≡ list_stream listed.file → IsJudged v b
+listed_judged c v b listed same =
+    let key = list_key listed.number listed.file in
+    let low = listed.read.below in
+    live_block v key listed.list listed.read.sector b (same ∙ listed.is_list) (plain_list listed.number key.name) (λ is. other_kind (ap (λ (k : StreamKey). k.kind) is)) listed.read.lies (omega arith)
+  where
+    other_kind : attribute_list ≡ data_type → ⊥
+    other_kind is = omega (arith, is)
 
 module _ (c d : Content) (v : Volume) (k : AgreeOnNeeded c d v) where
   same_in : (key : StreamKey) (o : Option Stream) → stream_kind key ≡ Plain → key ≢ log_key → stream_at v key ≡ o → SameBytesInSome c d v.per o
