@@ -1,5 +1,5 @@
 -- A call that writes or cuts a file takes the step of the operation.
-use Rattle.std.specs.Prelude.{◌≡◌, ⊥, ℕ, Bool, true, List, [], length, Result, Ok, Err}
+use Rattle.std.specs.Prelude.{◌≡◌, ℕ, Bool, true, List, [], length, Result, Ok, Err}
 use Rattle.disk_model.specs.Content.{Content, HasSizes}
 use Rattle.record_model.specs.Records.{Record}
 use Rattle.file_tree.specs.declared.node.Node.{Node}
