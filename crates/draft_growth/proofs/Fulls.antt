@@ -2,6 +2,7 @@
 use Rattle.std.proofs.Common.{◌≡◌, ℕ, Bool, List, sym, ap, ap₂, subst, ◌∙◌}
 use Rattle.std.specs.Prelude.{Result, Ok, Err, IfErr}
 use Rattle.host_base.specs.Answers.{ExplainsOrFails}
+use Rattle.record_model.specs.declared.runs.Run.{Run}
 use Rattle.record_model.specs.Records.{Record}
 use Rattle.space_model.specs.Choosing.{chosen}
 use Rattle.stream_runs.specs.Runs.{last_cluster}
@@ -16,7 +17,7 @@ use Rattle.draft_bitmaps.specs.declared.bitmap.Bitmap.{Bitmap}
 use Rattle.draft_growth.specs.declared.longer.Longer.{Longer}
 use Rattle.draft_growth.specs.declared.table.Table.{Table}
 use Rattle.draft_growth.specs.Faults.{growth_room, of_space, of_draft}
-use Rattle.draft_growth.specs.Growing.{table_clusters, more_for, with_room, in_file, with_records, bitmap_size, behind_records, grown_record, IsLongerData, IsLonger}
+use Rattle.draft_growth.specs.Growing.{table_clusters, more_for, with_room, in_file, size_in, standing, numbers_bytes, bitmap_behind, behind_records, grown_record, IsLongerData, IsLonger}
 
 -- what fits isn't refused
 pub fitted : (m : Result (Unit {0}) ℕ) (P : ℕ → Type 0) → m ≡ Ok tt → IfErr m P
@@ -50,9 +51,13 @@ full_told e f r is full = subst (λ (x : Record). IfErr (fits_room x) (λ (used 
 pub full_never : (P : ℕ → Type 0) (f r : Record) → f ≡ r → IfErr (fits_room f) P → IfErr (fits_room r) P
 full_never P f r is = subst (λ (x : Record). IfErr (fits_room x) P) is
 
+-- the bitmap with room for the new numbers
+abbrev with_now : ℕ → Table → List Run → Bitmap → Bitmap
+with_now per t more b = with_room per (size_in b.stream (numbers_bytes t)) more (standing (size_in b.stream (numbers_bytes t)) b) b
+
 -- record 0 as both steps make it
 pub record_grown : (per : ℕ) (bits own : List Bool) (t : Table) (records : Resized) (b : Bitmap) (l : Longer) → IsLongerData per t (chosen bits (last_cluster t.extents.runs) table_clusters) records → own ≡ behind_records bits t → b ≡ in_file records.file t.bitmap
-    → IsLonger per (bitmap_size t) own b l → l.bitmap.file ≡ grown_record per bits t
+    → IsLonger per (size_in b.stream (numbers_bytes t)) own b l → l.bitmap.file ≡ grown_record per bits t
 record_grown per bits own t records b l grown first is longer =
-    let now : b ≡ in_file (with_records per (chosen bits (last_cluster t.extents.runs) table_clusters) t) t.bitmap = is ∙ ap (λ (r : Record). in_file r t.bitmap) grown.file in
-    ap (λ (x : Bitmap). x.file) longer.bitmap ∙ ap₂ (λ (o : List Bool) (x : Bitmap). (with_room per (bitmap_size t) (more_for per (bitmap_size t) o x.stream) x.stream x).file) first now
+    let now : b ≡ bitmap_behind per bits t = is ∙ ap (λ (r : Record). in_file r t.bitmap) grown.file in
+    ap (λ (x : Bitmap). x.file) longer.bitmap ∙ ap₂ (λ (o : List Bool) (x : Bitmap). (with_now per t (more_for per (size_in x.stream (numbers_bytes t)) o (standing (size_in x.stream (numbers_bytes t)) x)) x).file) first now

@@ -5,5 +5,6 @@ pub mod Empty
 pub mod Tables
 pub mod GrownEffects
 pub mod Lengths
+pub mod Standing
 pub mod Space
 pub mod Fulls

@@ -4,6 +4,7 @@ use Rattle.std.specs.Prelude.{Result, Ok, Err, IfErr, List, [], count_by}
 use Rattle.std.proofs.lemmas.Bool.{cases_lt, le-leb, lt-leb}
 use Rattle.host_base.specs.Answers.{◌>>=◌, needs, ExplainsOrFails, GivesOrFails}
 use Rattle.record_model.specs.declared.runs.Run.{Run}
+use Rattle.record_model.specs.Records.{Record}
 use Rattle.space_model.specs.Choosing.{with_runs, chosen}
 use Rattle.stream_runs.specs.Runs.{last_cluster}
 use Rattle.state_model.specs.declared.stream.Stream.{Stream}
@@ -16,7 +17,7 @@ use Rattle.resized_streams.specs.declared.resized.Resized.{Resized}
 use Rattle.draft_growth.specs.Faults.{space_cause, growth_space, of_space, of_draft}
 use Rattle.draft_growth.specs.declared.longer.Longer.{Longer}
 use Rattle.draft_growth.specs.declared.table.Table.{Table}
-use Rattle.draft_growth.specs.Growing.{table_clusters, more_for, bitmap_size, behind_records, behind_table, wanted_for, space_for, space_of, IsLonger}
+use Rattle.draft_growth.specs.Growing.{table_clusters, more_for, in_file, size_in, standing, numbers_bytes, numbers_in, bitmap_behind, bitmap_size, behind_records, behind_table, wanted_for, space_for, space_of, IsLongerData, IsLonger}
 
 few_left : (wanted clear : ℕ) → clear < wanted → needs (nat_le wanted clear) clear ≡ Err clear
 few_left wanted clear few = ap (λ (t : Bool). needs t clear) (lt-leb wanted clear few)
@@ -65,19 +66,23 @@ pub second_short : (e : SpaceFault) (first second : Result (Unit {0}) ℕ) → f
 second_short (Short room) first second ok is = both first second (Err room) ok is
 second_short Memory first second ok is = tt
 
-pub same_space : (per size : ℕ) (bits own : List Bool) (t : Table) (s : Stream) → own ≡ behind_records bits t → s ≡ t.bitmap.stream → space_for (wanted_for per size s) own ≡ space_for (wanted_for per size t.bitmap.stream) (behind_records bits t)
-same_space per size bits own t s first stream = ap₂ (λ (x : Stream) (o : List Bool). space_for (wanted_for per size x) o) stream first
+-- how many clusters a bitmap wants for the new numbers
+abbrev pub wanted_now : ℕ → Table → Bitmap → ℕ
+wanted_now per t b = wanted_for per (size_in b.stream (numbers_bytes t)) (standing (size_in b.stream (numbers_bytes t)) b)
+
+pub same_space : (per : ℕ) (bits own : List Bool) (t : Table) (b : Bitmap) → own ≡ behind_records bits t → b ≡ bitmap_behind per bits t → space_for (wanted_now per t b) own ≡ space_for (wanted_for per (bitmap_size t) (numbers_in per bits t)) (behind_records bits t)
+same_space per bits own t b first is = ap₂ (λ (x : Bitmap) (o : List Bool). space_for (wanted_now per t x) o) is first
 
 -- what is said of the bits at hand holds of those behind the records
-pub second_err : (e : SpaceFault) (per : ℕ) (bits own : List Bool) (t : Table) (s : Stream) → space_for table_clusters bits ≡ Ok tt → own ≡ behind_records bits t → s ≡ t.bitmap.stream
-    → ExplainsOrFails (space_cause e) (space_for (wanted_for per (bitmap_size t) s) own) → ExplainsOrFails (growth_space (of_space e)) (space_of per bits t)
-second_err e per bits own t s ok first stream is =
-    second_short e (space_for table_clusters bits) (space_for (wanted_for per (bitmap_size t) t.bitmap.stream) (behind_records bits t)) ok
-    (subst (λ (m : Result (Unit {0}) ℕ). ExplainsOrFails (space_cause e) m) (same_space per (bitmap_size t) bits own t s first stream) is)
+pub second_err : (e : SpaceFault) (per : ℕ) (bits own : List Bool) (t : Table) (b : Bitmap) → space_for table_clusters bits ≡ Ok tt → own ≡ behind_records bits t → b ≡ bitmap_behind per bits t
+    → ExplainsOrFails (space_cause e) (space_for (wanted_now per t b) own) → ExplainsOrFails (growth_space (of_space e)) (space_of per bits t)
+second_err e per bits own t b ok first stream is =
+    second_short e (space_for table_clusters bits) (space_for (wanted_for per (bitmap_size t) (numbers_in per bits t)) (behind_records bits t)) ok
+    (subst (λ (m : Result (Unit {0}) ℕ). ExplainsOrFails (space_cause e) m) (same_space per bits own t b first stream) is)
 
-pub second_ok : (per : ℕ) (bits own : List Bool) (t : Table) (s : Stream) → space_for table_clusters bits ≡ Ok tt → own ≡ behind_records bits t → s ≡ t.bitmap.stream → space_for (wanted_for per (bitmap_size t) s) own ≡ Ok tt → space_of per bits t ≡ Ok tt
-second_ok per bits own t s ok first stream is =
-    both (space_for table_clusters bits) (space_for (wanted_for per (bitmap_size t) t.bitmap.stream) (behind_records bits t)) (Ok tt) ok (sym (same_space per (bitmap_size t) bits own t s first stream) ∙ is)
+pub second_ok : (per : ℕ) (bits own : List Bool) (t : Table) (b : Bitmap) → space_for table_clusters bits ≡ Ok tt → own ≡ behind_records bits t → b ≡ bitmap_behind per bits t → space_for (wanted_now per t b) own ≡ Ok tt → space_of per bits t ≡ Ok tt
+second_ok per bits own t b ok first stream is =
+    both (space_for table_clusters bits) (space_for (wanted_for per (bitmap_size t) (numbers_in per bits t)) (behind_records bits t)) (Ok tt) ok (sym (same_space per bits own t b first stream) ∙ is)
 
 -- the records' clusters, by what a call says of too little and of enough
 pub records_ok : {T : Type 0} (r : Result T SpaceFault) (x : T) (bits : List Bool) → r ≡ Ok x → (count_by not bits < table_clusters → r ≡ Err (Short (count_by not bits))) → (table_clusters ≤ count_by not bits → IfErr r (λ e. e ≡ Memory))
@@ -87,7 +92,7 @@ records_ok {T} r x bits is short enough = at_ok {T = T} r x (space_for table_clu
 pub records_err : {T : Type 0} (r : Result T SpaceFault) (e : SpaceFault) (per : ℕ) (bits : List Bool) (t : Table) → r ≡ Err e → (count_by not bits < table_clusters → r ≡ Err (Short (count_by not bits)))
     → (table_clusters ≤ count_by not bits → IfErr r (λ e. e ≡ Memory)) → ExplainsOrFails (growth_space (of_space e)) (space_of per bits t)
 records_err {T} r e per bits t is short enough =
-    first_short e (space_for table_clusters bits) (space_for (wanted_for per (bitmap_size t) t.bitmap.stream) (behind_records bits t))
+    first_short e (space_for table_clusters bits) (space_for (wanted_for per (bitmap_size t) (numbers_in per bits t)) (behind_records bits t))
     (at_err {T = T} r e (space_for table_clusters bits) is (spaced {T = T} r table_clusters (count_by not bits) short enough))
 
 pub other_fault : (e : DraftFault) (meant : Result (Unit {0}) ℕ) → ExplainsOrFails (growth_space (of_draft e)) meant
@@ -100,6 +105,10 @@ other_fault draft.Memory meant = tt
 pub behind : (bits own : List Bool) (t : Table) (records : Resized) → records.taken.items ≡ chosen bits (last_cluster t.extents.runs) table_clusters → own ≡ with_runs records.taken.items bits → own ≡ behind_records bits t
 behind bits own t records taken is = is ∙ ap (λ (r : List Run). with_runs r bits) taken
 
-pub table_taken : (per : ℕ) (bits own now : List Bool) (t : Table) (b : Bitmap) (l : Longer) → own ≡ behind_records bits t → b.stream ≡ t.bitmap.stream → IsLonger per (bitmap_size t) own b l → now ≡ with_runs l.taken.items own → now ≡ behind_table per bits t
+-- the bitmap in record 0 that has the longer table
+pub bitmap_now : (per : ℕ) (bits : List Bool) (t : Table) (records : Resized) (b : Bitmap) → IsLongerData per t (chosen bits (last_cluster t.extents.runs) table_clusters) records → b ≡ in_file records.file t.bitmap → b ≡ bitmap_behind per bits t
+bitmap_now per bits t records b grown is = is ∙ ap (λ (r : Record). in_file r t.bitmap) grown.file
+
+pub table_taken : (per : ℕ) (bits own now : List Bool) (t : Table) (b : Bitmap) (l : Longer) → own ≡ behind_records bits t → b ≡ bitmap_behind per bits t → IsLonger per (size_in b.stream (numbers_bytes t)) own b l → now ≡ with_runs l.taken.items own → now ≡ behind_table per bits t
 table_taken per bits own now t b l first stream longer is =
-    is ∙ ap₂ (λ (r : List Run) (o : List Bool). with_runs r o) (longer.taken ∙ ap₂ (λ (o : List Bool) (s : Stream). more_for per (bitmap_size t) o s) first stream) first
+    is ∙ ap₂ (λ (r : List Run) (o : List Bool). with_runs r o) (longer.taken ∙ ap₂ (λ (o : List Bool) (x : Bitmap). more_for per (size_in x.stream (numbers_bytes t)) o (standing (size_in x.stream (numbers_bytes t)) x)) first stream) first

@@ -3,34 +3,59 @@ ghost use Rattle.std.specs.Prelude.{◌≡◌, ◌+◌, ◌/◌, ◌<◌, ◌≤
 ghost use Rattle.host_base.specs.Answers.{GivesOrFails};
 ghost use Rattle.block_view.specs.Views.{AsksView};
 ghost use Rattle.stream_runs.specs.Runs.{IsNear};
+ghost use Rattle.plan_draft.specs.Faults.{fault_cause};
 ghost use Rattle.draft_records.specs.Faults.{draft_cause};
 ghost use Rattle.draft_records.specs.Records.{fits_room};
 ghost use Rattle.draft_bitmaps.specs.Bitmaps.{bit_count, IsBitmap};
 ghost use Rattle.draft_growth.specs.declared.fault.GrowthFault.TheVariants.{Short};
 ghost use Rattle.draft_growth.specs.Faults.{growth_cause, growth_space, growth_room};
 ghost use Rattle.draft_growth.specs.Clusters.{IsInside};
-ghost use Rattle.draft_growth.specs.Growing.{behind_table, grown_record, space_of, table_clusters, table_records, IsTable, GrowsTable, in_file, PutsTable, PutsOwners, PutsGrown};
+ghost use Rattle.draft_growth.specs.Growing.{behind_table, grown_record, space_of, table_clusters, table_records, IsTable, GrowsTable, in_file, with_leaving, PutsTable, PutsOwners, PutsGrown};
 
 use crate::fault::GrowthFault;
 use crate::longer::{Longer, longer_bitmap, longer_data};
 use crate::runs::put_runs_of;
 use crate::table::Table;
 use crate::zeros::put_empty_records;
-use block_view::View;
+use block_view::{View, ViewFault};
 use draft_bitmaps::{Bitmap, put_bits_of};
 use draft_records::{DraftFault, put_file};
+use draft_streams::put_bytes;
 use file_record::FileRec;
+use host_base::Bytes;
 use plan_draft::Draft;
 use plan_space::FreeBits;
 use record_model::Run;
 use record_streams::placed_fits;
-use state_model::{ClusterSize, Extents};
+use state_model::{ClusterSize, Extents, Stream};
 use std::alloc::Global;
 
 // How many records the file table grows by.
 const TABLE_RECORDS: u64 = 256;
 
-// Puts record 0, and clears the bits of the new numbers.
+// Puts the bytes that left a record into the clusters of their stream.
+fn put_leaving<V: View>(
+    draft: &mut Draft<'_, V>,
+    alloc: Global,
+    per: ClusterSize,
+    stream: &Stream,
+    bytes: &Bytes,
+) -> Result<(), ViewFault>
+    requires few { length bytes.now ≤ 2 ^ 16 }
+    ensures put { OnOk result (IfSome (V.content draft.old.view.now) (λ c. draft.new.touched.items ≡ with_leaving c per stream.now bytes.now draft.old.touched.items)) }
+    ensures asks { AsksView V.content V.kept V.faults fault_cause draft.old.view.now draft.new.view.now result }
+    ensures reference { draft.new.view.ghost_name ≡ draft.old.view.ghost_name }
+{
+    match stream {
+        Stream::Held(_) => Ok(()),
+        Stream::Placed(extents) => {
+            let bytes = bytes.as_slice();
+            put_bytes(draft, alloc, per, &extents.runs, 0, 0, bytes)
+        }
+    }
+}
+
+// Puts record 0 and what left it, and clears the bits of the new numbers.
 fn put_table<V: View>(
     draft: &mut Draft<'_, V>,
     alloc: Global,
@@ -38,13 +63,15 @@ fn put_table<V: View>(
     table: &Extents,
     mirror: &Extents,
     bitmap: &mut Bitmap,
+    leaving: &Bytes,
     first: u64,
 ) -> Result<(), DraftFault>
     requires stands { IsBitmap bitmap.old }
+    requires few { length leaving.now ≤ 2 ^ 16 }
     requires place { first < 2 ^ 40 }
     requires within { first + table_records ≤ bit_count bitmap.old.stream }
     ensures full { IfErr (fits_room bitmap.old.file) (λ used. GivesOrFails (λ _. tt {0}) draft_cause result (Err used)) }
-    ensures put { OnOk result (IfSome (V.content draft.old.view.now) (λ c. PutsTable c per table.now mirror.now bitmap.old first draft.old.touched.items draft.new.touched.items bitmap.new)) }
+    ensures put { OnOk result (IfSome (V.content draft.old.view.now) (λ c. PutsTable c per table.now mirror.now bitmap.old leaving.now first draft.old.touched.items draft.new.touched.items bitmap.new)) }
     ensures stands { IsBitmap bitmap.new }
     ensures asks { AsksView V.content V.kept V.faults draft_cause draft.old.view.now draft.new.view.now result }
     ensures reference { draft.new.view.ghost_name ≡ draft.old.view.ghost_name }
@@ -59,6 +86,7 @@ fn put_table<V: View>(
         bitmap.number,
         &bitmap.file,
     )?;
+    put_leaving(draft, alloc, per, &bitmap.stream, leaving)?;
     put_bits_of(
         draft,
         alloc,
@@ -110,6 +138,7 @@ fn put_grown<V: View>(
     first: u64,
 ) -> Result<(), DraftFault>
     requires stands { IsBitmap longer.old.bitmap }
+    requires few { length longer.old.leaving ≤ 2 ^ 16 }
     requires place { first < 2 ^ 40 }
     requires within { first + table_records ≤ bit_count longer.old.bitmap.stream }
     requires clusters { IsBitmap clusters.old }
@@ -124,7 +153,16 @@ fn put_grown<V: View>(
     ensures asks { AsksView V.content V.kept V.faults draft_cause draft.old.view.now draft.new.view.now result }
     ensures reference { draft.new.view.ghost_name ≡ draft.old.view.ghost_name }
 {
-    put_table(draft, alloc, per, table, mirror, &mut longer.bitmap, first)?;
+    put_table(
+        draft,
+        alloc,
+        per,
+        table,
+        mirror,
+        &mut longer.bitmap,
+        &longer.leaving,
+        first,
+    )?;
     put_owners(
         draft,
         alloc,
@@ -153,12 +191,14 @@ fn in_file(bitmap: Bitmap, file: FileRec) -> Bitmap
 
 /// Grows the file table by exactly 64 clusters, whatever slack it has, and by 256 records, in real
 /// and initialised size (Linux-NTFS documentation, "$MFT"): its clusters are chosen behind its last
-/// one, as [`grow`](resized_streams::grow) does; the bitmap of its numbers has a bit for each of
+/// one, as [`grow`](resized_streams::grow) does; then the bitmap of its numbers has a bit for each of
 /// them, in its record or in clusters, as many more as it needs, and those of the new numbers are
-/// clear; record 0 is put in table and mirror; the bits of the clusters that came are set in
-/// `clusters`, the bitmap of the volume's clusters; and the new records are put as zeros, each a whole
-/// body. The volume has 8 sectors a cluster, so that 64 clusters have 256 records. The answer is the
-/// table as it is then; the lowest new number is the count of records of before, and its sequence 1.
+/// clear. A bitmap in record 0 stays there as long as that has room with it, and leaves for clusters
+/// of its own where it hasn't. Record 0 is put in table and mirror, and into these clusters the
+/// bitmap that left; the bits of the clusters that came are set in `clusters`, the bitmap of the
+/// volume's clusters; and the new records are put as zeros, each a whole body. The volume has 8
+/// sectors a cluster, so that 64 clusters have 256 records. The answer is the table as it is then;
+/// the lowest new number is the count of records of before, and its sequence 1.
 ///
 /// - [`GrowthFault::Full`]: record 0, or the record of `clusters`, would use these bytes, which are
 ///   above 1,024.
@@ -182,6 +222,7 @@ pub fn grow_table<V: View, B: FreeBits>(
     requires clusters { IsBitmap clusters.old }
     requires within { length (B.bits bits.old) ≤ bit_count clusters.old.stream }
     ensures put { IfOk result (λ t. IfSome (V.content draft.old.view.now) (λ c. GrowsTable c per (B.bits bits.old) mirror.now table clusters.old draft.old.touched.items draft.new.touched.items t clusters.new)) }
+    ensures stands { IfOk result (λ t. IsBitmap t.bitmap) }
     ensures bits { IfOk result (λ _. B.bits bits.new ≡ behind_table per (B.bits bits.old) table) }
     ensures space { GivesOrFails (λ _. tt) growth_space result (space_of per (B.bits bits.old) table) }
     ensures full { IfErr (fits_room (grown_record per (B.bits bits.old) table)) (λ used. GivesOrFails (λ _. tt {0}) growth_room result (Err used)) }

@@ -4,6 +4,7 @@
 
 mod fault;
 mod growing;
+mod held;
 mod laws;
 mod longer;
 mod numbers;
@@ -22,4 +23,4 @@ pub use plan_draft::Draft;
 pub use plan_space::FreeBits;
 pub use runs::put_runs_of;
 pub use state_model::{ClusterSize, Extents, Stream};
-pub use table::Table;
+pub use table::{Table, may_have_more};

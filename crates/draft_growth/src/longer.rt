@@ -2,7 +2,6 @@
 //! numbers.
 ghost use Rattle.std.specs.Prelude.{◌≡◌, ◌+◌, ◌-◌, ◌*◌, ◌/◌, ◌<◌, ◌≤◌, ◌^◌, [], ◌++◌, Err, All, IfOk, IfErr, not, max, count_by, length};
 ghost use Rattle.host_base.specs.Answers.{GivesOrFails};
-ghost use Rattle.disk_model.specs.Bytes.{zeros};
 ghost use Rattle.record_model.specs.Pairs.{cluster_limit, HasSpelling};
 ghost use Rattle.record_streams.specs.Fitting.{FitsButRoom};
 ghost use Rattle.space_model.specs.Choosing.{chosen, with_runs};
@@ -12,28 +11,29 @@ ghost use Rattle.state_model.specs.Loads.{total_clusters};
 ghost use Rattle.record_model.specs.Constants.{data_type};
 ghost use Rattle.record_streams.specs.Placing.{placed_record};
 ghost use Rattle.resized_streams.specs.Resizing.{clusters_for, with_sizes, IsGrown};
-ghost use Rattle.draft_bitmaps.specs.Bitmaps.{with_value, IsBitmap};
+ghost use Rattle.draft_bitmaps.specs.Bitmaps.{IsBitmap};
 ghost use Rattle.state_model.specs.declared.stream.Stream.TheVariants.{Held, Placed};
 ghost use Rattle.draft_growth.specs.Faults.{space_cause};
-ghost use Rattle.draft_growth.specs.Growing.{wanted_for, space_for, table_clusters, larger, placed_in, roomier, with_room, more_for, MayGrow, MayGrowIn, IsTable, IsLonger, IsLongerData};
+ghost use Rattle.draft_growth.specs.Growing.{size_in, standing, wanted_for, space_for, table_clusters, larger, placed_in, roomier, with_room, more_for, MayGrow, MayGrowIn, IsTable, IsLonger, IsLongerData};
 
+use crate::held::longer_held;
 use crate::table::Table;
-use crate::zeros::zero_bytes;
 use draft_bitmaps::Bitmap;
 use host_base::{Bytes, Memory};
 use plan_space::{FreeBits, SpaceFault};
 use record_model::{DATA, Run};
-use record_values::valued_record;
 use resized_streams::{Resized, grow, sized};
 use state_model::{ClusterSize, Extents, Stream};
-use std::alloc::{AllocError, Global};
+use std::alloc::Global;
 use stream_runs::total_clusters;
 
-/// A bitmap that has become longer, and the clusters that it took.
+/// A bitmap that has become longer, the clusters that it took, and the bytes that left its record
+/// for them.
 #[derive(Debug, Drop)]
 pub struct Longer {
     pub bitmap: Bitmap,
     pub taken: Vec<Run>,
+    pub leaving: Bytes,
 }
 
 // How many clusters the file table grows by, and how many bytes of records.
@@ -103,41 +103,6 @@ pub fn longer_data<B: FreeBits>(
     Ok(larger)
 }
 
-// A copy of the value with zeros behind it, so that it has as many bytes.
-fn longer_value(alloc: Global, value: &[u8], size: u64) -> Result<Bytes, AllocError>
-    requires short { length value.now ≤ 2 ^ 15 }
-    requires size { size ≤ 2 ^ 16 }
-    ensures value { IfOk result (λ bytes. bytes ≡ value.now ++ zeros (size - length value.now)) }
-    ensures short { IfOk result (λ bytes. length bytes ≤ 2 ^ 16) }
-{
-    let more = zero_bytes(alloc, (size as usize).saturating_sub(value.len()))?;
-    let mut bytes = Vec::from_slice(alloc, value)?;
-    bytes.extend_from_slice(&more)?;
-    Ok(Bytes::from(bytes))
-}
-
-// The bitmap with a longer value.
-fn longer_held(alloc: Global, bitmap: &Bitmap, value: &[u8], size: u64) -> Result<Longer, Memory>
-    requires stands { IsBitmap bitmap.now }
-    requires short { length value.now ≤ 2 ^ 15 }
-    requires size { size ≤ 2 ^ 16 }
-    ensures bitmap { IfOk result (λ l. l.bitmap ≡ with_value (value.now ++ zeros (size - length value.now)) bitmap.now) }
-    ensures taken { IfOk result (λ l. l.taken.items ≡ []) }
-    ensures stands { IfOk result (λ l. IsBitmap l.bitmap) }
-{
-    let bytes = longer_value(alloc, value, size)?;
-    let file = valued_record(alloc, bitmap.kind, &[], bytes.as_slice(), &bitmap.file)?;
-    Ok(Longer {
-        bitmap: Bitmap {
-            number: bitmap.number,
-            kind: bitmap.kind,
-            file,
-            stream: Stream::Held(bytes),
-        },
-        taken: Vec::new(alloc),
-    })
-}
-
 // The bitmap with the clusters that it took, and of at least this size.
 fn roomier(
     alloc: Global,
@@ -153,6 +118,7 @@ fn roomier(
     requires initialised { grown.extents.initialised < 2 ^ 61 }
     ensures bitmap { IfOk result (λ l. l.bitmap ≡ placed_in per (with_sizes (max grown.extents.real size) grown.extents.initialised grown.extents) grown.file bitmap.now) }
     ensures taken { IfOk result (λ l. l.taken ≡ grown.taken) }
+    ensures leaving { IfOk result (λ l. l.leaving ≡ []) }
     ensures stands { IfOk result (λ l. IsBitmap l.bitmap) }
 {
     let kind = bitmap.kind;
@@ -176,6 +142,7 @@ fn roomier(
             stream: Stream::Placed(new.extents),
         },
         taken: grown.taken,
+        leaving: Bytes::new(alloc),
     })
 }
 
@@ -225,7 +192,7 @@ fn wider<B: FreeBits>(
 }
 
 // The bitmap in clusters with as many more as it needs for so many bytes.
-fn longer_placed<B: FreeBits>(
+pub fn longer_placed<B: FreeBits>(
     alloc: Global,
     per: ClusterSize,
     bits: &mut B,
@@ -239,6 +206,7 @@ fn longer_placed<B: FreeBits>(
     requires size { size ≤ 2 ^ 19 }
     ensures value { IfOk result (λ l. l.bitmap ≡ with_room per size (more_for per size (B.bits bits.old) (Placed extents.now)) (Placed extents.now) bitmap.now) }
     ensures taken { IfOk result (λ l. l.taken.items ≡ more_for per size (B.bits bits.old) (Placed extents.now)) }
+    ensures leaving { IfOk result (λ l. l.leaving ≡ []) }
     ensures bits { IfOk result (λ l. B.bits bits.new ≡ with_runs l.taken.items (B.bits bits.old)) }
     ensures space { GivesOrFails (λ _. tt) space_cause result (space_for (wanted_for per size (Placed extents.now)) (B.bits bits.old)) }
     ensures stands { IfOk result (λ l. IsBitmap l.bitmap) }
@@ -260,7 +228,8 @@ fn longer_placed<B: FreeBits>(
     Ok(longer)
 }
 
-// The bitmap with room for so many bytes, wherever it stands.
+// The bitmap with room for so many bytes, wherever it stands: a value leaves its record for clusters
+// where that would be too full with the longer one.
 pub fn longer_bitmap<B: FreeBits>(
     alloc: Global,
     per: ClusterSize,
@@ -272,14 +241,19 @@ pub fn longer_bitmap<B: FreeBits>(
     requires few { length (B.bits bits.old) ≤ cluster_limit }
     requires stream { MayGrowIn (length (B.bits bits.old)) size bitmap.now.stream }
     requires size { size ≤ 2 ^ 19 }
-    ensures value { IfOk result (λ l. IsLonger per size (B.bits bits.old) bitmap.now l) }
+    ensures value { IfOk result (λ l. IsLonger per (size_in bitmap.now.stream size) (B.bits bits.old) bitmap.now l) }
     ensures bits { IfOk result (λ l. B.bits bits.new ≡ with_runs l.taken.items (B.bits bits.old)) }
-    ensures space { GivesOrFails (λ _. tt) space_cause result (space_for (wanted_for per size bitmap.now.stream) (B.bits bits.old)) }
+    ensures space { GivesOrFails (λ _. tt) space_cause result (space_for (wanted_for per (size_in bitmap.now.stream size) (standing (size_in bitmap.now.stream size) bitmap.now)) (B.bits bits.old)) }
     ensures stands { IfOk result (λ l. IsBitmap l.bitmap) }
     ensures near { IfOk result (λ l. All IsNear l.taken.items) }
+    ensures few { IfOk result (λ l. length l.leaving ≤ 2 ^ 16) }
 {
     match &bitmap.stream {
-        Stream::Held(value) => Ok(longer_held(alloc, bitmap, value.as_slice(), size)?),
+        Stream::Held(value) => {
+            let value = value.as_slice();
+            let size = size.max(value.len() as u64);
+            longer_held(alloc, per, bits, bitmap, value, size)
+        }
         Stream::Placed(extents) => longer_placed(alloc, per, bits, bitmap, extents, size),
     }
 }

@@ -20,6 +20,7 @@ use Rattle.stream_laws.specs.Owners.{initialised_in}
 use Rattle.stream_laws.specs.Sharing.{runs_in}
 use Rattle.stream_laws.proofs.Sharing.{uses-none}
 use Rattle.stream_runs.proofs.Places.{places-grown}
+use Rattle.resized_streams.specs.Resizing.{unplaced}
 use Rattle.plan_owners.specs.States.{Stands}
 use Rattle.plan_model.proofs.Drafting.{per_is}
 use Rattle.plan_growth.specs.Streams.{MayTake}
@@ -44,6 +45,10 @@ no_sector per m b is = absurd cc
 
 below_total : (per total initialised m : ℕ) → per ≡ 8 → initialised ≤ total * (512 * per) → 512 * m < initialised → 1 * m / per < total
 below_total per total initialised m eight = subst (λ (p : ℕ). initialised ≤ total * (512 * p) → 512 * m < initialised → 1 * m / p < total) (sym eight) (λ least begins. omega (arith, least, begins))
+
+-- a stream without clusters and sizes is lawful
+none_fits : (per clusters : ℕ) → fits_volume per clusters (Some (Placed (unplaced 0))) ≡ true
+none_fits per clusters = eq-eqb 0 (0 * (512 * per)) (omega arith)
 
 module _ (c : Content) (g : Geometry) (clusters : ℕ) (v : Volume) (more : List Run) (eight : g.per_cluster ≡ 8) (state : Stands c g clusters v) (taken : MayTake v.clusters (cluster_bits c v) more) where
   module _ (e f : Extents) (k : TakesBits v.per more e f) (fits_old : fits_volume v.per v.clusters (Some (Placed e)) ≡ true) where
@@ -81,6 +86,14 @@ module _ (c : Content) (g : Geometry) (clusters : ℕ) (v : Volume) (more : List
     sectors = λ m b lies. absurd (no_sector v.per m b lies);
     stays = λ m begins. refl;
   }
-  becomes_wider (Held value) (Placed f) none fits_old = absurd none
+  becomes_wider (Held value) (Placed f) k fits_old =
+      let from_none = placed_wider (unplaced 0) f k (none_fits v.per v.clusters) in
+      record {
+        fits = from_none.fits;
+        holes = λ is. from_none.holes refl;
+        balance = from_none.balance;
+        sectors = from_none.sectors;
+        stays = λ m begins. absurd (omega (arith, begins));
+      }
   becomes_wider (Placed e) (Held bytes) none fits_old = absurd none
   becomes_wider (Placed e) (Placed f) k fits_old = placed_wider e f k fits_old

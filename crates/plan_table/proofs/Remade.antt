@@ -1,7 +1,7 @@
 -- What of a record stays where streams of it are others, and what its streams and clusters become.
 use Rattle.std.proofs.Common.{◌≡◌, ◌≢◌, ◌⊎◌, ℕ, ◌+◌, Bool, true, ◌&&◌, eqb, List, [], ◌∷◌, Some, refl, sym, ap, subst, ◌∙◌, inl, inr, arith}
 use Rattle.std.specs.Prelude.{All}
-use Rattle.std.specs.List.{list_all}
+use Rattle.std.specs.List.{flat_map, list_all}
 use Rattle.record_model.specs.declared.attribute.Attr.{Attr}
 use Rattle.record_model.specs.declared.record.RecHead.{RecHead}
 use Rattle.record_model.specs.declared.runs.Run.{Run}
@@ -15,13 +15,14 @@ use Rattle.state_model.specs.declared.stream.Stream.{Stream}
 use Rattle.state_model.specs.declared.stream.Stream.TheVariants.{Held, Placed}
 use Rattle.state_model.specs.Files.{record_links, is_base_record, is_directory_record, has_type, info_of}
 use Rattle.state_model.specs.Rules.{keeps_names}
-use Rattle.state_model.specs.Streams.{is_attribute_of, attributes_of, joined, stream_of}
+use Rattle.state_model.specs.Streams.{attribute_runs, is_attribute_of, attributes_of, joined, stream_of}
 use Rattle.volume_model.specs.Indexes.{root_value}
 use Rattle.volume_model.specs.Nodes.{first_flags}
 use Rattle.volume_model.specs.Owners.{file_runs, uses}
 use Rattle.volume_model.specs.Sizes.{are_joined, fits_volume, keeps_stream}
 use Rattle.stream_laws.specs.Sharing.{runs_in}
 use Rattle.record_streams.specs.Placing.{placed_record}
+use Rattle.resized_streams.specs.Resizing.{unplaced}
 use Rattle.record_streams.proofs.Streams.{placed_one}
 use Rattle.record_values.specs.Values.{valued_record}
 use Rattle.record_values.proofs.Valued.{values_put}
@@ -32,7 +33,7 @@ use Rattle.plan_growth.proofs.Ruled.{runs_before}
 use Rattle.plan_growth.proofs.Written.{Reads, placed_reads, written_types, written_directory, written_links, written_names, written_root, written_info, written_stream, written_flags, written_runs, written_sizes}
 use Rattle.stream_runs.proofs.Merging.{follow-grown}
 use Rattle.plan_table.specs.Growing.{TakesBits, BitmapBecomes, with_bitmap, table_record}
-use Rattle.plan_table.proofs.Values.{value_alone, rewrites_value, spares_type, spares_root, spares_other, reads_rewritten}
+use Rattle.plan_table.proofs.Values.{value_alone, alone_runs, rewrites_value, spares_type, spares_root, spares_other, reads_rewritten}
 
 -- ---- one stream
 
@@ -59,10 +60,12 @@ pub record IsOther (kind : ℕ) : Type 0 where
   pub not_info : standard_information ≢ kind
   pub not_root : index_root ≢ kind
 
-pub placed_other : (per clusters kind : ℕ) (name : List ℕ) (e f : Extents) (r : Record) → IsOther kind → HasSpelling 0 f.runs → stream_of kind name r.attrs ≡ Some (Placed e) → HasOther per clusters kind name (Placed e) (Placed f) r (placed_record per kind name f r)
+-- a stream, of whose clusters these are all, stands in others
+placed_from : (per clusters kind : ℕ) (name : List ℕ) (old : Stream) (f : Extents) (r : Record) → IsOther kind → HasSpelling 0 f.runs → stream_of kind name r.attrs ≡ Some old → ((x : ℕ) → uses (flat_map attribute_runs (attributes_of kind name r.attrs)) x ≡ uses (runs_in (Some old)) x)
+    → HasOther per clusters kind name old (Placed f) r (placed_record per kind name f r)
 unfolding stream_of
-placed_other per clusters kind name e f r other spelled is =
-    let some : (a : Attr) × (others : List Attr) × (attributes_of kind name r.attrs ≡ a ∷ others) = some_attributes (attributes_of kind name r.attrs) (Placed e) is in
+placed_from per clusters kind name old f r other spelled is runs =
+    let some : (a : Attr) × (others : List Attr) × (attributes_of kind name r.attrs ≡ a ∷ others) = some_attributes (attributes_of kind name r.attrs) old is in
     let head : (placed_record per kind name f r).head ≡ r.head = placed_head per kind name f r some.0 some.1 some.2 spelled in
     record {
       seq = ap (λ (h : RecHead). h.seq) head;
@@ -76,10 +79,19 @@ placed_other per clusters kind name e f r other spelled is =
       stream = placed_is_there per kind name f r some.0 some.1 some.2 spelled;
       first = ap first_flags (placed_one per kind name f r some.0 some.1 some.2) ∙ sym (ap first_flags some.2);
       pieces = other_pieces per kind name f r some.0 some.1 some.2 spelled;
-      balance = λ x. (let sum = placed_uses per kind name f r some.0 some.1 some.2 spelled x in let before = runs_before kind name r e is x in omega (arith, sum, before));
+      balance = λ x. (let sum = placed_uses per kind name f r some.0 some.1 some.2 spelled x in let before = runs x in omega (arith, sum, before));
       sizes = λ old fits. placed_sizes per kind name f r some.0 some.1 some.2 spelled per clusters fits old;
       reads = placed_all per kind name f r some.0 some.1 some.2 spelled Reads (placed_reads per f some.0 spelled);
     }
+
+pub placed_other : (per clusters kind : ℕ) (name : List ℕ) (e f : Extents) (r : Record) → IsOther kind → HasSpelling 0 f.runs → stream_of kind name r.attrs ≡ Some (Placed e) → HasOther per clusters kind name (Placed e) (Placed f) r (placed_record per kind name f r)
+placed_other per clusters kind name e f r other spelled is = placed_from per clusters kind name (Placed e) f r other spelled is (runs_before kind name r e is)
+
+-- a value has no clusters
+left_other : (per clusters kind : ℕ) (name value : List ℕ) (f : Extents) (r : Record) → IsOther kind → HasSpelling 0 f.runs → stream_of kind name r.attrs ≡ Some (Held value) → are_joined (attributes_of kind name r.attrs) ≡ true
+    → HasOther per clusters kind name (Held value) (Placed f) r (placed_record per kind name f r)
+unfolding stream_of
+left_other per clusters kind name value f r other spelled is whole = placed_from per clusters kind name (Held value) f r other spelled is (alone_runs (attributes_of kind name r.attrs) value is whole)
 
 pub valued_other : (per clusters kind : ℕ) (name value bytes : List ℕ) (r : Record) → IsOther kind → stream_of kind name r.attrs ≡ Some (Held value) → are_joined (attributes_of kind name r.attrs) ≡ true → HasOther per clusters kind name (Held value) (Held bytes) r (valued_record kind name bytes r)
 unfolding stream_of
@@ -119,7 +131,7 @@ becomes_spelled per more e f k spelled = subst (HasSpelling 0) (sym k.runs) (fol
 bitmap_other : (per clusters : ℕ) (more : List Run) (old new : Stream) (q : Record) → BitmapBecomes per more old new → HasSpelling 0 more → stream_of bitmap_type [] q.attrs ≡ Some old → are_joined (attributes_of bitmap_type [] q.attrs) ≡ true
     → HasOther per clusters bitmap_type [] old new q (with_bitmap per new q)
 bitmap_other per clusters more (Held value) (Held bytes) q becomes spelled is whole = valued_other per clusters bitmap_type [] value bytes q is_bitmap is whole
-bitmap_other per clusters more (Held value) (Placed f) q becomes spelled is whole = absurd becomes
+bitmap_other per clusters more (Held value) (Placed f) q becomes spelled is whole = left_other per clusters bitmap_type [] value f q is_bitmap (becomes_spelled per more (unplaced 0) f becomes spelled) is whole
 bitmap_other per clusters more (Placed e) (Held bytes) q becomes spelled is whole = absurd becomes
 bitmap_other per clusters more (Placed e) (Placed f) q becomes spelled is whole = placed_other per clusters bitmap_type [] e f q is_bitmap (becomes_spelled per more e f becomes spelled) is
 

@@ -1,5 +1,5 @@
 -- A record in which a value that stands there is another value.
-use Rattle.std.proofs.Common.{◌≡◌, ◌≢◌, ◌⊎◌, ℕ, Bool, true, false, not, ◌&&◌, cond, eqb, ltb, List, [], ◌∷◌, Some, refl, sym, ap, subst, ◌∙◌, inl, inr, arith}
+use Rattle.std.proofs.Common.{◌≡◌, ◌≢◌, ◌⊎◌, ℕ, Bool, true, false, not, ◌&&◌, cond, eqb, ltb, List, [], ◌∷◌, ◌++◌, Some, refl, sym, ap, subst, ◌∙◌, inl, inr, arith}
 use Rattle.std.specs.Prelude.{filter, All}
 use Rattle.std.specs.List.{flat_map, sum_by}
 use Rattle.std.proofs.lemmas.Bool.{cases_Bool, and_parts, both_ways, eqb-true, false_from_ne_true}
@@ -16,6 +16,7 @@ use Rattle.state_model.specs.declared.stream.Stream.TheVariants.{Held}
 use Rattle.state_model.specs.Indexes.{is_names_root}
 use Rattle.state_model.specs.Loads.{total_clusters}
 use Rattle.state_model.specs.Streams.{first_vcn, form_runs, form_stream, is_attribute_of, sorted_into, attributes_of, attribute_runs, joined}
+use Rattle.volume_model.specs.Owners.{uses}
 use Rattle.volume_model.specs.Sizes.{are_joined}
 use Rattle.stream_laws.proofs.Sharing.{attributes_sum, attribute_kind}
 use Rattle.record_streams.specs.Placing.{without_stream, with_stream}
@@ -45,6 +46,13 @@ value_alone (a ∷ b ∷ more) value held whole =
     let is = form_holds a.form (flat_map attribute_runs (a ∷ b ∷ more)) value held in
     let some : ltb 0 (total_clusters (attribute_runs a)) ≡ true = (and_parts (eqb (first_vcn a) 0) (ltb 0 (total_clusters (attribute_runs a))) (and_parts (eqb (first_vcn a) 0 && ltb 0 (total_clusters (attribute_runs a))) _ whole).0).1 in
     absurd (both_ways (ltb 0 (total_clusters (attribute_runs a))) (ap (ltb 0) (no_clusters a is)) some)
+
+-- so it has no clusters
+pub alone_runs : (attributes : List Attr) (value : List ℕ) → joined attributes ≡ Some (Held value) → are_joined attributes ≡ true → (x : ℕ) → uses (flat_map attribute_runs attributes) x ≡ uses [] x
+unfolding attribute_runs
+alone_runs attributes value held whole x =
+    let own = value_alone attributes value held whole in
+    ap (λ (l : List Attr). uses (flat_map attribute_runs l) x) own.1.1 ∙ ap (λ (l : List Run). uses (l ++ []) x) (value_runs own.0.form own.1.0)
 
 -- ---- the attributes of a record
 

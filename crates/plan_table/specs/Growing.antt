@@ -32,7 +32,7 @@ use Rattle.tree_laws.specs.Steps.{stepped}
 use Rattle.stream_runs.specs.Runs.{grown}
 use Rattle.record_streams.specs.Placing.{placed_record}
 use Rattle.record_values.specs.Values.{valued_record}
-use Rattle.resized_streams.specs.Resizing.{cluster_bytes, lengthened, with_sizes}
+use Rattle.resized_streams.specs.Resizing.{cluster_bytes, lengthened, unplaced, with_sizes}
 use Rattle.plan_bodies.specs.Bodies.{AreBodies, body_in, content_with, NewBody}
 use Rattle.plan_owners.specs.States.{Stands}
 use Rattle.plan_model.specs.Drafts.{GoesOn, gives_runs, IsPut}
@@ -69,10 +69,11 @@ pub record TakesBits (per : ℕ) (more : List Run) (e f : Extents) : Type 0 wher
   pub lawful : f.initialised ≤ f.real
   pub room : f.real ≤ f.allocated
 
--- a value in record 0 is another value, and takes no cluster; a stream in clusters takes these
+-- a value in record 0 is another value, and takes no cluster, or leaves record 0 for these, as a stream that had none; one in clusters
+-- takes these
 abbrev pub BitmapBecomes : ℕ → List Run → Stream → Stream → Type 0
 BitmapBecomes per more (Held value) (Held bytes) = more ≡ []
-BitmapBecomes per more (Held value) (Placed f) = ⊥
+BitmapBecomes per more (Held value) (Placed f) = TakesBits per more (unplaced 0) f
 BitmapBecomes per more (Placed e) (Held bytes) = ⊥
 BitmapBecomes per more (Placed e) (Placed f) = TakesBits per more e f
 

@@ -20,7 +20,7 @@ use Rattle.resized_streams.proofs.Chosen.{chosen_count, total_chosen}
 use Rattle.plan_growth.specs.Streams.{MayTake}
 use Rattle.plan_growth.proofs.Choosing.{may_be_taken}
 use Rattle.draft_growth.specs.declared.table.Table.{Table}
-use Rattle.draft_growth.specs.Growing.{behind_records, bitmap_size, IsTable, more_for, space_of, table_clusters, wanted_for}
+use Rattle.draft_growth.specs.Growing.{behind_records, bitmap_size, IsTable, more_for, numbers_in, space_of, table_clusters, wanted_for}
 use Rattle.draft_growth.proofs.Tables.{length-with_runs}
 use Rattle.table_edits.specs.Grown.{numbers_runs, table_runs}
 use Rattle.table_edits.proofs.Taken.{runs_set, clear_before}
@@ -52,8 +52,8 @@ module _ (per : ℕ) (bits others : List Bool) (t : Table) (few : length bits �
   abbrev behind : List Bool
   behind = behind_records bits t
 
-  room : (leb table_clusters (count_by not bits) ≡ true) × (leb (wanted_for per (bitmap_size t) t.bitmap.stream) (count_by not behind) ≡ true)
-  room = both_ok (nat_le table_clusters (count_by not bits)) (nat_le (wanted_for per (bitmap_size t) t.bitmap.stream) (count_by not behind)) (count_by not bits) (count_by not behind) space
+  room : (leb table_clusters (count_by not bits) ≡ true) × (leb (wanted_for per (bitmap_size t) (numbers_in per bits t)) (count_by not behind) ≡ true)
+  room = both_ok (nat_le table_clusters (count_by not bits)) (nat_le (wanted_for per (bitmap_size t) (numbers_in per bits t)) (count_by not behind)) (count_by not bits) (count_by not behind) space
 
   pub own_size : total_clusters own ≡ 64
   own_size = total_chosen bits (last_cluster t.extents.runs) table_clusters (leb-true table_clusters (count_by not bits) room.0)
@@ -70,7 +70,7 @@ module _ (per : ℕ) (bits others : List Bool) (t : Table) (few : length bits �
     | inr past ↦ past_clear bits x past
   ]
 
-  pub numbers_size : (e : Extents) → t.bitmap.stream ≡ Placed e → total_clusters (more_for per (bitmap_size t) behind (Placed e)) ≡ clusters_for per (bitmap_size t) - total_clusters e.runs
+  pub numbers_size : (e : Extents) → numbers_in per bits t ≡ Placed e → total_clusters (more_for per (bitmap_size t) behind (Placed e)) ≡ clusters_for per (bitmap_size t) - total_clusters e.runs
   numbers_size e is =
       total_chosen behind (last_cluster e.runs) (clusters_for per (bitmap_size t) - total_clusters e.runs)
       (leb-true (wanted_for per (bitmap_size t) (Placed e)) (count_by not behind) (subst (λ (s : Stream). leb (wanted_for per (bitmap_size t) s) (count_by not behind) ≡ true) is room.1))
@@ -78,12 +78,12 @@ module _ (per : ℕ) (bits others : List Bool) (t : Table) (few : length bits �
   pub own_count : length own ≤ 64
   own_count = chosen_count bits (last_cluster t.extents.runs) table_clusters (leb-true table_clusters (count_by not bits) room.0) few (omega arith)
 
-  pub numbers_count : (e : Extents) → t.bitmap.stream ≡ Placed e → clusters_for per (bitmap_size t) ≤ cluster_limit → length (more_for per (bitmap_size t) behind (Placed e)) ≤ clusters_for per (bitmap_size t) - total_clusters e.runs
+  pub numbers_count : (e : Extents) → numbers_in per bits t ≡ Placed e → clusters_for per (bitmap_size t) ≤ cluster_limit → length (more_for per (bitmap_size t) behind (Placed e)) ≤ clusters_for per (bitmap_size t) - total_clusters e.runs
   numbers_count e is most =
       chosen_count behind (last_cluster e.runs) (clusters_for per (bitmap_size t) - total_clusters e.runs)
       (leb-true (wanted_for per (bitmap_size t) (Placed e)) (count_by not behind) (subst (λ (s : Stream). leb (wanted_for per (bitmap_size t) s) (count_by not behind) ≡ true) is room.1)) (omega (arith, few, long)) (omega (arith, most))
 
-  by_stream : (s : Stream) → t.bitmap.stream ≡ s → ((e : Extents) → s ≡ Placed e → clusters_for per (bitmap_size t) ≤ cluster_limit) → MayTake (length bits) others (more_for per (bitmap_size t) behind s) × ((x : ℕ) → 0 < uses (more_for per (bitmap_size t) behind s) x → bit behind x ≡ false)
+  by_stream : (s : Stream) → numbers_in per bits t ≡ s → ((e : Extents) → s ≡ Placed e → clusters_for per (bitmap_size t) ≤ cluster_limit) → MayTake (length bits) others (more_for per (bitmap_size t) behind s) × ((x : ℕ) → 0 < uses (more_for per (bitmap_size t) behind s) x → bit behind x ≡ false)
   by_stream (Held value) is fits = (none_taken (length bits) others, λ x some. absurd (omega (arith, some, uses-none x)))
   by_stream (Placed e) is fits =
       let size = numbers_size e is in
@@ -92,11 +92,11 @@ module _ (per : ℕ) (bits others : List Bool) (t : Table) (few : length bits �
       let all = may_be_taken behind others (last_cluster e.runs) (clusters_for per (bitmap_size t) - total_clusters e.runs) (λ x clear. free x (was_clear x clear)) (omega (arith, few, long)) (omega (arith, size, most)) in
       (subst (λ (n : ℕ). MayTake n others (more_for per (bitmap_size t) behind (Placed e))) long all, may.clear)
 
-  pub numbers_taken : ((e : Extents) → t.bitmap.stream ≡ Placed e → clusters_for per (bitmap_size t) ≤ cluster_limit) → MayTake (length bits) others (numbers_runs per bits t)
-  numbers_taken fits = (by_stream t.bitmap.stream refl fits).0
+  pub numbers_taken : ((e : Extents) → numbers_in per bits t ≡ Placed e → clusters_for per (bitmap_size t) ≤ cluster_limit) → MayTake (length bits) others (numbers_runs per bits t)
+  numbers_taken fits = (by_stream (numbers_in per bits t) refl fits).0
 
   -- no cluster is taken for both
-  pub both_apart : ((e : Extents) → t.bitmap.stream ≡ Placed e → clusters_for per (bitmap_size t) ≤ cluster_limit) → AreApart own (numbers_runs per bits t)
+  pub both_apart : ((e : Extents) → numbers_in per bits t ≡ Placed e → clusters_for per (bitmap_size t) ≤ cluster_limit) → AreApart own (numbers_runs per bits t)
   both_apart fits x =
       let once_own = own_taken.once x in
       let once_other = (numbers_taken fits).once x in
@@ -104,6 +104,6 @@ module _ (per : ℕ) (bits others : List Bool) (t : Table) (few : length bits �
         | inr none ↦ omega (arith, none, once_other)
         | inl some ↦ elim (cases_lt 0 (uses (numbers_runs per bits t) x)) [
           | inr none ↦ omega (arith, none, once_own)
-          | inl other ↦ absurd (both_ways (bit behind x) ((by_stream t.bitmap.stream refl fits).1 x other) (runs_set own bits x own_taken.inside some))
+          | inl other ↦ absurd (both_ways (bit behind x) ((by_stream (numbers_in per bits t) refl fits).1 x other) (runs_set own bits x own_taken.inside some))
         ]
       ]

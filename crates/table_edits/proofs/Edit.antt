@@ -44,7 +44,9 @@ use Rattle.stream_map.proofs.Reading.{kind-block_at}
 use Rattle.record_streams.specs.Placing.{placed_record}
 use Rattle.record_streams.proofs.Kept.{all_with, but_room_fits}
 use Rattle.record_values.specs.Values.{valued_attr, valued_first}
-use Rattle.resized_streams.specs.Resizing.{clusters_for, lengthened}
+use Rattle.resized_streams.specs.Resizing.{clusters_for, lengthened, unplaced}
+use Rattle.draft_streams.specs.Parts.{touch_bytes}
+use Rattle.draft_streams.proofs.Effecting.{effects as bytes_effects}
 use Rattle.stream_runs.specs.Runs.{grown}
 use Rattle.stream_runs.proofs.Places.{places-grown}
 use Rattle.plan_owners.specs.States.{Stands}
@@ -75,7 +77,7 @@ use Rattle.plan_growth.proofs.Placed.{some_attributes}
 use Rattle.disk_model.proofs.Frames.{same_block-is}
 use Rattle.draft_streams.specs.Effects.{HasOwnSectors}
 use Rattle.draft_bits.specs.Effects.{IsKept, stream_bit}
-use Rattle.draft_bits.proofs.BitEffects.{byte_of, drafted_body, same_bit}
+use Rattle.draft_bits.proofs.BitEffects.{byte_of, byte_there, drafted_body, same_bit}
 use Rattle.draft_numbers.specs.Numbers.{new_sequence}
 use Rattle.draft_records.specs.Records.{fits_room, is_past, has_mirror, record_block, written_record}
 use Rattle.draft_runs.specs.Clusters.{PutsRuns}
@@ -86,7 +88,9 @@ use Rattle.draft_bitmaps.specs.Effects.{HasApartSectors, LiesInRun, PutsBitmap}
 use Rattle.draft_bitmaps.proofs.BitmapEffects.{bitmap_put, record_here}
 use Rattle.draft_growth.specs.declared.table.Table.{Table}
 use Rattle.draft_growth.specs.Effects.{HasOwnRecords}
-use Rattle.draft_growth.specs.Growing.{behind_records, bitmap_size, in_file, larger, MayGrowIn, more_for, roomier, PutsOwners, PutsTable, with_empty_records, with_room}
+use Rattle.draft_growth.specs.Growing.{behind_records, bitmap_behind, bitmap_size, filled_up, in_file, larger, leaving, MayGrow, more_for, numbers_bytes, numbers_in, PutsOwners, PutsTable, roomier, standing, with_empty_records, with_leaving, with_room}
+use Rattle.draft_growth.proofs.Standing.{standing_grows}
+use Rattle.draft_growth.proofs.Tables.{at_least}
 use Rattle.draft_growth.proofs.GrownEffects.{grown_read}
 use Rattle.plan_edits.specs.Edits.{bitmap_key, mirror_key}
 use Rattle.plan_edits.specs.Moves.{EditsDraft}
@@ -106,7 +110,8 @@ use Rattle.record_streams.proofs.Fits.{fits_placed}
 use Rattle.resized_streams.proofs.Chosen.{grown_count, total_grown}
 use Rattle.draft_bitmaps.specs.Bitmaps.{IsBitmap}
 use Rattle.draft_growth.proofs.Fulls.{record_grown}
-use Rattle.table_edits.proofs.Steps.{away, behind, bitmap_file_goes, bitmap_goes, empties_go, IsComing, IsNone, IsOfBitmap, IsRecordFrom, runs_as, runs_go, turned}
+use Rattle.table_edits.proofs.Steps.{away, behind, bitmap_file_goes, bitmap_goes, empties_go, in_zeros, IsComing, IsLeft, IsNone, IsOfBitmap, IsRecordFrom, leaving_goes, none_leaving, runs_as, runs_go, turned}
+use Rattle.table_edits.proofs.Ways.{becomes_of, filled_long, held_short, Leaves, size_small, Stays, ways}
 
 -- ---- small facts
 
@@ -237,7 +242,7 @@ valued_by kind name value r (a ∷ others) used = record {
 -- the new bitmap in clusters has a spelling
 bitmap_in_use : (per : ℕ) (more : List Run) (old new : Stream) (q : Record) → BitmapBecomes per more old new → HasSpelling 0 more → IsInUse q → IsInUse (with_bitmap per new q)
 bitmap_in_use per more (Held value) (Held bytes) q becomes spelled used = valued_by bitmap_type [] bytes q (attributes_of bitmap_type [] q.attrs) used
-bitmap_in_use per more (Held value) (Placed f) q becomes spelled used = absurd becomes
+bitmap_in_use per more (Held value) (Placed f) q k spelled used = written_read.placed per bitmap_type [] f q (subst (HasSpelling 0) (sym k.runs) (follow-grown [] more tt spelled k.few)) used
 bitmap_in_use per more (Placed e) (Held bytes) q becomes spelled used = absurd becomes
 bitmap_in_use per more (Placed e) (Placed f) q k spelled used = written_read.placed per bitmap_type [] f q (subst (HasSpelling 0) (sym k.runs) (follow-grown e.runs more k.spelled spelled k.few)) used
 
@@ -268,6 +273,16 @@ module _ (c : Content) (g : Geometry) (clusters : ℕ) (v : Volume) (bits : List
 
   abbrev was : Stream
   was = t.bitmap.stream
+
+  -- the stream that gets room: the old one, or that of the value that leaves
+  abbrev taking : Stream
+  taking = numbers_in per bits t
+
+  abbrev left : List ℕ
+  left = k.grows.longer.leaving
+
+  which : Stays (bitmap_size t) (bitmap_behind per bits t) was ⊎ Leaves (bitmap_size t) (bitmap_behind per bits t) was
+  which = ways (bitmap_size t) (bitmap_behind per bits t) was
 
   abbrev is : Stream
   is = after.bitmap.stream
@@ -312,14 +327,19 @@ module _ (c : Content) (g : Geometry) (clusters : ℕ) (v : Volume) (bits : List
   few : length bits ≤ cluster_limit
   few = k.stands.few
 
-  size_of : bitmap_size t ≡ (count + 256 + 7) / 8
+  size_of : numbers_bytes t ≡ (count + 256 + 7) / 8
   size_of = ap (λ (e : Extents). (record_count e + 256 + 7) / 8) k.table
 
+  large : (count + 256 + 7) / 8 ≤ bitmap_size t
+  large = (let least = at_least (numbers_bytes t) was in let is_size = size_of in omega (arith, least, is_size))
+
+  small : bitmap_size t ≤ 131072
+  small = (let most = k.few in let is_size = size_of in size_small (length bits) (numbers_bytes t) 131072 was k.stands.stream (omega (arith, is_size, most)) (omega arith))
+
   -- the bitmap of numbers wants few clusters
-  wants_few : (e : Extents) → was ≡ Placed e → clusters_for per (bitmap_size t) ≤ cluster_limit
+  wants_few : (e : Extents) → taking ≡ Placed e → clusters_for per (bitmap_size t) ≤ cluster_limit
   wants_few e same =
-      let most = k.few in
-      ap_le (bitmap_size t) (let size = size_of in omega (arith, size, most))
+      ap_le (bitmap_size t) small
     where
       ap_le : (n : ℕ) → n ≤ 131072 → clusters_for per n ≤ cluster_limit
       ap_le n low = subst (λ (p : ℕ). clusters_for p n ≤ cluster_limit) (sym per_8) (omega (arith, low))
@@ -334,16 +354,32 @@ module _ (c : Content) (g : Geometry) (clusters : ℕ) (v : Volume) (bits : List
   size = own_size per bits (cluster_bits d v) t few k.free k.space k.stands
 
   few_clusters : clusters_for per (bitmap_size t) ≤ 2048
-  few_clusters = (let most = k.few in let is_size = size_of in subst (λ (p : ℕ). clusters_for p (bitmap_size t) ≤ 2048) (sym per_8) (omega (arith, is_size, most)))
+  few_clusters = (let most = small in subst (λ (p : ℕ). clusters_for p (bitmap_size t) ≤ 2048) (sym per_8) (omega (arith, most)))
 
   bytes_few : (runs : List Run) → total_clusters runs ≤ cluster_limit → total_clusters runs * (512 * per) < 2 ^ 64
   bytes_few runs low = subst (λ (p : ℕ). total_clusters runs * (512 * p) < 2 ^ 64) (sym per_8) (omega (arith, low))
 
-  may_by : (x : Stream) → was ≡ x → fits_volume v.per v.clusters (Some x) ≡ true → MayBecome per (bitmap_size t) (more_for per (bitmap_size t) (behind_records bits t) x) x
-  may_by (Held value) same fits = refl
-  may_by (Placed e) same fits =
-      let grows = subst (λ (x : Stream). MayGrowIn (length bits) (bitmap_size t) x) same k.stands.stream in
-      let sizes = sizes_lawful v.per v.clusters e fits in
+  -- the sizes of the stream that gets room, where it has clusters or gets its first ones
+  sizes_by : (e : Extents) → taking ≡ Placed e → (e.initialised ≤ e.real) × ((e.real ≤ total_clusters e.runs * (512 * per)) ⊎ (e.real ≤ bitmap_size t))
+  sizes_by e same = elim which [
+    | inl stays ↦
+        (let fits : fits_volume v.per v.clusters (Some (Placed e)) ≡ true = subst (λ (x : Stream). fits_volume v.per v.clusters (Some x) ≡ true) (sym stays.same ∙ same) bitmap_fits in
+        let sizes = sizes_lawful v.per v.clusters e fits in
+        (sizes.0, inl sizes.1))
+    | inr leaves ↦
+        (let new : Placed (unplaced (bitmap_size t)) ≡ Placed e = sym leaves.stands ∙ same in
+        let its : unplaced (bitmap_size t) ≡ e = cc in
+        subst (λ (x : Extents). (x.initialised ≤ x.real) × ((x.real ≤ total_clusters x.runs * (512 * per)) ⊎ (x.real ≤ bitmap_size t))) its (omega arith, inr (omega arith)))
+  ]
+
+  grows_by : (e : Extents) → taking ≡ Placed e → MayGrow (length bits) e
+  grows_by e same = standing_grows (length bits) (numbers_bytes t) (bitmap_behind per bits t) e k.stands.stream same
+
+  may_by : (x : Stream) → taking ≡ x → MayBecome per (bitmap_size t) (more_for per (bitmap_size t) (behind_records bits t) x) x
+  may_by (Held value) same = refl
+  may_by (Placed e) same =
+      let grows = grows_by e same in
+      let sizes = sizes_by e same in
       let total = numbers_size per bits (cluster_bits d v) t few k.free k.space k.stands e same in
       record {
         spelled = grows.spelled;
@@ -353,8 +389,8 @@ module _ (c : Content) (g : Geometry) (clusters : ℕ) (v : Volume) (bits : List
         room = sizes.1;
       }
 
-  may : MayBecome per (bitmap_size t) bits_more was
-  may = may_by was refl bitmap_fits
+  may : MayBecome per (bitmap_size t) bits_more taking
+  may = may_by taking refl
 
   -- ---- what was put, in these words
 
@@ -383,22 +419,34 @@ module _ (c : Content) (g : Geometry) (clusters : ℕ) (v : Volume) (bits : List
       let first : (a : Attr) × (others : List Attr) × (attributes_of bitmap_type [] t.bitmap.file.attrs ≡ a ∷ others) = some_attributes (attributes_of bitmap_type [] t.bitmap.file.attrs) was k.stream in
       (first.0, first.1, placed_others per data_type bitmap_type [] [] f t.bitmap.file (inl (λ e. omega (arith, e))) ∙ first.2)
 
-  longer_is : lb ≡ with_room per (bitmap_size t) bits_more was (in_file k.grows.records.file t.bitmap)
-  longer_is = k.grows.is_longer.bitmap ∙ ap (λ (runs : List Run). with_room per (bitmap_size t) (more_for per (bitmap_size t) (with_runs runs bits) was) was (in_file k.grows.records.file t.bitmap)) k.grows.is_records.taken
+  abbrev base : Bitmap
+  base = in_file k.grows.records.file t.bitmap
+
+  stands_as : standing (bitmap_size t) base ≡ taking
+  stands_as = ap (λ (r : Record). standing (bitmap_size t) (in_file r t.bitmap)) k.grows.is_records.file
+
+  longer_is : lb ≡ with_room per (bitmap_size t) bits_more taking base
+  longer_is = k.grows.is_longer.bitmap ∙ ap₂ (λ (runs : List Run) (x : Stream). with_room per (bitmap_size t) (more_for per (bitmap_size t) (with_runs runs bits) x) x base) k.grows.is_records.taken stands_as
 
   more_are : k.grows.longer.taken.items ≡ bits_more
-  more_are = k.grows.is_longer.taken ∙ ap (λ (runs : List Run). more_for per (bitmap_size t) (with_runs runs bits) was) k.grows.is_records.taken
+  more_are = k.grows.is_longer.taken ∙ ap₂ (λ (runs : List Run) (x : Stream). more_for per (bitmap_size t) (with_runs runs bits) x) k.grows.is_records.taken stands_as
+
+  left_are : left ≡ leaving was taking (bitmap_size t)
+  left_are = k.grows.is_longer.leaves ∙ ap (λ (x : Stream). leaving was x (bitmap_size t)) stands_as
 
   number : lb.number ≡ 0
-  number = ap (λ (x : Bitmap). x.number) longer_is ∙ same_number was ∙ k.stands.number
+  number = ap (λ (x : Bitmap). x.number) longer_is ∙ same_number taking ∙ k.stands.number
     where
-      same_number : (x : Stream) → (with_room per (bitmap_size t) bits_more x (in_file k.grows.records.file t.bitmap)).number ≡ t.bitmap.number
+      same_number : (x : Stream) → (with_room per (bitmap_size t) bits_more x base).number ≡ t.bitmap.number
       same_number (Held value) = refl
       same_number (Placed e) = refl
 
-  -- the drafts between: record 0 is put, the numbers' bits are clear, the clusters' set one after the other
+  -- the drafts between: record 0 is put, then what left it, the numbers' bits are clear, the clusters' set one after the other
   abbrev first : List Touched
   first = with_record c per f mirror lb old
+
+  abbrev moved : List Touched
+  moved = with_leaving c per lb.stream left first
 
   abbrev cleared : List Touched
   cleared = k.grows.put.0
@@ -406,10 +454,10 @@ module _ (c : Content) (g : Geometry) (clusters : ℕ) (v : Volume) (bits : List
   abbrev marks : List Touched
   marks = k.grows.put.1
 
-  put_numbers : PutsInto lb.stream c per f mirror lb count 256 false first cleared after.bitmap
+  put_numbers : PutsInto lb.stream c per f mirror lb count 256 false moved cleared after.bitmap
   put_numbers =
-      subst (λ (n : ℕ). PutsInto lb.stream c per f mirror lb n 256 false first cleared after.bitmap) (ap record_count k.table)
-      (subst (λ (e : Extents). PutsTable c per e mirror lb (record_count t.extents) old cleared after.bitmap) records_are k.grows.put.2)
+      subst (λ (n : ℕ). PutsInto lb.stream c per f mirror lb n 256 false moved cleared after.bitmap) (ap record_count k.table)
+      (subst (λ (e : Extents). PutsTable c per e mirror lb left (record_count t.extents) old cleared after.bitmap) records_are k.grows.put.2)
 
   -- ---- record 0 has a spelling, each time that it is put
 
@@ -436,7 +484,7 @@ module _ (c : Content) (g : Geometry) (clusters : ℕ) (v : Volume) (bits : List
       let came = own_count per bits (cluster_bits d v) t few k.free k.space k.stands in
       omega (arith, few_runs, came, grown_count v.table.runs more)
 
-  base_is : IsBitmap (in_file k.grows.records.file t.bitmap)
+  base_is : IsBitmap base
   base_is = record {
     number = k.stands.bitmap.number;
     kind = k.stands.bitmap.kind;
@@ -444,10 +492,17 @@ module _ (c : Content) (g : Geometry) (clusters : ℕ) (v : Volume) (bits : List
     stream = k.stands.bitmap.stream;
   }
 
-  longer_by : (x : Stream) → was ≡ x → MayBecome per (bitmap_size t) (more_for per (bitmap_size t) (behind_records bits t) x) x → HasSpelling 0 (more_for per (bitmap_size t) (behind_records bits t) x) → MayBeLonger per (bitmap_size t) (more_for per (bitmap_size t) (behind_records bits t) x) x
-  longer_by (Held value) same became follow = (subst (λ (x : Stream). MayGrowIn (length bits) (bitmap_size t) x) same k.stands.stream).0
+  -- a value that stays is the old one
+  held_was : (value : List ℕ) → taking ≡ Held value → was ≡ Held value
+  held_was value same = elim which [
+    | inl stays ↦ sym stays.same ∙ same
+    | inr leaves ↦ (let other : Placed (unplaced (bitmap_size t)) ≡ Held value = sym leaves.stands ∙ same in absurd cc)
+  ]
+
+  longer_by : (x : Stream) → taking ≡ x → MayBecome per (bitmap_size t) (more_for per (bitmap_size t) (behind_records bits t) x) x → HasSpelling 0 (more_for per (bitmap_size t) (behind_records bits t) x) → MayBeLonger per (bitmap_size t) (more_for per (bitmap_size t) (behind_records bits t) x) x
+  longer_by (Held value) same became follow = (held_short (length bits) (numbers_bytes t) value was (held_was value same) k.stands.stream).0
   longer_by (Placed e) same became follow =
-      let grows = subst (λ (x : Stream). MayGrowIn (length bits) (bitmap_size t) x) same k.stands.stream in
+      let grows = grows_by e same in
       let most = wants_few e same in
       let came = numbers_count per bits (cluster_bits d v) t few k.free k.space k.stands e same most in
       let few_runs = grows.few in
@@ -460,16 +515,13 @@ module _ (c : Content) (g : Geometry) (clusters : ℕ) (v : Volume) (bits : List
         initialised = grows.initialised;
       }
 
-  small : bitmap_size t ≤ 2 ^ 18
-  small = (let most = k.few in let is_size = size_of in omega (arith, is_size, most))
-
-  short_for : (value : List ℕ) → was ≡ Held value → bitmap_size t ≤ 2 ^ 16
-  short_for value same = (subst (λ (x : Stream). MayGrowIn (length bits) (bitmap_size t) x) same k.stands.stream).1
+  short_for : (value : List ℕ) → taking ≡ Held value → bitmap_size t ≤ 2 ^ 16
+  short_for value same = (held_short (length bits) (numbers_bytes t) value was (held_was value same) k.stands.stream).1
 
   spelled_both : IsSpelled per count lb after.bitmap
   spelled_both =
-      both_spelled c per f mirror (bitmap_size t) count bits_more (in_file k.grows.records.file t.bitmap) some_bits.0 some_bits.1 (ap₂ (λ (kind : ℕ) (x : Record). attributes_of kind [] x.attrs) k.kind file_1_is ∙ some_bits.2) per_8 first cleared small base_is (let is_size = size_of in omega (arith, is_size)) was lb
-      after.bitmap longer_is (longer_by was refl may bits_taken.spelled) short_for first_room put_numbers
+      both_spelled c per f mirror (bitmap_size t) count bits_more base some_bits.0 some_bits.1 (ap₂ (λ (kind : ℕ) (x : Record). attributes_of kind [] x.attrs) k.kind file_1_is ∙ some_bits.2) per_8 moved cleared (let most = small in omega (arith, most)) base_is large taking lb
+      after.bitmap longer_is (longer_by taking refl may bits_taken.spelled) short_for first_room put_numbers
 
   put_owners : PutsOwners c per f mirror more bits_more b cleared marks marked
   put_owners =
@@ -489,13 +541,15 @@ module _ (c : Content) (g : Geometry) (clusters : ℕ) (v : Volume) (bits : List
   other_runs : PutsRuns c per bitmap true bits_more between marks × (marked ≡ put_owners.0)
   other_runs = runs_as c per f mirror bitmap true v.clusters k.marks.below bits_more put_owners.0 between marks marked (ap (λ (x : Bitmap). x.stream) own_runs.1 ∙ k.marks_are) bits_taken.inside put_owners.3
 
-  numbers : IsLongerNumbers per (count + 256) bits_more was q lb after.bitmap
+  numbers : IsLongerNumbers per (count + 256) bits_more taking q lb after.bitmap
   numbers =
-      longer_numbers c per f mirror (count + 256) count bits_more q some_bits.0 some_bits.1 some_bits.2 per_8 first cleared refl (in_file k.grows.records.file t.bitmap) k.kind file_1_is was lb after.bitmap
-      (longer_is ∙ ap (λ (n : ℕ). with_room per n bits_more was (in_file k.grows.records.file t.bitmap)) size_of) (subst (λ (n : ℕ). MayBecome per n bits_more was) size_of may) first_room spelled_both.room put_numbers
+      longer_numbers c per f mirror (count + 256) count (bitmap_size t) bits_more q some_bits.0 some_bits.1 some_bits.2 per_8 moved cleared refl large base k.kind file_1_is taking lb after.bitmap longer_is may first_room spelled_both.room put_numbers
+
+  becomes_now : BitmapBecomes per bits_more was is
+  becomes_now = becomes_of per bits_more (bitmap_size t) (bitmap_behind per bits t) was is which numbers.becomes
 
   wider : IsWider v bits_more was is
-  wider = becomes_wider d g clusters v bits_more eight state bits_taken was is numbers.becomes bitmap_fits
+  wider = becomes_wider d g clusters v bits_more eight state bits_taken was is becomes_now bitmap_fits
 
   -- ---- clusters lie once
 
@@ -536,8 +590,11 @@ module _ (c : Content) (g : Geometry) (clusters : ℕ) (v : Volume) (bits : List
   step_1 : Goes (IsMirrored per f mirror 0) (IsMirrored per f mirror 0) old first
   step_1 = subst (λ (n : ℕ). Goes (IsMirrored per f mirror n) (IsMirrored per f mirror n) old first) number (bitmap_file_goes c per f mirror lb old k.sized k.kept spelled_both.first_is first_room)
 
-  step_2 : Goes (IsOfBitmap per f mirror 0 lb.stream) (IsComing per lb.stream is) first cleared
-  step_2 = subst (λ (n : ℕ). Goes (IsOfBitmap per f mirror n lb.stream) (IsComing per lb.stream is) first cleared) number (bitmap_goes c per f mirror lb count 256 false first cleared k.sized step_1.kept lb.stream after.bitmap refl spelled_both.last_is spelled_both.room put_numbers)
+  step_left : Goes (IsSectorOf per (runs_in (Some lb.stream))) (IsLeft per lb.stream (length left)) first moved
+  step_left = leaving_goes c per lb.stream left first k.sized step_1.kept
+
+  step_2 : Goes (IsOfBitmap per f mirror 0 lb.stream) (IsComing per lb.stream is) moved cleared
+  step_2 = subst (λ (n : ℕ). Goes (IsOfBitmap per f mirror n lb.stream) (IsComing per lb.stream is) moved cleared) number (bitmap_goes c per f mirror lb count 256 false moved cleared k.sized step_left.kept lb.stream after.bitmap refl spelled_both.last_is spelled_both.room put_numbers)
 
   step_3 : Goes (IsSectorOf per bitmap.runs) IsNone cleared between
   step_3 = runs_go c per bitmap true more cleared between k.sized step_2.kept own_runs.0
@@ -552,7 +609,7 @@ module _ (c : Content) (g : Geometry) (clusters : ℕ) (v : Volume) (bits : List
   IsAmong a = IsMirrored per f mirror 0 a ⊎ IsSectorOf per (runs_in (Some lb.stream)) a ⊎ IsSectorOf per bitmap.runs a ⊎ IsRecordFrom per f count 256 a
 
   abbrev IsSure : Block → Type 0
-  IsSure a = IsMirrored per f mirror 0 a ⊎ IsComing per lb.stream is a ⊎ IsRecordFrom per f count 256 a
+  IsSure a = IsMirrored per f mirror 0 a ⊎ IsLeft per lb.stream (length left) a ⊎ IsComing per lb.stream is a ⊎ IsRecordFrom per f count 256 a
 
   of_bitmap : (a : Block) → IsOfBitmap per f mirror 0 lb.stream a → IsAmong a
   of_bitmap a (inl own) = inl own
@@ -563,11 +620,13 @@ module _ (c : Content) (g : Geometry) (clusters : ℕ) (v : Volume) (bits : List
       let marking : Block → Type 0 = IsSectorOf per bitmap.runs in
       let fresh : Block → Type 0 = IsRecordFrom per f count 256 in
       let coming : Block → Type 0 = IsComing per lb.stream is in
-      behind IsAmong (IsMirrored per f mirror 0) (λ a. coming a ⊎ fresh a) IsSure old first new (λ a x. x) (turned (IsMirrored per f mirror 0) IsAmong (IsMirrored per f mirror 0) (IsMirrored per f mirror 0) old first (λ a x. inl x) (λ a x. x) step_1)
-      (behind IsAmong coming fresh (λ a. coming a ⊎ fresh a) first cleared new (λ a x. x) (turned (IsOfBitmap per f mirror 0 lb.stream) IsAmong coming coming first cleared of_bitmap (λ a x. x) step_2)
+      let leaves : Block → Type 0 = IsLeft per lb.stream (length left) in
+      behind IsAmong (IsMirrored per f mirror 0) (λ a. leaves a ⊎ coming a ⊎ fresh a) IsSure old first new (λ a x. x) (turned (IsMirrored per f mirror 0) IsAmong (IsMirrored per f mirror 0) (IsMirrored per f mirror 0) old first (λ a x. inl x) (λ a x. x) step_1)
+      (behind IsAmong leaves (λ a. coming a ⊎ fresh a) (λ a. leaves a ⊎ coming a ⊎ fresh a) first moved new (λ a x. x) (turned (IsSectorOf per (runs_in (Some lb.stream))) IsAmong leaves leaves first moved (λ a x. inr (inl x)) (λ a x. x) step_left)
+      (behind IsAmong coming fresh (λ a. coming a ⊎ fresh a) moved cleared new (λ a x. x) (turned (IsOfBitmap per f mirror 0 lb.stream) IsAmong coming coming moved cleared of_bitmap (λ a x. x) step_2)
       (behind IsAmong IsNone fresh fresh cleared between new (λ a x. inr x) (turned marking IsAmong IsNone IsNone cleared between (λ a x. inr (inr (inl x))) (λ a x. x) step_3)
       (behind IsAmong IsNone fresh fresh between marks new (λ a x. inr x) (turned marking IsAmong IsNone IsNone between marks (λ a x. inr (inr (inl x))) (λ a x. x) step_4)
-      (turned fresh IsAmong fresh fresh marks new (λ a x. inr (inr (inr x))) (λ a x. x) step_5))))
+      (turned fresh IsAmong fresh fresh marks new (λ a x. inr (inr (inr x))) (λ a x. x) step_5)))))
 
   abbrev bodies : List NewBody
   bodies = all.blocks.bodies
@@ -627,16 +686,19 @@ module _ (c : Content) (g : Geometry) (clusters : ℕ) (v : Volume) (bits : List
   boot_kind : boot.kind ≡ FileRec
   boot_kind = record_kind per f 0 boot boot_lies
 
-  numbers_bitmap : PutsBitmap c per f mirror lb count 256 false first cleared after.bitmap
-  numbers_bitmap = record { sized = k.sized; kept = step_1.kept; stands = spelled_both.last_is; room = spelled_both.room; own = own_sectors; put = put_numbers }
+  numbers_bitmap : PutsBitmap c per f mirror lb count 256 false moved cleared after.bitmap
+  numbers_bitmap = record { sized = k.sized; kept = step_left.kept; stands = spelled_both.last_is; room = spelled_both.room; own = own_sectors; put = put_numbers }
 
   lies_0 : record_block per f lb.number ≡ Some boot
   lies_0 = ap (record_block per f) number ∙ boot_lies
 
   boot_cleared : body_in (bodies_of cleared) boot ≡ Some (own_bytes after.bitmap)
-  boot_cleared = elim (bitmap_put.own c per f mirror lb after.bitmap count 256 false first cleared boot numbers_bitmap lies_0) [
+  boot_cleared = elim (bitmap_put.own c per f mirror lb after.bitmap count 256 false moved cleared boot numbers_bitmap lies_0) [
     | inl there ↦ there
-    | inr stays ↦ stays.1 ∙ record_here c per f mirror lb.number (own_bytes lb) old (has_mirror mirror lb.number) boot lies_0 ∙ ap (λ (x : Bitmap). Some (own_bytes x)) (sym stays.0)
+    | inr stays ↦
+        stays.1
+        ∙ away (IsSectorOf per (runs_in (Some lb.stream))) (IsLeft per lb.stream (length left)) first moved boot step_left (λ a there. file_apart a boot (sector_kind per (runs_in (Some lb.stream)) there.0 a there.1) boot_kind)
+        ∙ record_here c per f mirror lb.number (own_bytes lb) old (has_mirror mirror lb.number) boot lies_0 ∙ ap (λ (x : Bitmap). Some (own_bytes x)) (sym stays.0)
   ]
 
   boot_now : body_in (bodies_of new) boot ≡ Some (own_bytes after.bitmap)
@@ -652,7 +714,7 @@ module _ (c : Content) (g : Geometry) (clusters : ℕ) (v : Volume) (bits : List
   used : IsInUse after.bitmap.file
   used =
       subst IsInUse (sym numbers.file)
-      (bitmap_in_use per bits_more was is q numbers.becomes bits_taken.spelled (written_read.placed per data_type [] f t.bitmap.file (follow-grown v.table.runs more spelled taken.spelled (let few_all = room in let sum = size in omega (arith, few_all, sum))) used_0))
+      (bitmap_in_use per bits_more was is q becomes_now bits_taken.spelled (written_read.placed per data_type [] f t.bitmap.file (follow-grown v.table.runs more spelled taken.spelled (let few_all = room in let sum = size in omega (arith, few_all, sum))) used_0))
 
   anew : ReadsAs v bodies table_file s
   unfolding boot
@@ -683,12 +745,30 @@ module _ (c : Content) (g : Geometry) (clusters : ℕ) (v : Volume) (bits : List
   records : (m : ℕ) (a : Block) → count ≤ m → 1024 * m < f.initialised → block_at per f.runs FileRec m ≡ Some a → IsPutBlank bodies a
   records m a past begins_at there =
       let high = below_new m begins_at in
-      record { bytes = zeros 1024; put = put_here a (zeros 1024) (inr (inr (m, (past, (high, there))))) (empty_now m a past high there); unsigned = (zeros_blank 1024).unsigned }
+      record { bytes = zeros 1024; put = put_here a (zeros 1024) (inr (inr (inr (m, (past, (high, there)))))) (empty_now m a past high there); unsigned = (zeros_blank 1024).unsigned }
+
+  -- a sector that wasn't initialised, and lies below the initialised size that the bitmap has at first, has some of the bytes that left
+  left_below : (m : ℕ) → initialised_in (Some was) ≤ 512 * m → 512 * m < initialised_in (Some taking) → 512 * m < length left
+  left_below m low high = elim which [
+    | inl stays ↦ (let same : initialised_in (Some taking) ≡ initialised_in (Some was) = ap (λ (x : Stream). initialised_in (Some x)) stays.same in absurd (omega (arith, low, high, same)))
+    | inr leaves ↦
+        (let same : initialised_in (Some taking) ≡ bitmap_size t = ap (λ (x : Stream). initialised_in (Some x)) leaves.stands in
+        let long = filled_long (bitmap_size t) leaves.value in
+        let all : length left ≡ length (filled_up (bitmap_size t) leaves.value) = ap length (left_are ∙ leaves.bytes) in
+        omega (arith, high, same, long, all))
+  ]
 
   covers : (m : ℕ) (a : Block) → block_at per (runs_in (Some is)) Plain m ≡ Some a → initialised_in (Some was) ≤ 512 * m → 512 * m < initialised_in (Some is) → IsPut bodies a
   covers m a there low high =
-      let same = numbers.begins in
-      all.blocks.put a (inr (inl (m, (sym (ap (λ (l : List Run). block_at per l Plain m) numbers.runs) ∙ there, (omega (arith, same, low), high)))))
+      let here : block_at per (runs_in (Some lb.stream)) Plain m ≡ Some a = sym (ap (λ (l : List Run). block_at per l Plain m) numbers.runs) ∙ there in
+      elim (cases_lt (512 * m) (initialised_in (Some lb.stream))) [
+        | inl less ↦
+            (let same = numbers.begins in
+            let within = left_below m low (omega (arith, less, same)) in
+            let place = in_zeros 0 (length left) m (omega arith) (omega (arith, within)) in
+            all.blocks.put a (inr (inl (m, (place.0, place.1, here)))))
+        | inr ge ↦ all.blocks.put a (inr (inr (inl (m, (here, (ge, high))))))
+      ]
 
   -- ---- the bits of clusters
 
@@ -720,7 +800,9 @@ module _ (c : Content) (g : Geometry) (clusters : ℕ) (v : Volume) (bits : List
 
   before_marks : (x : ℕ) → x < v.clusters → stream_bit (drafted cleared c) per bitmap x ≡ stream_bit (drafted old c) per bitmap x
   before_marks x low =
-      same_bit c per bitmap x first cleared k.sized step_1.kept step_2.kept (in_bits x low) (λ a there. away (IsOfBitmap per f mirror 0 lb.stream) (IsComing per lb.stream is) first cleared a step_2 (mark_apart (x / 8 / 512) a there))
+      same_bit c per bitmap x moved cleared k.sized step_left.kept step_2.kept (in_bits x low) (λ a there. away (IsOfBitmap per f mirror 0 lb.stream) (IsComing per lb.stream is) moved cleared a step_2 (mark_apart (x / 8 / 512) a there))
+      ∙ same_bit c per bitmap x first moved k.sized step_1.kept step_left.kept (in_bits x low)
+      (λ a there. away (IsSectorOf per (runs_in (Some lb.stream))) (IsLeft per lb.stream (length left)) first moved a step_left (λ a2 sector. mark_apart (x / 8 / 512) a there a2 (inr sector)))
       ∙ same_bit c per bitmap x old first k.sized k.kept step_1.kept (in_bits x low) (λ a there. away (IsMirrored per f mirror 0) (IsMirrored per f mirror 0) old first a step_1 (mark_file (x / 8 / 512) a there))
 
   behind_marks : (x : ℕ) → x < v.clusters → stream_bit (drafted new c) per bitmap x ≡ stream_bit (drafted marks c) per bitmap x
@@ -774,11 +856,11 @@ module _ (c : Content) (g : Geometry) (clusters : ℕ) (v : Volume) (bits : List
       file_away m a there a2 (inl own) = plain_apart a a2 (sector_kind per (runs_in (Some lb.stream)) m a there) (record_kind per f 0 a2 own)
       file_away m a there a2 (inr other) = plain_apart a a2 (sector_kind per (runs_in (Some lb.stream)) m a there) (record_kind per mirror 0 a2 other.1)
 
-  -- the longer bitmap has the bits of the old one
-  same_longer : (i : ℕ) → bitmap_bit d per lb.stream i ≡ bitmap_bit d per was i
-  same_longer i = ap (λ (x : Bitmap). bitmap_bit d per x.stream i) longer_is ∙ by_stream was refl
+  -- a bitmap that stays where it is has the bits of the old one when it is longer
+  same_longer : (i : ℕ) → taking ≡ was → bitmap_bit d per lb.stream i ≡ bitmap_bit d per was i
+  same_longer i stays = ap (λ (x : Bitmap). bitmap_bit d per x.stream i) longer_is ∙ ap (λ (x : Stream). bitmap_bit d per (with_room per (bitmap_size t) bits_more x base).stream i) stays ∙ by_stream was refl
     where
-      by_stream : (x : Stream) → was ≡ x → bitmap_bit d per (with_room per (bitmap_size t) bits_more x (in_file k.grows.records.file t.bitmap)).stream i ≡ bitmap_bit d per x i
+      by_stream : (x : Stream) → was ≡ x → bitmap_bit d per (with_room per (bitmap_size t) bits_more x base).stream i ≡ bitmap_bit d per x i
       by_stream (Held value) same = bit_filled (bitmap_size t) value i
       by_stream (Placed e) same = elim (cases_lt (i / 8) e.initialised) [
         | inl low ↦
@@ -789,7 +871,7 @@ module _ (c : Content) (g : Geometry) (clusters : ℕ) (v : Volume) (bits : List
       ]
         where
           runs_where : (x : Extents) → was ≡ Placed x → (j : ℕ) → block_at per (runs_in (Some is)) Plain (j / 8 / 512) ≡ block_at per (grown x.runs bits_more) Plain (j / 8 / 512)
-          runs_where x at j = ap (λ (l : List Run). block_at per l Plain (j / 8 / 512)) (numbers.runs ∙ ap (λ (y : Bitmap). runs_in (Some y.stream)) longer_is ∙ ap (λ (y : Stream). runs_in (Some (with_room per (bitmap_size t) bits_more y (in_file k.grows.records.file t.bitmap)).stream)) at)
+          runs_where x at j = ap (λ (l : List Run). block_at per l Plain (j / 8 / 512)) (numbers.runs ∙ ap (λ (y : Bitmap). runs_in (Some y.stream)) longer_is ∙ ap (λ (y : Stream). runs_in (Some (with_room per (bitmap_size t) bits_more y base).stream)) (stays ∙ at))
 
           old_place : (x : Extents) → was ≡ Placed x → (m : ℕ) → 512 * m < x.initialised → block_at per (runs_in (Some is)) Plain m ≡ block_at per x.runs Plain m
           old_place x at m low = wider.stays m (subst (λ (y : Stream). 512 * m < initialised_in (Some y)) (sym at) low) ∙ ap (λ (y : Stream). block_at per (runs_in (Some y)) Plain m) at
@@ -799,9 +881,9 @@ module _ (c : Content) (g : Geometry) (clusters : ℕ) (v : Volume) (bits : List
 
   -- the new bits lie in its clusters
   lies_in : (i : ℕ) → i < count + 256 → LiesInRun per lb.stream i
-  lies_in i low = subst (λ (x : Bitmap). LiesInRun per x.stream i) (sym longer_is) (by_streams was is refl refl numbers.becomes)
+  lies_in i low = subst (λ (x : Bitmap). LiesInRun per x.stream i) (sym longer_is) (by_streams taking is refl refl numbers.becomes)
     where
-      by_streams : (x y : Stream) → was ≡ x → is ≡ y → BitmapBecomes per bits_more x y → LiesInRun per (with_room per (bitmap_size t) bits_more x (in_file k.grows.records.file t.bitmap)).stream i
+      by_streams : (x y : Stream) → taking ≡ x → is ≡ y → BitmapBecomes per bits_more x y → LiesInRun per (with_room per (bitmap_size t) bits_more x base).stream i
       by_streams (Held value) y at now becomes = tt
       by_streams (Placed e) (Held bytes) at now becomes = absurd becomes
       by_streams (Placed e) (Placed x) at now becomes =
@@ -812,6 +894,58 @@ module _ (c : Content) (g : Geometry) (clusters : ℕ) (v : Volume) (bits : List
           let follow : HasSpelling 0 x.runs = subst (HasSpelling 0) (sym becomes.runs) (follow-grown e.runs bits_more becomes.spelled bits_taken.spelled becomes.few) in
           let there = lies_by per (i / 8 / 512) x.runs follow whole (in_clusters per (total_clusters x.runs) x.real i per_8 high (omega (arith, enough, low))) in
           some_of (block_at per (grown e.runs bits_more) Plain (i / 8 / 512)) (ap (λ (l : List Run). is_some (block_at per l Plain (i / 8 / 512))) (sym becomes.runs) ∙ there)
+
+  -- a value that left stands in its clusters
+  abbrev left_extents : Extents
+  left_extents = roomier per (bitmap_size t) bits_more (unplaced (bitmap_size t))
+
+  abbrev all_left : List Touched
+  all_left = touch_bytes c per left_extents.runs 0 0 left first
+
+  from_first : (n : ℕ) → n - 0 ≡ n
+  from_first n = omega arith
+
+  module _ (leaves : Leaves (bitmap_size t) (bitmap_behind per bits t) was) (i : ℕ) (low : i < count + 256) where
+    in_place : lb.stream ≡ Placed left_extents
+    in_place = ap (λ (x : Bitmap). x.stream) longer_is ∙ ap (λ (x : Stream). (with_room per (bitmap_size t) bits_more x base).stream) leaves.stands
+
+    left_kept : IsKept all_left
+    left_kept = subst (λ (x : Stream). IsKept (with_leaving c per x left first)) in_place step_left.kept
+
+    left_lies : LiesInRun per (Placed left_extents) i
+    left_lies = subst (λ (x : Stream). LiesInRun per x i) in_place (lies_in i low)
+
+    left_apart : HasOwnSectors per left_extents.runs
+    left_apart = subst (λ (x : Stream). HasApartSectors per x) in_place own_sectors
+
+    left_is : left ≡ filled_up (bitmap_size t) leaves.value
+    left_is = left_are ∙ leaves.bytes
+
+    left_begun : i / 8 < bitmap_size t
+    left_begun = (let least = large in omega (arith, low, least))
+
+    left_within : i / 8 < length left
+    left_within = (let long = filled_long (bitmap_size t) leaves.value in let least = left_begun in let same : length left ≡ length (filled_up (bitmap_size t) leaves.value) = ap length left_is in omega (arith, long, least, same))
+
+    left_byte : byte_at (drafted all_left c) per left_extents (i / 8) ≡ slice_index (filled_up (bitmap_size t) leaves.value) (i / 8)
+    left_byte =
+        byte_there c per left_extents all_left left_lies.0 (i / 8) (slice_index left (i / 8 - 0)) k.sized left_kept left_begun left_lies.1
+        (bytes_effects.inside c per left_extents.runs 0 0 (i / 8) left first left_lies.0 k.sized step_1.kept.rises step_1.kept.whole left_apart left_lies.1 (omega arith) (let within = left_within in omega (arith, within)))
+        ∙ ap (slice_index left) (from_first (i / 8))
+        ∙ ap (λ (l : List ℕ). slice_index l (i / 8)) left_is
+
+    left_bits : bitmap_bit (drafted moved c) per lb.stream i ≡ bitmap_bit d per was i
+    left_bits =
+        subst (λ (x : Stream). bitmap_bit (drafted (with_leaving c per x left first) c) per x i ≡ bitmap_bit d per was i) (sym in_place)
+        (ap (λ (y : ℕ). is_one y (i % 8)) left_byte ∙ bit_filled (bitmap_size t) leaves.value i ∙ sym (ap (λ (x : Stream). bitmap_bit d per x i) leaves.held))
+
+  moved_bits : (i : ℕ) → i < count + 256 → bitmap_bit (drafted moved c) per lb.stream i ≡ bitmap_bit d per was i
+  moved_bits i low = elim which [
+    | inl stays ↦
+        (let none : left ≡ [] = left_are ∙ stays.none in
+        ap (λ (l : List Touched). bitmap_bit (drafted l c) per lb.stream i) (none_leaving c per lb.stream left first none) ∙ same_before i ∙ same_longer i stays.same)
+    | inr leaves ↦ left_bits leaves i low
+  ]
 
   was_bits : (m : ℕ) → m < count → bitmap_bit d per was m ≡ bit (record_bits d v) m
   was_bits m low =
@@ -828,8 +962,8 @@ module _ (c : Content) (g : Geometry) (clusters : ℕ) (v : Volume) (bits : List
       ∙ as_bits (drafted new c) per is m (omega (arith, low, enough))
       ∙ same_behind m
       ∙ elim (cases_lt m count) [
-        | inl within ↦ bitmap_put.others c per f mirror lb after.bitmap count 256 m false first cleared numbers_bitmap (inl within) ∙ same_before m ∙ same_longer m ∙ was_bits m within
-        | inr past ↦ bitmap_put.inside c per f mirror lb after.bitmap count 256 m false first cleared numbers_bitmap (lies_in m low) past low ∙ sym (past_records d v m (omega (arith, past, counted)))
+        | inl within ↦ bitmap_put.others c per f mirror lb after.bitmap count 256 m false moved cleared numbers_bitmap (inl within) ∙ moved_bits m low ∙ was_bits m within
+        | inr past ↦ bitmap_put.inside c per f mirror lb after.bitmap count 256 m false moved cleared numbers_bitmap (lies_in m low) past low ∙ sym (past_records d v m (omega (arith, past, counted)))
       ]
 
   -- ---- all together
@@ -847,7 +981,7 @@ module _ (c : Content) (g : Geometry) (clusters : ℕ) (v : Volume) (bits : List
     room = (let few_all = room in omega (arith, few_all));
     few = k.few;
     taken = taken;
-    becomes = numbers.becomes;
+    becomes = becomes_now;
     bits_taken = bits_taken;
     apart = both_apart per bits (cluster_bits d v) t few k.free k.space k.stands wants_few;
     enough = numbers.enough;

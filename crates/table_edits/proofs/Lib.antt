@@ -1,5 +1,6 @@
 pub mod Again
 pub mod Taken
+pub mod Ways
 pub mod Steps
 pub mod Chosen
 pub mod Numbers

@@ -1,5 +1,5 @@
 -- The bitmap of numbers behind a table that grows, wherever it stands.
-use Rattle.std.proofs.Common.{◌≡◌, ℕ, ◌+◌, ◌-◌, ◌*◌, ◌≤◌, max, Bool, true, false, cond, List, [], ◌∷◌, ◌++◌, length, Some, Ok, refl, sym, ap₂, subst, ◌∙◌, arith}
+use Rattle.std.proofs.Common.{◌≡◌, ◌⊎◌, ℕ, ◌+◌, ◌-◌, ◌*◌, ◌≤◌, max, Bool, true, false, cond, List, [], ◌∷◌, ◌++◌, length, Some, Ok, refl, sym, ap₂, subst, ◌∙◌, inl, inr, arith}
 use Rattle.std.proofs.lemmas.List.{length-append}
 use Rattle.disk_model.specs.Bytes.{zeros}
 use Rattle.disk_model.specs.Content.{Content}
@@ -45,7 +45,7 @@ pub record MayBeRoomier (per size : ℕ) (more : List Run) (e : Extents) : Type 
   pub few : total_clusters e.runs + total_clusters more ≤ cluster_limit
   pub total : total_clusters more ≡ clusters_for per size - total_clusters e.runs
   pub lawful : e.initialised ≤ e.real
-  pub room : e.real ≤ total_clusters e.runs * (512 * per)
+  pub room : (e.real ≤ total_clusters e.runs * (512 * per)) ⊎ (e.real ≤ size)
 
 abbrev pub MayBecome : ℕ → ℕ → List Run → Stream → Type 0
 MayBecome per size more (Held value) = more ≡ []
@@ -57,10 +57,7 @@ size_fits per size total more eight is = subst (λ (p : ℕ). more ≡ clusters_
 still_fits : (per total more real : ℕ) → per ≡ 8 → real ≤ total * (512 * per) → real ≤ (total + more) * (512 * per)
 still_fits per total more real eight = subst (λ (p : ℕ). real ≤ total * (512 * p) → real ≤ (total + more) * (512 * p)) (sym eight) (λ least. omega (arith, least))
 
-module _ (c : Content) (per : ℕ) (table mirror : Extents) (count first : ℕ) (more : List Run) (q : Record) (a : Attr) (others : List Attr) (some : attributes_of bitmap_type [] q.attrs ≡ a ∷ others) (eight : per ≡ 8) (mid new : List Touched) (ends : first + 256 ≡ count) where
-  abbrev size : ℕ
-  size = bytes_for count
-
+module _ (c : Content) (per : ℕ) (table mirror : Extents) (count first size : ℕ) (more : List Run) (q : Record) (a : Attr) (others : List Attr) (some : attributes_of bitmap_type [] q.attrs ≡ a ∷ others) (eight : per ≡ 8) (mid new : List Touched) (ends : first + 256 ≡ count) (large : bytes_for count ≤ size) where
   -- the bitmap in a record with this one, as it was
   module _ (base : Bitmap) (kind : base.kind ≡ bitmap_type) (in_q : base.file ≡ q) where
     held_file : (value : List ℕ) → valued_record base.kind [] value base.file ≡ valued_record bitmap_type [] value q
@@ -76,7 +73,7 @@ module _ (c : Content) (per : ℕ) (table mirror : Extents) (count first : ℕ) 
         subst (IsLongerNumbers per count more (Held value) q lb) (sym is)
         (record {
           becomes = none;
-          enough = omega (arith, long, total, behind);
+          enough = omega (arith, long, total, behind, large);
           runs = refl;
           begins = refl;
           file = ap₂ (λ (k : ℕ) (r : Record). valued_record k [] bytes r) kind (held_file all) ∙ valued_again bitmap_type [] all bytes q a others some;
@@ -98,7 +95,10 @@ module _ (c : Content) (per : ℕ) (table mirror : Extents) (count first : ℕ) 
     takes e initialised k low high =
         let total = total-grown e.runs more in
         let fits = size_fits per size (total_clusters e.runs) (total_clusters more) eight k.total in
-        let still = still_fits per (total_clusters e.runs) (total_clusters more) e.real eight k.room in
+        let most : max e.real size ≤ (total_clusters e.runs + total_clusters more) * (512 * per) = elim k.room [
+          | inl lies ↦ (let still = still_fits per (total_clusters e.runs) (total_clusters more) e.real eight lies in omega (arith, fits, still))
+          | inr low ↦ omega (arith, fits, low)
+        ] in
         record {
           spelled = k.spelled;
           few = k.few;
@@ -106,14 +106,14 @@ module _ (c : Content) (per : ℕ) (table mirror : Extents) (count first : ℕ) 
           allocated = refl;
           initialised = low;
           lawful = high;
-          room = subst (λ (n : ℕ). max e.real size ≤ n * (512 * per)) (sym total) (omega (arith, fits, still));
+          room = subst (λ (n : ℕ). max e.real size ≤ n * (512 * per)) (sym total) most;
         }
 
     same_longer : (e : Extents) → MayBeRoomier per size more e → fits_room (lb_of e).file ≡ Ok tt → IsLongerNumbers per count more (Placed e) q (lb_of e) (lb_of e)
     unfolding lb_of
     same_longer e k room = record {
       becomes = takes e e.initialised k (omega arith) (let low = k.lawful in omega (arith, low));
-      enough = omega arith;
+      enough = omega (arith, large);
       runs = refl;
       begins = refl;
       file = placed_file e;
@@ -123,8 +123,8 @@ module _ (c : Content) (per : ℕ) (table mirror : Extents) (count first : ℕ) 
     raised_longer : (e : Extents) → MayBeRoomier per size more e → fits_room (with_extents per (raised first 256 (wide e)) (lb_of e)).file ≡ Ok tt → IsLongerNumbers per count more (Placed e) q (lb_of e) (with_extents per (raised first 256 (wide e)) (lb_of e))
     unfolding lb_of
     raised_longer e k room = record {
-      becomes = takes e (max e.initialised (byte_end first 256)) k (omega arith) (let low = k.lawful in omega (arith, low, ends));
-      enough = omega arith;
+      becomes = takes e (max e.initialised (byte_end first 256)) k (omega arith) (let low = k.lawful in omega (arith, low, ends, large));
+      enough = omega (arith, large);
       runs = refl;
       begins = refl;
       file =

@@ -27,7 +27,7 @@ use Rattle.plan_draft.proofs.Parts.{zeros_long}
 use Rattle.plan_draft.proofs.Puts.{bodies_touch, rises_touch, whole_touch}
 use Rattle.plan_draft.proofs.Same.{put_same}
 use Rattle.plan_model.specs.Drafts.{IsPut}
-use Rattle.draft_streams.specs.Parts.{sector_count, touch_bytes}
+use Rattle.draft_streams.specs.Parts.{sector_count, touch_bytes, touch_sectors}
 use Rattle.draft_bits.specs.Filling.{first_past, PutsBits}
 use Rattle.draft_bits.specs.Effects.{IsKept}
 use Rattle.draft_records.specs.Records.{record_block, has_mirror, fits_room, touch_if, touch_record}
@@ -39,7 +39,7 @@ use Rattle.draft_bitmaps.specs.Bitmaps.{with_value, with_extents, with_record, o
 use Rattle.draft_bitmaps.specs.Effects.{room_in}
 use Rattle.draft_bitmaps.proofs.Room.{same_room}
 use Rattle.draft_growth.specs.Clusters.{PutsClustersOf, PutsRunsOf}
-use Rattle.draft_growth.specs.Growing.{with_empty_records}
+use Rattle.draft_growth.specs.Growing.{with_empty_records, with_leaving}
 use Rattle.plan_edits.specs.Puts.{IsSectorOf, IsSectorWith, IsMirrored}
 use Rattle.plan_edits.proofs.Putting.{Goes, bytes_go, drafts_put, each_turned, joined_same, found_in, left_put}
 
@@ -176,7 +176,7 @@ IsComing per s new b = (m : ℕ) × ((block_at per (runs_in (Some s)) Plain m �
 abbrev pub IsOfBitmap : ℕ → Extents → Extents → ℕ → Stream → Block → Type 0
 IsOfBitmap per table mirror n s b = IsMirrored per table mirror n b ⊎ IsSectorOf per (runs_in (Some s)) b
 
-in_zeros : (initialised more m : ℕ) → initialised ≤ 512 * m → 512 * m < initialised + more → (initialised / 512 ≤ m) × (m < initialised / 512 + sector_count initialised more)
+pub in_zeros : (initialised more m : ℕ) → initialised ≤ 512 * m → 512 * m < initialised + more → (initialised / 512 ≤ m) × (m < initialised / 512 + sector_count initialised more)
 in_zeros initialised more m low high =
     let some : (more ≡ 0) → ⊥ = λ none. omega (arith, low, high, none) in
     let count : sector_count initialised more ≡ (initialised + more + 511) / 512 - initialised / 512 = counted more some in
@@ -236,6 +236,29 @@ module _ (c : Content) (per : ℕ) (table mirror : Extents) (b : Bitmap) (first 
       let is = put.0.1.1 in
       subst (Goal (Held value)) (sym is) (held_goes value bytes (subst IsBitmap is stands) (same_room b.kind [] bytes value b.file put.0.1.0.same_count ∙ room) (subst (λ (x : Bitmap). new ≡ with_record c per table mirror x old) is put.1))
   bitmap_goes (Placed e) after stream stands room put = by_below (is_below e first len) e after refl stream stands room put
+
+-- ---- bytes that leave the record
+
+no_sector : (per m : ℕ) (b : Block) → block_at per [] Plain m ≡ Some b → ⊥
+unfolding block_at
+no_sector per m b is = absurd cc
+
+-- a sector of the stream with some of so many first bytes
+abbrev pub IsLeft : ℕ → Stream → ℕ → Block → Type 0
+IsLeft per s n b = IsSectorWith per (runs_in (Some s)) 0 n b
+
+pub leaving_goes : (c : Content) (per : ℕ) (s : Stream) (bytes : List ℕ) (old : List Touched) → HasSizes c → IsKept old → Goes (IsSectorOf per (runs_in (Some s))) (IsLeft per s (length bytes)) old (with_leaving c per s bytes old)
+leaving_goes c per (Held value) bytes old sized kept = stays (IsSectorOf per []) (IsSectorWith per [] 0 (length bytes)) old (λ b is. no_sector per is.0 b is.1.2) kept
+leaving_goes c per (Placed e) bytes old sized kept = bytes_go c per e.runs 0 0 bytes old sized kept
+
+-- where none leave, all is as before
+no_bytes : (c : Content) (per : ℕ) (s : Stream) (old : List Touched) → with_leaving c per s [] old ≡ old
+unfolding touch_sectors
+no_bytes c per (Held value) old = refl
+no_bytes c per (Placed e) old = refl
+
+pub none_leaving : (c : Content) (per : ℕ) (s : Stream) (bytes : List ℕ) (old : List Touched) → bytes ≡ [] → with_leaving c per s bytes old ≡ old
+none_leaving c per s bytes old none = ap (λ (l : List ℕ). with_leaving c per s l old) none ∙ no_bytes c per s old
 
 -- ---- bits of clusters that lie below the initialised size
 

@@ -22,7 +22,7 @@ use Rattle.draft_numbers.specs.Numbers.{new_sequence}
 use Rattle.draft_records.specs.Records.{fits_room, written_record}
 use Rattle.draft_bitmaps.specs.declared.bitmap.Bitmap.{Bitmap}
 use Rattle.draft_growth.specs.declared.table.Table.{Table}
-use Rattle.draft_growth.specs.Growing.{behind_records, bitmap_size, grown_record, GrowsTable, IsTable, more_for, space_of, table_clusters, table_records}
+use Rattle.draft_growth.specs.Growing.{grown_record, GrowsTable, IsTable, numbers_more, space_of, table_clusters, table_records}
 use Rattle.plan_edits.specs.Edits.{HasBitmap, mirror_key}
 use Rattle.plan_edits.specs.Moves.{EditsDraft}
 use Rattle.plan_table.specs.Growing.{GrowsVolumeTable}
@@ -32,7 +32,7 @@ abbrev pub table_runs : List Bool → Table → List Run
 table_runs bits t = chosen bits (last_cluster t.extents.runs) table_clusters
 
 abbrev pub numbers_runs : ℕ → List Bool → Table → List Run
-numbers_runs per bits t = more_for per (bitmap_size t) (behind_records bits t) t.bitmap.stream
+numbers_runs per bits t = numbers_more per bits t
 
 -- A file table grows in a draft, in a volume of which the table, the bitmap of clusters and the mirror are these. What is free is clear in
 -- the volume, and is enough; the table has whole records, and not too many then; and record 0 has room.

@@ -5,13 +5,13 @@ use Rattle.space_model.specs.Choosing.{chosen}
 use Rattle.stream_runs.specs.Runs.{last_cluster}
 use Rattle.draft_bitmaps.specs.declared.bitmap.Bitmap.{Bitmap}
 use Rattle.draft_bitmaps.specs.Bitmaps.{bit_count}
-use Rattle.draft_growth.specs.Growing.{table_clusters, table_records, record_count, bytes_for, more_for, grown_record}
+use Rattle.draft_growth.specs.Growing.{table_clusters, table_records, record_count, numbers_bytes, size_in, standing, more_for, grown_record}
 use Rattle.draft_records.specs.Records.{fits_room}
 use Rattle.draft_growth.proofs.Chosen.{chosen_inside}
 use Rattle.draft_growth.proofs.Fulls.{other_space, full_told, full_never, record_grown}
-use Rattle.draft_growth.proofs.Space.{behind, table_taken, records_ok, records_err, second_ok, second_err, other_fault}
+use Rattle.draft_growth.proofs.Space.{behind, bitmap_now, table_taken, records_ok, records_err, second_ok, second_err, other_fault}
 use Rattle.draft_growth.proofs.Joining.{table_grown}
-use Rattle.draft_growth.proofs.Tables.{length-with_runs, grows_in, has_room, taken_inside, more_inside}
+use Rattle.draft_growth.proofs.Tables.{at_least, length-with_runs, grows_in, has_room, taken_inside, more_inside}
 use Rattle.draft_growth.proofs.growing.grow_table.Given.{Over}
 use Rattle.draft_growth.proofs.growing.grow_table.Goals as goal
 
@@ -31,12 +31,13 @@ longer_bitmap-requires-clause-few g c = subst (λ (n : ℕ). n ≤ cluster_limit
 
 pub longer_bitmap-requires-clause-stream : goal.longer_bitmap-requires-clause-stream
 longer_bitmap-requires-clause-stream g c =
-    grows_in _ (length (g.B.FreeBits.bits c.args.bits.now)) (bytes_for (record_count c.args.table.extents + table_records)) c.in_file-bitmap.result.stream c.args.table.bitmap.stream (same_length g c) (ap (λ (b : Bitmap). b.stream) c.in_file-bitmap.ensures)
+    grows_in _ (length (g.B.FreeBits.bits c.args.bits.now)) (numbers_bytes c.args.table) c.in_file-bitmap.result.stream c.args.table.bitmap.stream (same_length g c) (ap (λ (b : Bitmap). b.stream) c.in_file-bitmap.ensures)
     c.requires.table.stream
 
 pub put_grown-requires-clause-within : goal.put_grown-requires-clause-within
 put_grown-requires-clause-within g c =
-    has_room c.args.per (bytes_for (record_count c.args.table.extents + table_records)) (record_count c.args.table.extents + table_records) (g.B.FreeBits.bits c.longer_data.new.bits) c.in_file-bitmap.result c.in_ok-longer.longer refl c.in_ok-longer.ensures.value
+    has_room c.args.per (size_in c.in_file-bitmap.result.stream (numbers_bytes c.args.table)) (record_count c.args.table.extents + table_records) (g.B.FreeBits.bits c.longer_data.new.bits) c.in_file-bitmap.result c.in_ok-longer.longer
+    (at_least (numbers_bytes c.args.table) c.in_file-bitmap.result.stream) c.in_ok-longer.ensures.value
 
 pub put_grown-requires-clause-inside : goal.put_grown-requires-clause-inside
 put_grown-requires-clause-inside g c =
@@ -46,18 +47,19 @@ put_grown-requires-clause-inside g c =
 pub put_grown-requires-clause-inside_more : goal.put_grown-requires-clause-inside_more
 put_grown-requires-clause-inside_more g c =
     let limit = bit_count c.args.clusters.now.stream in
-    let size = bytes_for (record_count c.args.table.extents + table_records) in
+    let size = size_in c.in_file-bitmap.result.stream (numbers_bytes c.args.table) in
+    let stands = standing size c.in_file-bitmap.result in
     let now = g.B.FreeBits.bits c.longer_data.new.bits in
     let same = ap length c.in_ok-records.ensures.bits ∙ length-with_runs c.in_ok-records.records.taken.items (g.B.FreeBits.bits c.args.bits.now) in
-    taken_inside limit c.in_ok-longer.longer.taken.items (more_for c.args.per size now c.in_file-bitmap.result.stream) c.in_ok-longer.ensures.value.taken
-    (more_inside limit c.args.per size now c.in_file-bitmap.result.stream (subst (λ (n : ℕ). n ≤ limit) (sym same) c.requires.within))
+    taken_inside limit c.in_ok-longer.longer.taken.items (more_for c.args.per size now stands) c.in_ok-longer.ensures.value.taken
+    (more_inside limit c.args.per size now stands (subst (λ (n : ℕ). n ≤ limit) (sym same) c.requires.within))
 
 pub returns-clause-bits : goal.returns-clause-bits
 returns-clause-bits g c =
     let bits = g.B.FreeBits.bits c.args.bits.now in
     let own = g.B.FreeBits.bits c.longer_data.new.bits in
     let first = behind bits own c.args.table c.in_ok-records.records c.in_ok-records.ensures.value.taken c.in_ok-records.ensures.bits in
-    table_taken c.args.per bits own _ c.args.table c.in_file-bitmap.result c.in_ok-longer.longer first (ap (λ (b : Bitmap). b.stream) c.in_file-bitmap.ensures) c.in_ok-longer.ensures.value c.in_ok-longer.ensures.bits
+    table_taken c.args.per bits own _ c.args.table c.in_file-bitmap.result c.in_ok-longer.longer first (bitmap_now c.args.per bits c.args.table c.in_ok-records.records c.in_file-bitmap.result c.in_ok-records.ensures.value c.in_file-bitmap.ensures) c.in_ok-longer.ensures.value c.in_ok-longer.ensures.bits
 
 pub returns-clause-space : goal.returns-clause-space
 returns-clause-space g c =
@@ -65,7 +67,7 @@ returns-clause-space g c =
     let own = g.B.FreeBits.bits c.longer_data.new.bits in
     let first = behind bits own c.args.table c.in_ok-records.records c.in_ok-records.ensures.value.taken c.in_ok-records.ensures.bits in
     let enough = records_ok c.longer_data.result c.in_ok-records.records bits c.in_ok-records.was c.longer_data.ensures.short c.longer_data.ensures.enough in
-    second_ok c.args.per bits own c.args.table c.in_file-bitmap.result.stream enough first (ap (λ (b : Bitmap). b.stream) c.in_file-bitmap.ensures) c.in_ok-longer.ensures.space
+    second_ok c.args.per bits own c.args.table c.in_file-bitmap.result enough first (bitmap_now c.args.per bits c.args.table c.in_ok-records.records c.in_file-bitmap.result c.in_ok-records.ensures.value c.in_file-bitmap.ensures) c.in_ok-longer.ensures.space
 
 pub returns-in_err-records-clause-space : goal.returns-in_err-records-clause-space
 returns-in_err-records-clause-space g c =
@@ -79,7 +81,7 @@ returns-in_err-longer-clause-space g c =
     let first = behind bits own c.args.table c.in_ok-records.records c.in_ok-records.ensures.value.taken c.in_ok-records.ensures.bits in
     let enough = records_ok c.longer_data.result c.in_ok-records.records bits c.in_ok-records.was c.longer_data.ensures.short c.longer_data.ensures.enough in
     let p = err_from_is_err_and c.from_residual-in_err-longer.result c.from_residual-in_err-longer.ensures.1 in
-    rw (p.1, p.2) (second_err c.in_err-longer.field-0.0 c.args.per bits own c.args.table c.in_file-bitmap.result.stream enough first (ap (λ (b : Bitmap). b.stream) c.in_file-bitmap.ensures) c.in_err-longer.ensures.space)
+    rw (p.1, p.2) (second_err c.in_err-longer.field-0.0 c.args.per bits own c.args.table c.in_file-bitmap.result enough first (bitmap_now c.args.per bits c.args.table c.in_ok-records.records c.in_file-bitmap.result c.in_ok-records.ensures.value c.in_file-bitmap.ensures) c.in_err-longer.ensures.space)
 
 pub returns-in_err-put_grown-clause-space : goal.returns-in_err-put_grown-clause-space
 returns-in_err-put_grown-clause-space g c =
