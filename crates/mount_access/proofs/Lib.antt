@@ -1,0 +1,7 @@
+mod Steps
+mod Opened
+mod Recorded
+mod Looked
+mod Journaled
+mod Changed
+mod Mounted
