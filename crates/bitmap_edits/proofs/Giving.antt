@@ -255,7 +255,7 @@ module _ (c : Content) (g : Geometry) (clusters : ℕ) (v : Volume) (mirror : Ex
   own_file : file_in w n ≡ Some s
   own_file = file_now d g clusters v n kind name (Placed e) f r z.file s edit.bodies sized_d eight state moves
 
-  pub has_cut : HasCut c g clusters v n kind name e r size z old mid new after
+  pub has_cut : HasCut c g clusters v mirror n kind name e r size z old mid new after
   has_cut = record {
     bits = bits;
     bodies = bodies;
@@ -264,6 +264,12 @@ module _ (c : Content) (g : Geometry) (clusters : ℕ) (v : Volume) (mirror : Ex
     stream = stream_between ∙ ap (λ (x : Extents). Some (Placed x)) (sym k.cut.extents);
     files = λ m other apart. bits.keeps.files m apart ∙ same_others m other;
     own_file = bits.keeps.files n k.own.apart.bitmap ∙ own_file;
+    next = record {
+      sized = k.draft.sized;
+      kept = bits.kept;
+      bitmap = bits.bitmap;
+      mirror_is = mirror_between (drafted mid c) g clusters (with_record v n s) bits.bodies bits.volume mirror bits.keeps mirror_w;
+    };
     tree = λ whole. subst (λ (y : Content). TreeFollows d y v n r s) edit.edits.content (tree d g clusters v n kind name (Placed e) f r z.file s edit.bodies sized_d eight state moves whole);
     bytes = bytes;
     goes_on = goes_on;

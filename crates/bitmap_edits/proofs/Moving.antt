@@ -14,7 +14,7 @@ use Rattle.state_model.specs.declared.geometry.Geometry.{Geometry}
 use Rattle.state_model.specs.declared.stream.Extents.{Extents}
 use Rattle.state_model.specs.declared.stream.Stream.{Stream}
 use Rattle.state_model.specs.declared.stream.Stream.TheVariants.{Held, Placed}
-use Rattle.state_model.specs.Loads.{total_clusters}
+use Rattle.state_model.specs.Loads.{extents_or, total_clusters}
 use Rattle.state_model.specs.Streams.{block_at}
 use Rattle.volume_model.specs.Volumes.{Volume, bitmap_file, bytes_or, cluster_bits, file_in, file_stream, mirror_file}
 use Rattle.volume_model.specs.Owners.{uses, volume_runs}
@@ -93,7 +93,7 @@ use Rattle.plan_growth.proofs.Ruled.{sizes_lawful}
 use Rattle.plan_growth.proofs.Runs.{grown_whole}
 use Rattle.plan_edits.proofs.Bitmap.{in_total, lies_by, own_by}
 use Rattle.plan_edits.proofs.Editing.{some_of}
-use Rattle.bitmap_edits.specs.Streams.{HasMoved, MovesWithBits}
+use Rattle.bitmap_edits.specs.Streams.{HasMoved, IsDraftOf, MovesWithBits}
 use Rattle.bitmap_edits.proofs.Leaving.{leaves_runs, LeavesSet, used_by}
 use Rattle.bitmap_edits.proofs.Restreaming.{GoesTo}
 
@@ -406,16 +406,27 @@ module _ (c : Content) (g : Geometry) (clusters : ℕ) (v : Volume) (mirror : Ex
   unfolding extent_bytes
   reads_value = ap₂ (λ (p : ℕ) (o : Option Stream). bytes_or (drafted new c) p o) (sym bits.keeps.per) stream_there ∙ all_bytes
 
-  pub has_moved : HasMoved c g clusters v n kind name value r more z old mid new after
+  same_others : (m : ℕ) → m ≢ n → file_in u m ≡ file_in w m
+  same_others = files_stay (drafted mid c) g clusters bits.volume n kind name (Held was) f r z.file s file_bodies sized_mid eight state_w moves
+
+  next : n ≢ mirror_file → IsDraftOf c u mirror after new
+  next other = record {
+    sized = k.draft.sized;
+    kept = bytes.kept;
+    bitmap = bitmap_beside bits.volume (with_record bits.volume n s) n after k.own.apart.bitmap same_others bits.bitmap;
+    mirror_is = ap (λ (o : Option Record). extents_or (file_stream data_type [] o)) (same_others mirror_file (λ is. other (sym is))) ∙ put_file.mirror_is;
+  }
+
+  pub has_moved : HasMoved c g clusters v mirror n kind name value r more z old mid new after
   has_moved = record {
     bits = bits;
     bodies = bodies;
     edits = edits;
-    kept = bytes.kept;
     stands = stands_new;
     stream = stream_there ∙ ap (λ (x : Extents). Some (Placed x)) (sym f_is);
     files = λ m other apart. files_stay (drafted mid c) g clusters bits.volume n kind name (Held was) f r z.file s file_bodies sized_mid eight state_w moves m other ∙ bits.keeps.files m apart;
-    bitmap = bitmap_beside bits.volume (with_record bits.volume n s) n after k.own.apart.bitmap (files_stay (drafted mid c) g clusters bits.volume n kind name (Held was) f r z.file s file_bodies sized_mid eight state_w moves) bits.bitmap;
+    own_file = file_now (drafted mid c) g clusters bits.volume n kind name (Held was) f r z.file s file_bodies sized_mid eight state_w moves;
+    next = next;
     tree = subst (λ (y : Content). TreeFollows (drafted mid c) y bits.volume n r s) file_edit.content (tree (drafted mid c) g clusters bits.volume n kind name (Held was) f r z.file s file_bodies sized_mid eight state_w moves refl);
     bytes = reads_value;
     goes_on = goes_on;

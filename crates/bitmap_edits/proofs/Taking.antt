@@ -59,7 +59,7 @@ use Rattle.plan_edits.specs.Written.{IsInUse}
 use Rattle.plan_edits.proofs.Reading.{written_read}
 use Rattle.plan_edits.proofs.Recording.{record_edit}
 use Rattle.bitmap_edits.specs.Bitmaps.{IsClusterBitmap, KeepsOwners, PutsFreeRuns, PutsOwnersKept, PutsRunsIn}
-use Rattle.bitmap_edits.specs.Streams.{CutsWithBits, GrowsWithBits, HasCut, HasGrown, PutsFileOf, ResizedWithBits}
+use Rattle.bitmap_edits.specs.Streams.{CutsWithBits, GrowsWithBits, HasCut, HasGrown, IsDraftOf, PutsFileOf, ResizedWithBits}
 use Rattle.bitmap_edits.proofs.FreeRuns.{both_edit, owns_back, put_first, put_second, runs_put}
 use Rattle.bitmap_edits.proofs.Longer.{grown_reads, takes_runs, TakesSet}
 use Rattle.bitmap_edits.proofs.OwnRuns.{all_owned, bits_stay, file_now, files_stay, leads, live_before, MovesRuns, owned_or_new, owners, stream_now, tree}
@@ -250,16 +250,27 @@ module _ (c : Content) (g : Geometry) (clusters : ℕ) (v : Volume) (mirror : Ex
       ∙ ap (λ (y : Content). bytes_or y v.per (stream_at bits.volume key)) (sym bits.edits.content)
       ∙ bits.keeps.reads key apart table_apart
 
-  pub has_grown : HasGrown c g clusters v n kind name e r more z old mid new after
+  same_others : (m : ℕ) → m ≢ n → file_in u m ≡ file_in w m
+  same_others = files_stay (drafted mid c) g clusters bits.volume n kind name (Placed e) f r z.file s edit.bodies sized_mid eight state_w moves
+
+  next : n ≢ mirror_file → IsDraftOf c u mirror after new
+  next other = record {
+    sized = k.draft.sized;
+    kept = record_edit.kept c bits.volume mirror n z.file mid new put_file;
+    bitmap = bitmap_beside bits.volume (with_record bits.volume n s) n after k.own.apart.bitmap same_others bits.bitmap;
+    mirror_is = ap (λ (o : Option Record). extents_or (file_stream data_type [] o)) (same_others mirror_file (λ is. other (sym is))) ∙ put_file.mirror_is;
+  }
+
+  pub has_grown : HasGrown c g clusters v mirror n kind name e r more z old mid new after
   has_grown = record {
     bits = bits;
     bodies = bodies;
     edits = edits;
-    kept = record_edit.kept c bits.volume mirror n z.file mid new put_file;
     stands = stands_new;
     stream = stream_now (drafted mid c) g clusters bits.volume n kind name (Placed e) f r z.file s edit.bodies sized_mid eight state_w moves ∙ ap (λ (x : Extents). Some (Placed x)) (sym f_is);
     files = λ m other apart. files_stay (drafted mid c) g clusters bits.volume n kind name (Placed e) f r z.file s edit.bodies sized_mid eight state_w moves m other ∙ bits.keeps.files m apart;
-    bitmap = bitmap_beside bits.volume (with_record bits.volume n s) n after k.own.apart.bitmap (files_stay (drafted mid c) g clusters bits.volume n kind name (Placed e) f r z.file s edit.bodies sized_mid eight state_w moves) bits.bitmap;
+    own_file = file_now (drafted mid c) g clusters bits.volume n kind name (Placed e) f r z.file s edit.bodies sized_mid eight state_w moves;
+    next = next;
     tree = λ whole. subst (λ (y : Content). TreeFollows (drafted mid c) y bits.volume n r s) edit.edits.content (tree (drafted mid c) g clusters bits.volume n kind name (Placed e) f r z.file s edit.bodies sized_mid eight state_w moves whole);
     bytes = bytes;
     goes_on = goes_on;
