@@ -1,65 +1,29 @@
 -- What stays between two states of which one has other bits of clusters, or another file.
-use Rattle.std.proofs.Common.{◌≡◌, ◌≢◌, ◌⊎◌, ℕ, ◌+◌, ◌*◌, ◌<◌, ◌≤◌, Bool, true, false, cond, leb, List, [], ◌∷◌, take, Option, Some, None, Ok, refl, sym, ap, ap₂, subst, ◌∙◌, inl, inr, arith}
-use Rattle.std.specs.List.{list_all, AllByRecursion}
-use Rattle.std.proofs.lemmas.Bool.{cases_eq, cases_lt, both_ways, le-leb, lt-leb}
-use Rattle.disk_model.specs.declared.block.Block.{Block}
+use Rattle.std.proofs.Common.{◌≡◌, ◌≢◌, ℕ, ◌<◌, ◌≤◌, Bool, true, false, cond, leb, List, [], Option, sym, ap, subst, ◌∙◌, inl, inr, arith}
+use Rattle.std.proofs.lemmas.Bool.{cases_lt, le-leb, lt-leb}
 use Rattle.disk_model.specs.declared.block.BlockKind.{BlockKind}
-use Rattle.disk_model.specs.Content.{Content, HasSizes}
+use Rattle.disk_model.specs.Content.{Content}
 use Rattle.record_model.specs.declared.runs.Run.{Run}
-use Rattle.record_model.specs.Constants.{attribute_list, data_type}
-use Rattle.record_model.specs.Pairs.{HasSpelling}
-use Rattle.record_model.specs.Records.{Record, record_spelling}
+use Rattle.record_model.specs.Constants.{data_type}
+use Rattle.record_model.specs.Records.{Record}
 use Rattle.bit_set.specs.Bits.{bit}
 use Rattle.state_model.specs.declared.geometry.Geometry.{Geometry}
 use Rattle.state_model.specs.declared.stream.Extents.{Extents}
 use Rattle.state_model.specs.declared.stream.Stream.{Stream}
-use Rattle.state_model.specs.declared.stream.Stream.TheVariants.{Placed}
 use Rattle.state_model.specs.Loads.{extents_or}
-use Rattle.state_model.specs.Streams.{block_at}
-use Rattle.volume_model.specs.Volumes.{Volume, bitmap_file, bytes_or, cluster_bits, file_in, file_stream, mirror_file}
+use Rattle.volume_model.specs.Volumes.{Volume, bitmap_file, cluster_bits, file_in, file_stream, mirror_file}
 use Rattle.volume_model.specs.Owners.{uses, volume_runs}
-use Rattle.volume_model.specs.Sizes.{has_hole, lies_inside}
-use Rattle.stream_laws.specs.Owners.{IsLive, Owns, stream_kind}
-use Rattle.stream_laws.specs.Places.{AreOnce}
-use Rattle.stream_laws.specs.Sharing.{runs_in, stream_at, StreamKey}
-use Rattle.stream_laws.specs.Tables.{table_key}
-use Rattle.stream_runs.specs.Runs.{back, grown}
-use Rattle.stream_runs.proofs.Merging.{follow-grown, follow-merged}
-use Rattle.stream_runs.proofs.Parts.{follow-front}
-use Rattle.tree_laws.proofs.Ascending.{all_by}
+use Rattle.stream_laws.specs.Sharing.{stream_at}
 use Rattle.tree_laws.proofs.Keeping.{rules_of}
 use Rattle.tree_laws.proofs.Owning.{in_no_stream}
-use Rattle.record_streams.specs.Placing.{placed_record}
-use Rattle.resized_streams.specs.declared.resized.Resized.{Resized}
-use Rattle.resized_streams.specs.Resizing.{clusters_for, IsCut, IsGrown, lengthened, shortened}
 use Rattle.plan_owners.specs.States.{Stands}
 use Rattle.plan_owners.specs.Kinds.{OwnsAs}
-use Rattle.plan_owners.proofs.Outside.{once, unused_outside}
-use Rattle.plan_bodies.specs.Bodies.{content_with, NewBody, put_bodies}
-use Rattle.plan_bodies.proofs.Putting.{all_in_both, are_bodies as both_are, contents_put, sized_with}
-use Rattle.plan_draft.specs.declared.touched.Touched.{Touched}
-use Rattle.plan_draft.specs.Touching.{bodies_of}
-use Rattle.plan_draft.specs.Drafts.{drafted}
-use Rattle.plan_model.specs.Drafts.{FollowsOwners, GoesOn, gives_runs, IsPut}
-use Rattle.plan_model.specs.Informed.{with_record}
-use Rattle.plan_model.proofs.OneRecord.{own_record}
-use Rattle.plan_model.proofs.Quiet.{given_before, given_clear, given_here}
-use Rattle.draft_bits.specs.Effects.{IsKept}
-use Rattle.draft_records.specs.Records.{touch_record, written_record}
+use Rattle.plan_owners.proofs.Outside.{unused_outside}
+use Rattle.plan_bodies.specs.Bodies.{NewBody}
 use Rattle.draft_bitmaps.specs.declared.bitmap.Bitmap.{Bitmap}
-use Rattle.plan_growth.specs.Growing.{MayGive}
-use Rattle.plan_growth.specs.Streams.{IsOwnStream, key_of, marks_streams}
-use Rattle.plan_growth.specs.Trees.{TreeFollows}
-use Rattle.plan_growth.proofs.Growing.{uses-grown}
-use Rattle.plan_growth.proofs.Resizing.{clusters_are}
+use Rattle.plan_growth.specs.Streams.{IsOwnStream}
 use Rattle.plan_edits.specs.Edits.{mirror_key}
-use Rattle.plan_edits.specs.Moves.{EditsDraft}
-use Rattle.plan_edits.specs.Records.{IsRecordEdit, PutsRecordOf}
-use Rattle.plan_edits.specs.Written.{IsInUse}
-use Rattle.plan_edits.proofs.Reading.{written_read}
-use Rattle.plan_edits.proofs.Recording.{record_edit}
-use Rattle.bitmap_edits.specs.Bitmaps.{IsClusterBitmap, KeepsOwners, PutsFreeRuns, PutsOwnersKept, PutsRunsIn}
-use Rattle.bitmap_edits.specs.Streams.{CutsWithBits, GrowsWithBits, HasCut, HasGrown, PutsFileOf, ResizedWithBits}
+use Rattle.bitmap_edits.specs.Bitmaps.{IsClusterBitmap, KeepsOwners}
 
 -- ---- between two states
 

@@ -1,16 +1,15 @@
 -- Bits of clusters that nobody has are put, wherever they stand: the state that this leads to.
-use Rattle.std.proofs.Common.{◌≡◌, ◌≢◌, ◌⊎◌, ℕ, ◌+◌, ◌*◌, ◌/◌, ◌%◌, ◌<◌, ◌≤◌, Bool, true, false, not, ◌&&◌, cond, eqb, leb, List, [], ◌∷◌, length, Option, Some, None, Ok, refl, sym, ap, ap₂, subst, ◌∙◌, inl, inr, arith}
-use Rattle.std.specs.Prelude.{All, is_some, nat_le}
+use Rattle.std.proofs.Common.{◌≡◌, ◌≢◌, ◌⊎◌, ℕ, ◌+◌, ◌*◌, ◌/◌, ◌%◌, ◌<◌, ◌≤◌, Bool, true, false, not, cond, eqb, leb, List, [], ◌∷◌, length, Option, Some, None, Ok, refl, sym, ap, subst, ◌∙◌, inl, inr, arith}
+use Rattle.std.specs.Prelude.{All}
 use Rattle.std.specs.List.{list_all, list_any, AllByRecursion}
 use Rattle.std.specs.Option.{option_map}
-use Rattle.std.proofs.lemmas.Bool.{cases_Bool, cases_eq, cases_lt, and_parts, and_from, leb-true, le-leb, ne_eqb, both_ways, false_from_ne_true}
+use Rattle.std.proofs.lemmas.Bool.{cases_eq, cases_lt, and_parts, and_from, leb-true, le-leb, both_ways, false_from_ne_true}
 use Rattle.std.proofs.lemmas.List.Elements.{All-nil, All-cons, All-head, All-tail}
 use Rattle.std.proofs.lemmas.List.FromFn.{get_or-map-range_with_len}
 use Rattle.disk_model.specs.declared.block.Block.{Block}
-use Rattle.disk_model.specs.declared.block.BlockKind.TheVariants.{Plain, FileRec, Index}
-use Rattle.disk_model.specs.Bodies.{BodyOf}
+use Rattle.disk_model.specs.declared.block.BlockKind.TheVariants.{Plain}
 use Rattle.disk_model.specs.Content.{Content, HasSizes}
-use Rattle.disk_model.specs.Sectors.{sectors, same_block}
+use Rattle.disk_model.specs.Sectors.{sectors}
 use Rattle.record_model.specs.declared.attribute.Attr.{Attr}
 use Rattle.record_model.specs.declared.runs.Run.{Run}
 use Rattle.record_model.specs.Constants.{attribute_list, data_type}
@@ -19,7 +18,6 @@ use Rattle.record_model.specs.Records.{Record}
 use Rattle.file_tree.specs.declared.node.Kind.{Kind}
 use Rattle.file_tree.specs.declared.node.Node.{Node}
 use Rattle.file_tree.specs.Trees.{node_at as node_by_number}
-use Rattle.file_tree.specs.Walks.{first_user_record}
 use Rattle.bit_set.specs.Bits.{bit}
 use Rattle.bit_set.specs.Words.{is_one, byte_bit}
 use Rattle.state_model.specs.declared.geometry.Geometry.{Geometry}
@@ -27,14 +25,13 @@ use Rattle.state_model.specs.declared.stream.Extents.{Extents}
 use Rattle.state_model.specs.declared.stream.Stream.{Stream}
 use Rattle.state_model.specs.declared.stream.Stream.TheVariants.{Held, Placed}
 use Rattle.state_model.specs.Files.{has_type, is_base_record}
-use Rattle.state_model.specs.Loads.{Used, data_stream, extents_or, has_all_pairs, has_fitting_pairs, slot_of, table_slot, total_clusters}
+use Rattle.state_model.specs.Loads.{Used, data_stream, has_all_pairs, has_fitting_pairs, slot_of, table_slot, total_clusters}
 use Rattle.state_model.specs.Rules.{at_file, implies}
 use Rattle.state_model.specs.Streams.{attributes_of, block_at, byte_at, extent_bytes, real_size, stream_bytes, stream_of}
 use Rattle.volume_model.specs.Volumes.{Volume, bitmap_file, bytes_or, cluster_bitmap, cluster_bits, count_of, file_in, file_stream, record_bitmap, size_or, table_file}
 use Rattle.volume_model.specs.Nodes.{data_shown, kind_in, node_with, shows_data}
 use Rattle.volume_model.specs.Owners.{uses, volume_runs}
-use Rattle.volume_model.specs.Sizes.{are_joined, fits_volume, has_hole, has_sizes, is_hole, is_whole_file, keeps_bitmaps, keeps_sizes, keeps_streams, keeps_whole, lies_inside}
-use Rattle.volume_state.specs.Journals.{entries_name, limits_name}
+use Rattle.volume_model.specs.Sizes.{are_joined, fits_volume, has_hole, has_sizes, is_hole, keeps_bitmaps, keeps_sizes, keeps_streams, keeps_whole, lies_inside}
 use Rattle.volume_state.specs.Trees.{tree_of}
 use Rattle.stream_laws.specs.Owners.{initialised_in, IsLive, Owns, stream_kind}
 use Rattle.stream_laws.specs.Rewrites.{is_edited}
@@ -47,17 +44,17 @@ use Rattle.stream_laws.proofs.Tabling.{inside_list}
 use Rattle.tree_laws.proofs.Ascending.{all_by}
 use Rattle.plan_owners.specs.States.{Stands}
 use Rattle.plan_owners.proofs.Standing.{rule_4_at, some_file, streams_at}
-use Rattle.plan_bodies.specs.Bodies.{AreBodies, body_in, content_with, NewBody}
+use Rattle.plan_bodies.specs.Bodies.{body_in, content_with, NewBody}
 use Rattle.plan_bodies.proofs.Putting.{sized_with}
 use Rattle.plan_draft.specs.declared.touched.Touched.{Touched}
 use Rattle.plan_draft.specs.Touching.{bodies_of}
 use Rattle.plan_draft.specs.Drafts.{drafted}
 use Rattle.plan_draft.proofs.Touching.{are_bodies}
 use Rattle.plan_model.specs.Drafts.{IsPut}
-use Rattle.plan_model.specs.Edits.{IsOwnedIn, LeadsTo}
+use Rattle.plan_model.specs.Edits.{LeadsTo}
 use Rattle.plan_model.specs.Informed.{with_record}
 use Rattle.plan_model.proofs.Drafting.{per_is}
-use Rattle.plan_model.proofs.OneRecord.{by_test, own_record, OwnRecord, slot_begins, slot_put}
+use Rattle.plan_model.proofs.OneRecord.{own_record, OwnRecord, slot_begins, slot_put}
 use Rattle.plan_model.proofs.Quiet.{record_owned}
 use Rattle.record_streams.proofs.Kept.{all_with, but_room_fits}
 use Rattle.record_streams.proofs.Streams.{placed_one}
@@ -65,15 +62,15 @@ use Rattle.record_values.specs.Values.{valued_attr, valued_first, valued_record}
 use Rattle.record_values.proofs.Valued.{values_put}
 use Rattle.record_streams.specs.Placing.{placed_record}
 use Rattle.draft_bits.specs.Filling.{PutsBits}
-use Rattle.draft_bits.specs.Effects.{IsKept, stream_bit}
+use Rattle.draft_bits.specs.Effects.{IsKept}
 use Rattle.draft_bits.proofs.BitEffects.{bits_put, drafted_same}
 use Rattle.draft_records.specs.Records.{fits_room, record_block, written_record}
 use Rattle.draft_bitmaps.specs.declared.bitmap.Bitmap.{Bitmap}
-use Rattle.draft_bitmaps.specs.Bitmaps.{bitmap_bit, byte_end, IsBitmap, IsShortStream, is_below, own_bytes, PutsBitsOf, PutsInto, PutsPlacedBy, raised, with_extents, with_value}
+use Rattle.draft_bitmaps.specs.Bitmaps.{bitmap_bit, byte_end, IsBitmap, IsShortStream, is_below, own_bytes, PutsInto, PutsPlacedBy, raised, with_extents, with_value}
 use Rattle.draft_bitmaps.specs.Effects.{HasApartSectors, LiesInRun, PutsBitmap, room_in}
 use Rattle.draft_bitmaps.proofs.BitmapEffects.{bitmap_put}
 use Rattle.draft_bitmaps.proofs.Room.{same_room}
-use Rattle.plan_growth.specs.Streams.{key_of, marks_streams}
+use Rattle.plan_growth.specs.Streams.{marks_streams}
 use Rattle.plan_growth.specs.Trees.{with_data}
 use Rattle.plan_growth.proofs.Placed.{some_attributes, stream_rule}
 use Rattle.plan_growth.proofs.Resizing.{no_system_shown}
@@ -84,7 +81,6 @@ use Rattle.plan_values.proofs.Staying.{same_change}
 use Rattle.plan_values.proofs.Valued.{entries_named, limits_named}
 use Rattle.plan_edits.specs.Edits.{bitmap_key}
 use Rattle.plan_edits.specs.Moves.{EditsDraft}
-use Rattle.plan_edits.specs.Puts.{IsMirrored, IsSectorOf}
 use Rattle.plan_edits.specs.Written.{IsInUse}
 use Rattle.plan_edits.proofs.Bitmap.{in_total, lies_by, state_bitmap}
 use Rattle.plan_edits.proofs.Editing.{mirror_owned, some_of, used_block}
@@ -92,7 +88,7 @@ use Rattle.plan_edits.proofs.Putting.{content_goes, each_turned, Goes}
 use Rattle.plan_edits.proofs.Reading.{written_read}
 use Rattle.plan_edits.proofs.Recording.{no_sector}
 use Rattle.table_edits.proofs.Steps.{bitmap_goes, IsComing, IsOfBitmap}
-use Rattle.bitmap_edits.specs.Bitmaps.{in_range, IsClusterBitmap, KeepsOwners, PutsFreeBits, RoomDiffers, StandsAs}
+use Rattle.bitmap_edits.specs.Bitmaps.{IsClusterBitmap, KeepsOwners, PutsFreeBits, RoomDiffers, StandsAs}
 use Rattle.bitmap_edits.proofs.Now.{alike_itself, alike_written, AreAlike, HasNow, now_by, now_itself}
 use Rattle.bitmap_edits.proofs.Restreaming.{as_far, clusters_now, file_there, five_by, Follows, GoesTo, IsOneFile, now_leads, now_tree, one_edit, owned_once, owned_set, reads_on, same_files, six_by, which}
 
@@ -356,9 +352,9 @@ module _ (c : Content) (g : Geometry) (clusters : ℕ) (v : Volume) (mirror : Ex
       in (
         written_record after.file,
         other_put after k.stands room (ap (λ (x : Bitmap). x.number) becomes) (ap (λ (x : Bitmap). x.kind) becomes) other (ap (λ (x : Stream). fits_volume v.per v.clusters (Some x)) stream_is)
-        (subst IsInUse (sym file_is) (valued_used data_type [] bytes p (attributes_of data_type [] p.attrs) k.bitmap.used))
-        (ap (λ (x : Record). are_joined (attributes_of data_type [] x.attrs)) file_is ∙ ap are_joined (values_put.one data_type [] bytes p pieces.0 pieces.1 pieces.2))
-        (ap (λ (x : Stream). runs_in (Some x)) stream_is ∙ sym (ap (λ (x : Stream). runs_in (Some x)) is)) (ap real_size stream_is ∙ same ∙ sym (ap real_size is)) put,
+            (subst IsInUse (sym file_is) (valued_used data_type [] bytes p (attributes_of data_type [] p.attrs) k.bitmap.used))
+            (ap (λ (x : Record). are_joined (attributes_of data_type [] x.attrs)) file_is ∙ ap are_joined (values_put.one data_type [] bytes p pieces.0 pieces.1 pieces.2))
+            (ap (λ (x : Stream). runs_in (Some x)) stream_is ∙ sym (ap (λ (x : Stream). runs_in (Some x)) is)) (ap real_size stream_is ∙ same ∙ sym (ap real_size is)) put,
       )
 
   higher : (e : Extents) → b.stream ≡ Placed e → after ≡ with_extents v.per (raised first len e) b → fits_room after.file ≡ Ok tt → body_in (bodies_of new) block.0 ≡ Some (own_bytes after) → Result after
@@ -378,9 +374,9 @@ module _ (c : Content) (g : Geometry) (clusters : ℕ) (v : Volume) (mirror : Ex
       let fits : fits_volume v.per v.clusters (Some (Placed f)) ≡ true = raised_fits v.per v.clusters first len e ends (sym (ap (λ (x : Stream). fits_volume v.per v.clusters (Some x)) is) ∙ fits_was) in (
         written_record after.file,
         other_put after k.stands room (ap (λ (x : Bitmap). x.number) becomes) (ap (λ (x : Bitmap). x.kind) becomes) other (ap (λ (x : Stream). fits_volume v.per v.clusters (Some x)) stream_is ∙ fits)
-        (subst IsInUse (sym file_is) (written_read.placed v.per data_type [] f p spelled k.bitmap.used))
-        (ap (λ (x : Record). are_joined (attributes_of data_type [] x.attrs)) file_is ∙ ap are_joined (placed_one v.per data_type [] f p pieces.0 pieces.1 pieces.2))
-        (ap (λ (x : Stream). runs_in (Some x)) stream_is ∙ sym (ap (λ (x : Stream). runs_in (Some x)) is)) (ap real_size stream_is ∙ sym (ap real_size is)) put,
+            (subst IsInUse (sym file_is) (written_read.placed v.per data_type [] f p spelled k.bitmap.used))
+            (ap (λ (x : Record). are_joined (attributes_of data_type [] x.attrs)) file_is ∙ ap are_joined (placed_one v.per data_type [] f p pieces.0 pieces.1 pieces.2))
+            (ap (λ (x : Stream). runs_in (Some x)) stream_is ∙ sym (ap (λ (x : Stream). runs_in (Some x)) is)) (ap real_size stream_is ∙ sym (ap real_size is)) put,
       )
 
   below : (e : Extents) → PutsBits c v.per e first len value old new → after ≡ b → Result after

@@ -1,10 +1,9 @@
 -- Bits of runs of clusters that nobody has are put, one run behind the other.
-use Rattle.std.proofs.Common.{◌≡◌, ◌≢◌, ◌⊎◌, ℕ, ◌+◌, ◌<◌, ◌≤◌, Bool, true, false, ◌&&◌, cond, leb, ltb, List, [], ◌∷◌, Option, Some, None, refl, sym, ap, ap₂, subst, ◌∙◌, inl, inr, arith}
-use Rattle.std.specs.List.{list_all, AllByRecursion}
-use Rattle.std.proofs.lemmas.Bool.{cases_Bool, cases_lt, and_parts, and_from, leb-true, le-leb, lt-leb, lt-ltb, le-ltb, eqb-true}
+use Rattle.std.proofs.Common.{◌≡◌, ◌⊎◌, ℕ, ◌+◌, ◌<◌, ◌≤◌, Bool, true, false, ◌&&◌, cond, leb, ltb, List, [], ◌∷◌, Option, Some, None, refl, sym, ap, ap₂, subst, ◌∙◌, inl, inr, arith}
+use Rattle.std.specs.List.{list_all}
+use Rattle.std.proofs.lemmas.Bool.{cases_lt, and_parts, and_from, leb-true, le-leb, lt-leb, lt-ltb, le-ltb}
 use Rattle.disk_model.specs.declared.block.Block.{Block}
 use Rattle.disk_model.specs.Content.{Content, HasSizes}
-use Rattle.disk_model.specs.Sectors.{sectors}
 use Rattle.record_model.specs.declared.runs.Run.{Run}
 use Rattle.record_model.specs.Constants.{attribute_list, data_type}
 use Rattle.record_model.specs.Records.{Record}
@@ -18,8 +17,8 @@ use Rattle.volume_model.specs.Volumes.{Volume, bitmap_file, bytes_or, cluster_bi
 use Rattle.volume_model.specs.Owners.{covers, covers_from, uses, volume_runs}
 use Rattle.volume_model.specs.Sizes.{lies_below, lies_inside}
 use Rattle.volume_state.specs.Trees.{tree_of}
-use Rattle.stream_laws.specs.Owners.{IsLive, Owns, stream_kind}
-use Rattle.stream_laws.specs.Sharing.{runs_in, stream_at}
+use Rattle.stream_laws.specs.Owners.{Owns, stream_kind}
+use Rattle.stream_laws.specs.Sharing.{stream_at}
 use Rattle.stream_laws.proofs.Placing.{uses-cons}
 use Rattle.tree_laws.proofs.Ascending.{all_by}
 use Rattle.plan_owners.specs.States.{Stands}
@@ -33,11 +32,11 @@ use Rattle.plan_model.proofs.OneRecord.{own_record}
 use Rattle.draft_bits.specs.Effects.{IsKept}
 use Rattle.draft_bitmaps.specs.declared.bitmap.Bitmap.{Bitmap}
 use Rattle.draft_bitmaps.specs.Bitmaps.{IsBitmap}
-use Rattle.plan_edits.specs.Edits.{bitmap_key, mirror_key}
+use Rattle.plan_edits.specs.Edits.{mirror_key}
 use Rattle.plan_edits.specs.Moves.{EditsDraft}
 use Rattle.plan_edits.proofs.Putting.{content_goes, found_in, joined_same, left_put, right_put}
 use Rattle.plan_edits.proofs.Reading.{written_read}
-use Rattle.bitmap_edits.specs.Bitmaps.{IsClusterBitmap, KeepsOwners, put_in, PutsClustersIn, PutsFreeBits, PutsFreeRuns, PutsOwnersKept, PutsRunsIn, RoomDiffers}
+use Rattle.bitmap_edits.specs.Bitmaps.{IsClusterBitmap, KeepsOwners, PutsClustersIn, PutsFreeBits, PutsFreeRuns, PutsOwnersKept, PutsRunsIn, RoomDiffers}
 use Rattle.bitmap_edits.proofs.FreeBits.{bitmap_now, bitmap_rule, edits, inside_bit, keeps_owners, new_kept, other_bit, put_bodies_of, w}
 
 -- ---- two edits that keep the owners

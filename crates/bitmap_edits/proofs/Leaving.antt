@@ -1,6 +1,5 @@
 -- A value leaves its record for clusters that nobody has and whose bits are set.
-use Rattle.std.proofs.Common.{◌≡◌, ◌≢◌, ◌⊎◌, ℕ, ◌+◌, ◌*◌, ◌<◌, ◌≤◌, Bool, true, false, ◌&&◌, cond, eqb, leb, ltb, List, [], ◌∷◌, ◌++◌, length, Option, Some, None, refl, sym, ap, subst, ◌∙◌, inl, inr, arith}
-use Rattle.std.specs.Prelude.{All}
+use Rattle.std.proofs.Common.{◌≡◌, ◌≢◌, ◌⊎◌, ℕ, ◌+◌, ◌*◌, ◌<◌, ◌≤◌, true, false, ◌&&◌, eqb, ltb, List, [], ◌∷◌, ◌++◌, length, Some, refl, sym, ap, subst, ◌∙◌, inl, inr, arith}
 use Rattle.std.specs.List.{list_all, list_any, flat_map, AllByRecursion}
 use Rattle.std.proofs.lemmas.Bool.{cases_lt, and_parts, and_from, both_ways, le-leb, eq-eqb}
 use Rattle.disk_model.specs.declared.block.Block.{Block}
@@ -19,19 +18,17 @@ use Rattle.record_model.specs.Records.{Record}
 use Rattle.bit_set.specs.Bits.{bit}
 use Rattle.state_model.specs.declared.geometry.Geometry.{Geometry}
 use Rattle.state_model.specs.declared.stream.Extents.{Extents}
-use Rattle.state_model.specs.declared.stream.Stream.{Stream}
 use Rattle.state_model.specs.declared.stream.Stream.TheVariants.{Held, Placed}
 use Rattle.state_model.specs.Loads.{total_clusters}
 use Rattle.state_model.specs.Streams.{attributes_of, attribute_runs, block_at, joined, stream_of}
 use Rattle.volume_model.specs.Volumes.{Volume, cluster_bits}
 use Rattle.volume_model.specs.Nodes.{first_flags}
-use Rattle.volume_model.specs.Owners.{file_runs, uses, volume_runs}
+use Rattle.volume_model.specs.Owners.{uses, volume_runs}
 use Rattle.volume_model.specs.Sizes.{are_joined, fits_volume, is_hole, lies_inside}
 use Rattle.volume_state.specs.Journals.{limits_name}
 use Rattle.stream_laws.specs.Leaving.{LiesFree}
-use Rattle.stream_laws.specs.Owners.{IsLive, Owns, stream_kind}
+use Rattle.stream_laws.specs.Owners.{IsLive, stream_kind}
 use Rattle.stream_laws.specs.Places.{AreOnce}
-use Rattle.stream_laws.specs.Sharing.{runs_in, stream_at}
 use Rattle.stream_laws.proofs.Leaving.{free_in_runs}
 use Rattle.stream_map.proofs.Reading.{kind-block_at}
 use Rattle.stream_runs.proofs.Merging.{follow-grown}
@@ -42,7 +39,6 @@ use Rattle.resized_streams.specs.Resizing.{clusters_for, IsGrown, lengthened, un
 use Rattle.plan_owners.specs.States.{Stands}
 use Rattle.plan_bodies.specs.Bodies.{AreBodies, content_with, NewBody}
 use Rattle.plan_model.specs.Drafts.{IsPut}
-use Rattle.plan_model.specs.Informed.{with_record}
 use Rattle.plan_model.specs.Made.{ReadsAs}
 use Rattle.plan_model.proofs.Drafting.{per_is}
 use Rattle.plan_edits.specs.Puts.{IsSectorOf}

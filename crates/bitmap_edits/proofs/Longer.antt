@@ -1,5 +1,5 @@
 -- A stream takes clusters that nobody has and whose bits are set.
-use Rattle.std.proofs.Common.{◌≡◌, ◌⊎◌, ℕ, ◌+◌, ◌*◌, ◌/◌, ◌<◌, ◌≤◌, Bool, true, false, cond, leb, min, List, [], ◌∷◌, Option, Some, refl, sym, ap, subst, ◌∙◌, inl, inr, arith, length, take}
+use Rattle.std.proofs.Common.{◌≡◌, ◌⊎◌, ℕ, ◌+◌, ◌*◌, ◌/◌, ◌<◌, ◌≤◌, Bool, true, false, cond, leb, min, List, Option, Some, refl, sym, ap, subst, ◌∙◌, inl, inr, arith, length, take}
 use Rattle.std.specs.Prelude.{map}
 use Rattle.std.specs.List.{list_all, list_any, range_with_len}
 use Rattle.std.proofs.lemmas.Bool.{cases_lt, and_parts, and_from, le-leb, eq-eqb}
@@ -32,7 +32,6 @@ use Rattle.stream_laws.proofs.Growing.{stream_cut as front_bytes}
 use Rattle.stream_runs.specs.Laws.{InOneCluster}
 use Rattle.stream_runs.proofs.Merging.{follow-grown}
 use Rattle.stream_runs.proofs.Places.{places-grown}
-use Rattle.record_streams.specs.Placing.{placed_record}
 use Rattle.resized_streams.specs.declared.resized.Resized.{Resized}
 use Rattle.resized_streams.specs.Resizing.{IsGrown, lengthened}
 use Rattle.plan_owners.specs.States.{Stands}

@@ -1,26 +1,23 @@
 -- A file's record is put with a stream in other clusters, while all bits of clusters stay: the state that it leads to.
-use Rattle.std.proofs.Common.{◌≡◌, ◌≢◌, ◌⊎◌, ℕ, ◌+◌, ◌*◌, ◌<◌, ◌≤◌, Bool, true, false, ◌&&◌, eqb, List, [], ◌∷◌, Option, Some, None, refl, sym, ap, ap₂, subst, ◌∙◌, inl, inr, arith}
+use Rattle.std.proofs.Common.{◌≡◌, ◌≢◌, ◌⊎◌, ℕ, ◌+◌, ◌*◌, ◌<◌, ◌≤◌, Bool, true, false, ◌&&◌, eqb, List, Option, Some, None, refl, sym, ap, subst, ◌∙◌, inl, inr, arith}
 use Rattle.std.specs.Prelude.{All}
-use Rattle.std.specs.List.{list_all, AllByRecursion}
+use Rattle.std.specs.List.{AllByRecursion}
 use Rattle.std.proofs.lemmas.Bool.{cases_lt, both_ways, eq-eqb, ne_eqb}
 use Rattle.disk_model.specs.declared.block.Block.{Block}
 use Rattle.disk_model.specs.declared.block.BlockKind.{BlockKind}
 use Rattle.disk_model.specs.declared.block.BlockKind.TheVariants.{FileRec}
 use Rattle.disk_model.specs.Content.{Content, HasSizes}
 use Rattle.disk_model.specs.Sectors.{sectors}
-use Rattle.record_model.specs.declared.runs.Run.{Run}
-use Rattle.record_model.specs.Constants.{attribute_list, data_type, file_name, index_root, standard_information}
-use Rattle.record_model.specs.Pairs.{HasSpelling}
+use Rattle.record_model.specs.Constants.{file_name, standard_information}
 use Rattle.record_model.specs.Records.{Record}
 use Rattle.bit_set.specs.Bits.{bit}
 use Rattle.state_model.specs.declared.geometry.Geometry.{Geometry}
 use Rattle.state_model.specs.declared.stream.Extents.{Extents}
 use Rattle.state_model.specs.declared.stream.Stream.{Stream}
 use Rattle.state_model.specs.declared.stream.Stream.TheVariants.{Placed}
-use Rattle.state_model.specs.Files.{is_base_record}
-use Rattle.state_model.specs.Loads.{has_all_pairs, has_fitting_pairs, table_slot, Used}
+use Rattle.state_model.specs.Loads.{has_all_pairs, table_slot, Used}
 use Rattle.state_model.specs.Rules.{implies}
-use Rattle.state_model.specs.Streams.{block_at, stream_of}
+use Rattle.state_model.specs.Streams.{block_at}
 use Rattle.volume_model.specs.Volumes.{Volume, bitmap_file, bytes_or, cluster_bits, count_of, file_in, file_stream}
 use Rattle.volume_model.specs.Owners.{uses, volume_runs}
 use Rattle.volume_model.specs.Sizes.{fits_volume, has_hole, keeps_bitmaps}
@@ -48,7 +45,7 @@ use Rattle.plan_growth.proofs.Resizing.{slot_open, used_pairs}
 use Rattle.plan_growth.proofs.Written.{all_read, Reads}
 use Rattle.plan_table.proofs.Remade.{HasOther, IsOther}
 use Rattle.bitmap_edits.proofs.Now.{alike_itself, alike_written, HasNow, now_by}
-use Rattle.bitmap_edits.proofs.Restreaming.{clusters_now, file_there, five_by, Follows, GoesFar, GoesTo, IsOneFile, now_leads, now_tree, one_differs, one_edit, owned_once, owned_set, own_now, reads_on, same_files, six_by, which}
+use Rattle.bitmap_edits.proofs.Restreaming.{clusters_now, file_there, five_by, Follows, GoesFar, GoesTo, IsOneFile, now_leads, now_tree, one_differs, one_edit, owned_set, own_now, reads_on, same_files, six_by, which}
 
 -- A stream of a file comes to have these clusters, and its file is put so; what is put besides goes to the bits of clusters, to the mirror, or to clusters that nobody has. No bit of
 -- a cluster changes: those that the stream comes to have are nobody's, and set. What is newly live is put whole.

@@ -4,10 +4,9 @@ use Rattle.std.specs.List.{list_all, list_any, AllByRecursion}
 use Rattle.std.specs.Cmp.Lexicographic.{pointwise}
 use Rattle.std.specs.Option.{option_or, option_map}
 use Rattle.std.proofs.lemmas.Bool.{cases_Bool, cases_eq, cases_lt, le-leb, lt-leb, leb-true, and_parts, and_from, both_ways, or_left, or_from, eqb-true, eqb-false, ne_eqb, eq-eqb}
-use Rattle.host_base.specs.declared.file_ref.FileRef.{FileRef}
 use Rattle.disk_model.specs.declared.block.Block.{Block}
 use Rattle.disk_model.specs.declared.block.BlockKind.{BlockKind}
-use Rattle.disk_model.specs.declared.block.BlockKind.TheVariants.{Plain, FileRec, Index}
+use Rattle.disk_model.specs.declared.block.BlockKind.TheVariants.{FileRec, Index}
 use Rattle.disk_model.specs.Sectors.{same_block}
 use Rattle.disk_model.specs.Content.{Content, HasSizes}
 use Rattle.disk_model.specs.Writes.{Write}
@@ -30,11 +29,11 @@ use Rattle.state_model.specs.declared.stream.Stream.TheVariants.{Held, Placed}
 use Rattle.state_model.specs.Files.{file_at, reference, file_links, links_at, record_links, is_base_record, is_directory_record, has_type, info_of, is_encrypted, is_compressed, is_sparse, why_by}
 use Rattle.state_model.specs.Loads.{Slot, Used, table_slot, table_in, data_stream, has_cut_index_block}
 use Rattle.state_model.specs.Rules.{implies, at_file, is_directory_with, keeps_names, keeps_1, keeps_2, keeps_8}
-use Rattle.state_model.specs.Streams.{attributes_of, stream_of, block_at, is_inside_block, cuts_block, has_cut_block}
+use Rattle.state_model.specs.Streams.{stream_of, block_at, is_inside_block, cuts_block, has_cut_block}
 use Rattle.state_model.specs.Trees.{is_system, is_nameless}
 use Rattle.volume_model.specs.Volumes.{Volume, count_of, file_in, files_by_number, bytes_or, size_or, is_in_use, file_stream, record_bits, cluster_bits, table_file, mirror_file, bitmap_file, upcase_file, upper_of}
 use Rattle.volume_model.specs.Indexes.{void_block, index_place, index_links, index_stream, stream_blocks, links_below, lists_names, keeps_index}
-use Rattle.volume_model.specs.Nodes.{data_flags, first_flags, has_sparse_run, sparse_if, why_not, is_unread, is_unchanged, kind_in, valid_or, clusters_or, shows_data, data_shown, node_with, node_by, some_node, node_at, spare_numbers}
+use Rattle.volume_model.specs.Nodes.{data_flags, has_sparse_run, sparse_if, why_not, is_unread, is_unchanged, kind_in, valid_or, clusters_or, shows_data, data_shown, node_with, node_by, some_node, node_at, spare_numbers}
 use Rattle.volume_model.specs.Owners.{file_runs, volume_runs, uses, keeps_owner, keeps_cluster_bit, keeps_record_bit}
 use Rattle.volume_model.specs.Sizes.{keeps_stream, is_whole_file, has_hole, stream_has_torn, is_initialised, keeps_streams, keeps_bitmaps, keeps_sizes}
 use Rattle.volume_state.specs.Journals.{entries_name, limits_name, entries_flags, file_or_none, journal_file, journal_of_streams, journal_of_file, journal_of, fault_of, some_journal}
@@ -43,7 +42,7 @@ use Rattle.volume_state.specs.Trees.{tree_with, tree_of, volume_journal}
 use Rattle.stream_laws.specs.Leaving.{LiesFree}
 use Rattle.stream_laws.specs.Owners.{stream_kind}
 use Rattle.stream_laws.specs.Replacing.{FileEdit, OneFileDiffers, with_edits}
-use Rattle.stream_laws.specs.Rewrites.{StandsAlone, is_edited, with_files}
+use Rattle.stream_laws.specs.Rewrites.{StandsAlone, is_edited}
 use Rattle.stream_laws.specs.Sharing.{StreamKey, stream_at, runs_in}
 use Rattle.stream_laws.specs.Tables.{table_key}
 use Rattle.stream_laws.proofs.Changing.{bytes_stay}
@@ -78,7 +77,7 @@ use Rattle.plan_model.proofs.Informing.{slot_in_use, marked_in_use, implied}
 use Rattle.plan_model.proofs.OneRecord.{streams_test, by_test, OwnRecord, own_record, file_slot}
 use Rattle.plan_model.proofs.Stepping.{written_within, files_edited, tree_nodes}
 use Rattle.plan_growth.specs.Streams.{key_of, marks_streams}
-use Rattle.plan_growth.specs.Trees.{with_data, DataDiffers, TreeFollows}
+use Rattle.plan_growth.specs.Trees.{with_data, TreeFollows}
 use Rattle.plan_growth.proofs.Placed.{same_or_other}
 use Rattle.plan_growth.proofs.Resizing.{none_of_two, inside_none, not_marks, not_marked, not_named, no_system_shown, void_apart, not_allocation, mapped}
 use Rattle.bitmap_edits.proofs.Now.{HasNow}
@@ -331,6 +330,7 @@ module _ (c : Content) (g : Geometry) (clusters : ℕ) (v : Volume) (n kind : �
 
   spared_index : (m : ℕ) → marks_streams (record { file = m; kind = index_allocation; name = names_index }) ≡ false
   spared_index m = not_marks m index_allocation names_index (λ e. omega (arith, e))
+
   uncut_runs : (count : ℕ) (runs : List Run) → list_any (cuts_block v.per Index count) runs ≡ false
   uncut_runs count [] = refl
   uncut_runs count (x ∷ runs) =
@@ -348,6 +348,7 @@ module _ (c : Content) (g : Geometry) (clusters : ℕ) (v : Volume) (n kind : �
 
   alone : StandsAlone v.per (Used s)
   alone = (no_list_stream s no_list_now, none_of_two (is_directory_record s) _ (uncut_stream (stream_of index_allocation names_index s.attrs)))
+
   puts : WritesFiles marks_streams c v writes edits
   puts = record {
     distinct = (below, tt, tt);
@@ -407,6 +408,7 @@ module _ (c : Content) (g : Geometry) (clusters : ℕ) (v : Volume) (n kind : �
 
   bits_now : record_bits d w ≡ record_bits c v
   bits_now = record_bits_stay d v files n differs own_file.table ∙ same_record_bits c d v agree.bits
+
   flags_same : entries_flags s ≡ entries_flags r
   unfolding entries_flags
   flags_same = now.flags data_type entries_name
@@ -496,6 +498,7 @@ module _ (c : Content) (g : Geometry) (clusters : ℕ) (v : Volume) (n kind : �
         ap₂ implies directory_now (listed_now directory) ∙ old_3
     | inr none ↦ ap (λ (t : Bool). implies t (lists_names (upper_of c v) (files_by_number w) (count_of w) (reference n s) (index_links d w.per (upper_of c v) s))) (directory_now ∙ none)
   ]
+
   -- a test of no hole in a stream, and of none torn
   hole_kept : (t : Bool) (other : ℕ) (alias : List ℕ) → implies t (not (has_hole (stream_of other alias r.attrs))) ≡ true → implies t (not (has_hole (stream_of other alias s.attrs))) ≡ true
   hole_kept t other alias was =

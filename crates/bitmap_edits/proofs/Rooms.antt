@@ -1,5 +1,5 @@
 -- A bitmap that may be given bits may be given others behind them, and its record has room again.
-use Rattle.std.proofs.Common.{◌≡◌, ℕ, ◌+◌, ◌*◌, ◌/◌, ◌<◌, ◌≤◌, ◌^◌, max, Bool, true, false, ◌&&◌, cond, leb, eqb, List, [], ◌∷◌, length, Option, Some, None, Result, Ok, refl, sym, ap, subst, ◌∙◌, inl, inr, arith}
+use Rattle.std.proofs.Common.{◌≡◌, ℕ, ◌+◌, ◌*◌, ◌<◌, ◌≤◌, ◌^◌, max, Bool, true, false, ◌&&◌, cond, leb, eqb, List, [], ◌∷◌, length, Option, Some, None, Result, Ok, refl, sym, ap, subst, ◌∙◌, inl, inr, arith}
 use Rattle.std.specs.Prelude.{⊤}
 use Rattle.std.specs.List.{list_all}
 use Rattle.std.proofs.lemmas.Bool.{cases_lt, and_parts, eqb-true, le-leb, leb-false, leb-true, lt-leb}
@@ -7,7 +7,6 @@ use Rattle.disk_model.specs.Content.{Content}
 use Rattle.record_model.specs.declared.attribute.Attr.{Attr}
 use Rattle.record_model.specs.declared.runs.Run.{Run}
 use Rattle.record_model.specs.Pairs.{cluster_limit, Follow, HasSpelling}
-use Rattle.record_model.specs.Records.{Record}
 use Rattle.record_model.specs.Constants.{data_type}
 use Rattle.state_model.specs.declared.geometry.Geometry.{Geometry}
 use Rattle.state_model.specs.declared.stream.Extents.{Extents}
@@ -15,17 +14,16 @@ use Rattle.state_model.specs.declared.stream.Stream.{Stream}
 use Rattle.state_model.specs.declared.stream.Stream.TheVariants.{Held, Placed}
 use Rattle.state_model.specs.Loads.{total_clusters}
 use Rattle.state_model.specs.Streams.{attributes_of, real_size, stream_of}
-use Rattle.volume_model.specs.Volumes.{Volume, bitmap_file}
+use Rattle.volume_model.specs.Volumes.{Volume}
 use Rattle.volume_model.specs.Sizes.{fits_volume, has_sizes, lies_below, lies_inside}
 use Rattle.plan_owners.specs.States.{Stands}
 use Rattle.plan_draft.specs.declared.touched.Touched.{Touched}
 use Rattle.plan_draft.specs.Drafts.{drafted}
 use Rattle.plan_model.proofs.Drafting.{per_is}
-use Rattle.record_streams.specs.Fitting.{HasFields}
 use Rattle.record_streams.specs.Placing.{placed_attr, placed_record}
 use Rattle.record_streams.proofs.Fits.{fits_placed}
 use Rattle.record_streams.proofs.Streams.{placed_one}
-use Rattle.record_values.specs.Values.{valued_attr, valued_record}
+use Rattle.record_values.specs.Values.{valued_attr}
 use Rattle.record_values.proofs.Valued.{fits_valued, values_put}
 use Rattle.draft_records.specs.Records.{fits_room}
 use Rattle.draft_bitmaps.specs.declared.bitmap.Bitmap.{Bitmap}
@@ -39,7 +37,6 @@ use Rattle.table_edits.proofs.Again.{placed_again, valued_again}
 use Rattle.bitmap_edits.specs.Bitmaps.{BitsAreEdit, IsClusterBitmap, PutsClustersIn, PutsRunsIn}
 use Rattle.bitmap_edits.proofs.FreeBits.{alike_of, bitmap_long, bitmap_rule}
 use Rattle.bitmap_edits.proofs.FreeRuns.{begins_so, runs_put}
-use Rattle.bitmap_edits.proofs.Now.{AreAlike}
 
 -- ---- sizes
 

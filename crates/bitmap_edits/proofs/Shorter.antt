@@ -1,5 +1,5 @@
 -- A stream gives clusters back, and their bits stay set.
-use Rattle.std.proofs.Common.{◌≡◌, ◌≢◌, ◌⊎◌, ℕ, ◌+◌, ◌-◌, ◌*◌, ◌/◌, ◌<◌, ◌≤◌, Bool, true, false, ◌&&◌, leb, eqb, min, List, [], ◌∷◌, take, Option, Some, None, refl, sym, ap, subst, ◌∙◌, inl, inr, arith}
+use Rattle.std.proofs.Common.{◌≡◌, ◌≢◌, ◌⊎◌, ℕ, ◌+◌, ◌-◌, ◌*◌, ◌/◌, ◌<◌, ◌≤◌, true, false, min, List, [], ◌∷◌, take, Option, Some, None, refl, sym, ap, subst, ◌∙◌, inl, inr, arith}
 use Rattle.std.specs.List.{list_all}
 use Rattle.std.specs.Option.{option_map}
 use Rattle.std.proofs.lemmas.Bool.{cases_lt, and_parts, and_from, le-leb, leb-true, eq-eqb}
@@ -20,12 +20,12 @@ use Rattle.state_model.specs.declared.stream.Stream.TheVariants.{Placed}
 use Rattle.state_model.specs.Loads.{total_clusters}
 use Rattle.state_model.specs.Streams.{block_at}
 use Rattle.volume_model.specs.Volumes.{Volume, bytes_or, cluster_bits, file_stream}
-use Rattle.volume_model.specs.Owners.{uses, volume_runs}
+use Rattle.volume_model.specs.Owners.{uses}
 use Rattle.volume_model.specs.Sizes.{fits_volume, has_sizes, lies_below, lies_inside}
 use Rattle.stream_laws.specs.Owners.{initialised_in, IsLive, stream_kind}
 use Rattle.stream_laws.specs.Sharing.{runs_in, stream_at}
 use Rattle.stream_laws.proofs.Growing.{stream_cut as front_bytes}
-use Rattle.stream_runs.specs.Runs.{back, behind, front}
+use Rattle.stream_runs.specs.Runs.{back, front}
 use Rattle.stream_runs.specs.Laws.{InOneCluster}
 use Rattle.stream_runs.proofs.Merging.{follow-merged, total-merged, uses-merged}
 use Rattle.stream_runs.proofs.Parts.{back_cut, back_whole, follow-front, total-front, uses_parts}

@@ -1,13 +1,11 @@
 -- A stream that takes clusters, put into a draft with their bits, wherever these stand.
-use Rattle.std.proofs.Common.{◌≡◌, ◌≢◌, ◌⊎◌, ℕ, ◌+◌, ◌*◌, ◌<◌, ◌≤◌, Bool, true, false, cond, leb, List, [], ◌∷◌, take, Option, Some, None, Ok, refl, sym, ap, ap₂, subst, ◌∙◌, inl, inr, arith}
+use Rattle.std.proofs.Common.{◌≡◌, ◌≢◌, ◌⊎◌, ℕ, ◌+◌, ◌<◌, Bool, true, false, cond, leb, List, [], Option, Some, sym, ap, ap₂, subst, ◌∙◌, inl, inr, arith}
 use Rattle.std.specs.List.{list_all, AllByRecursion}
-use Rattle.std.proofs.lemmas.Bool.{cases_eq, cases_lt, both_ways, le-leb, lt-leb}
 use Rattle.disk_model.specs.declared.block.Block.{Block}
 use Rattle.disk_model.specs.declared.block.BlockKind.{BlockKind}
 use Rattle.disk_model.specs.Content.{Content, HasSizes}
 use Rattle.record_model.specs.declared.runs.Run.{Run}
-use Rattle.record_model.specs.Constants.{attribute_list, data_type}
-use Rattle.record_model.specs.Pairs.{HasSpelling}
+use Rattle.record_model.specs.Constants.{data_type}
 use Rattle.record_model.specs.Records.{Record, record_spelling}
 use Rattle.bit_set.specs.Bits.{bit}
 use Rattle.state_model.specs.declared.geometry.Geometry.{Geometry}
@@ -15,28 +13,20 @@ use Rattle.state_model.specs.declared.stream.Extents.{Extents}
 use Rattle.state_model.specs.declared.stream.Stream.{Stream}
 use Rattle.state_model.specs.declared.stream.Stream.TheVariants.{Placed}
 use Rattle.state_model.specs.Loads.{extents_or}
-use Rattle.state_model.specs.Streams.{block_at}
-use Rattle.volume_model.specs.Volumes.{Volume, bitmap_file, bytes_or, cluster_bits, file_in, file_stream, mirror_file}
+use Rattle.volume_model.specs.Volumes.{Volume, bytes_or, cluster_bits, file_in, file_stream, mirror_file}
 use Rattle.volume_model.specs.Owners.{uses, volume_runs}
-use Rattle.volume_model.specs.Sizes.{has_hole, lies_inside}
+use Rattle.volume_model.specs.Sizes.{lies_inside}
 use Rattle.stream_laws.specs.Owners.{IsLive, Owns, stream_kind}
-use Rattle.stream_laws.specs.Places.{AreOnce}
-use Rattle.stream_laws.specs.Sharing.{runs_in, stream_at, StreamKey}
+use Rattle.stream_laws.specs.Sharing.{stream_at, StreamKey}
 use Rattle.stream_laws.specs.Tables.{table_key}
-use Rattle.stream_runs.specs.Runs.{back, grown}
-use Rattle.stream_runs.proofs.Merging.{follow-grown, follow-merged}
-use Rattle.stream_runs.proofs.Parts.{follow-front}
+use Rattle.stream_runs.proofs.Merging.{follow-grown}
 use Rattle.tree_laws.proofs.Ascending.{all_by}
-use Rattle.tree_laws.proofs.Keeping.{rules_of}
-use Rattle.tree_laws.proofs.Owning.{in_no_stream}
-use Rattle.record_streams.specs.Placing.{placed_record}
 use Rattle.resized_streams.specs.declared.resized.Resized.{Resized}
-use Rattle.resized_streams.specs.Resizing.{clusters_for, IsCut, IsGrown, lengthened, shortened}
+use Rattle.resized_streams.specs.Resizing.{IsGrown, lengthened}
 use Rattle.plan_owners.specs.States.{Stands}
 use Rattle.plan_owners.specs.Kinds.{OwnsAs}
-use Rattle.plan_owners.proofs.Outside.{once, unused_outside}
 use Rattle.plan_bodies.specs.Bodies.{content_with, NewBody, put_bodies}
-use Rattle.plan_bodies.proofs.Putting.{all_in_both, are_bodies as both_are, contents_put, sized_with}
+use Rattle.plan_bodies.proofs.Putting.{all_in_both, are_bodies as both_are, sized_with}
 use Rattle.plan_draft.specs.declared.touched.Touched.{Touched}
 use Rattle.plan_draft.specs.Touching.{bodies_of}
 use Rattle.plan_draft.specs.Drafts.{drafted}
@@ -44,7 +34,6 @@ use Rattle.plan_model.specs.Drafts.{FollowsOwners, GoesOn, gives_runs, IsPut}
 use Rattle.plan_model.specs.Informed.{with_record}
 use Rattle.plan_model.proofs.OneRecord.{own_record}
 use Rattle.plan_model.proofs.Quiet.{given_before, given_clear, given_here}
-use Rattle.draft_bits.specs.Effects.{IsKept}
 use Rattle.draft_records.specs.Records.{touch_record, written_record}
 use Rattle.draft_bitmaps.specs.declared.bitmap.Bitmap.{Bitmap}
 use Rattle.plan_growth.specs.Growing.{MayGive}
@@ -52,19 +41,17 @@ use Rattle.plan_growth.specs.Streams.{IsOwnStream, key_of, marks_streams}
 use Rattle.plan_growth.specs.Trees.{TreeFollows}
 use Rattle.plan_growth.proofs.Growing.{uses-grown}
 use Rattle.plan_growth.proofs.Resizing.{clusters_are}
-use Rattle.plan_edits.specs.Edits.{mirror_key}
 use Rattle.plan_edits.specs.Moves.{EditsDraft}
 use Rattle.plan_edits.specs.Records.{IsRecordEdit, PutsRecordOf}
 use Rattle.plan_edits.specs.Written.{IsInUse}
 use Rattle.plan_edits.proofs.Reading.{written_read}
 use Rattle.plan_edits.proofs.Recording.{record_edit}
-use Rattle.bitmap_edits.specs.Bitmaps.{IsClusterBitmap, KeepsOwners, PutsFreeRuns, PutsOwnersKept, PutsRunsIn}
-use Rattle.bitmap_edits.specs.Streams.{CutsWithBits, GrowsWithBits, HasCut, HasGrown, PutsFileOf, ResizedWithBits}
+use Rattle.bitmap_edits.specs.Bitmaps.{PutsFreeRuns, PutsOwnersKept}
+use Rattle.bitmap_edits.specs.Streams.{GrowsWithBits, HasGrown, IsDraftOf}
 use Rattle.bitmap_edits.proofs.FreeRuns.{both_edit, owns_back, put_first, put_second, runs_put}
 use Rattle.bitmap_edits.proofs.Longer.{grown_reads, takes_runs, TakesSet}
 use Rattle.bitmap_edits.proofs.OwnRuns.{all_owned, bits_stay, file_now, files_stay, leads, live_before, MovesRuns, owned_or_new, owners, stream_now, tree}
-use Rattle.bitmap_edits.proofs.Shorter.{back_inside, cut_reads, gives_runs_back, GivesSet, old_inside, uses_split}
-use Rattle.bitmap_edits.proofs.Between.{bitmap_beside, clear_free, clear_in, mirror_between, out_of, own_between, owned_as_before, set_in}
+use Rattle.bitmap_edits.proofs.Between.{bitmap_beside, clear_free, mirror_between, out_of, own_between, owned_as_before, set_in}
 
 -- ---- longer runs
 
@@ -250,18 +237,28 @@ module _ (c : Content) (g : Geometry) (clusters : ℕ) (v : Volume) (mirror : Ex
       ∙ ap (λ (y : Content). bytes_or y v.per (stream_at bits.volume key)) (sym bits.edits.content)
       ∙ bits.keeps.reads key apart table_apart
 
-  pub has_grown : HasGrown c g clusters v n kind name e r more z old mid new after
+  same_others : (m : ℕ) → m ≢ n → file_in u m ≡ file_in w m
+  same_others = files_stay (drafted mid c) g clusters bits.volume n kind name (Placed e) f r z.file s edit.bodies sized_mid eight state_w moves
+
+  next : n ≢ mirror_file → IsDraftOf c u mirror after new
+  next other = record {
+    sized = k.draft.sized;
+    kept = record_edit.kept c bits.volume mirror n z.file mid new put_file;
+    bitmap = bitmap_beside bits.volume (with_record bits.volume n s) n after k.own.apart.bitmap same_others bits.bitmap;
+    mirror_is = ap (λ (o : Option Record). extents_or (file_stream data_type [] o)) (same_others mirror_file (λ is. other (sym is))) ∙ put_file.mirror_is;
+  }
+
+  pub has_grown : HasGrown c g clusters v mirror n kind name e r more z old mid new after
   has_grown = record {
     bits = bits;
     bodies = bodies;
     edits = edits;
-    kept = record_edit.kept c bits.volume mirror n z.file mid new put_file;
     stands = stands_new;
     stream = stream_now (drafted mid c) g clusters bits.volume n kind name (Placed e) f r z.file s edit.bodies sized_mid eight state_w moves ∙ ap (λ (x : Extents). Some (Placed x)) (sym f_is);
     files = λ m other apart. files_stay (drafted mid c) g clusters bits.volume n kind name (Placed e) f r z.file s edit.bodies sized_mid eight state_w moves m other ∙ bits.keeps.files m apart;
-    bitmap = bitmap_beside bits.volume (with_record bits.volume n s) n after k.own.apart.bitmap (files_stay (drafted mid c) g clusters bits.volume n kind name (Placed e) f r z.file s edit.bodies sized_mid eight state_w moves) bits.bitmap;
+    own_file = file_now (drafted mid c) g clusters bits.volume n kind name (Placed e) f r z.file s edit.bodies sized_mid eight state_w moves;
+    next = next;
     tree = λ whole. subst (λ (y : Content). TreeFollows (drafted mid c) y bits.volume n r s) edit.edits.content (tree (drafted mid c) g clusters bits.volume n kind name (Placed e) f r z.file s edit.bodies sized_mid eight state_w moves whole);
     bytes = bytes;
     goes_on = goes_on;
   }
-

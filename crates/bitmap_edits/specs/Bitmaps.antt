@@ -1,5 +1,5 @@
 -- The bits of clusters, wherever they stand, as a plan sets and clears them.
-use Rattle.std.specs.Prelude.{◌≡◌, ◌≢◌, ◌⊎◌, ⊤, ℕ, ◌+◌, ◌<◌, ◌≤◌, false, true, Bool, ◌&&◌, nat_le, nat_lt, List, [], ◌∷◌, Option, Some, None, Ok, if◌then◌else◌}
+use Rattle.std.specs.Prelude.{◌≡◌, ◌≢◌, ◌⊎◌, ℕ, ◌+◌, ◌<◌, ◌≤◌, false, true, Bool, nat_le, List, [], ◌∷◌, Option, Some, None, Ok, if◌then◌else◌}
 use Rattle.std.specs.List.{AllByRecursion, list_all}
 use Rattle.disk_model.specs.declared.block.Block.{Block}
 use Rattle.disk_model.specs.Content.{Content, HasSizes}
@@ -15,7 +15,7 @@ use Rattle.state_model.specs.Files.{has_type}
 use Rattle.state_model.specs.Loads.{extents_or}
 use Rattle.state_model.specs.Streams.{attributes_of, stream_of}
 use Rattle.volume_model.specs.Owners.{uses, volume_runs}
-use Rattle.volume_model.specs.Sizes.{are_joined, lies_below, lies_inside}
+use Rattle.volume_model.specs.Sizes.{are_joined, lies_inside}
 use Rattle.volume_model.specs.Volumes.{Volume, bitmap_file, bytes_or, cluster_bits, count_of, file_in}
 use Rattle.volume_state.specs.Trees.{tree_of}
 use Rattle.stream_laws.specs.Owners.{initialised_in, IsLive, Owns}
@@ -69,10 +69,6 @@ pub record PutsFreeBits (c : Content) (v : Volume) (mirror : Extents) (b : Bitma
   pub stands : IsBitmap after
   pub room : room_of v.per b first len ≡ Ok tt
   pub put : PutsBitsOf c v.per v.table mirror b first len value old new after
-
--- a bit, where those from a number on, so many, are put
-abbrev pub in_range : ℕ → ℕ → ℕ → Bool
-in_range first len x = nat_le first x && nat_lt x (first + len)
 
 -- a bit where those of the clusters of runs are put
 abbrev pub put_in : Bool → List Run → ℕ → Bool → Bool

@@ -64,16 +64,17 @@ pub record GrowsWithBits (c : Content) (v : Volume) (mirror : Extents) (b : Bitm
   pub file : PutsFileOf c v mirror n z.file mid new
 
 -- What is put is an edit over the draft before: first the bits, which keep the owners, then the file. It leads to a state with the stream in
--- these clusters, in which the other files stay, and is an edit of a plan that gives them the kind of the stream's blocks; the stream reads as it did.
-pub record HasGrown (c : Content) (g : Geometry) (clusters : ℕ) (v : Volume) (n kind : ℕ) (name : List ℕ) (e : Extents) (r : Record) (more : List Run) (z : Resized) (old mid new : List Touched) (after : Bitmap) : Type 0 where
+-- these clusters, in which the other files stay, and is an edit of a plan that gives them the kind of the stream's blocks; the stream reads as it did; and the next
+-- edit may follow.
+pub record HasGrown (c : Content) (g : Geometry) (clusters : ℕ) (v : Volume) (mirror : Extents) (n kind : ℕ) (name : List ℕ) (e : Extents) (r : Record) (more : List Run) (z : Resized) (old mid new : List Touched) (after : Bitmap) : Type 0 where
   pub bits : PutsOwnersKept c g clusters v more true old mid after
   pub bodies : List NewBody
   pub edits : EditsDraft c old new bodies
-  pub kept : IsKept new
   pub stands : Stands (drafted new c) g clusters (with_record bits.volume n (written_record z.file))
   pub stream : stream_at (with_record bits.volume n (written_record z.file)) (key_of n kind name) ≡ Some (Placed z.extents)
   pub files : (m : ℕ) → m ≢ n → m ≢ bitmap_file → file_in (with_record bits.volume n (written_record z.file)) m ≡ file_in v m
-  pub bitmap : IsClusterBitmap (with_record bits.volume n (written_record z.file)) after
+  pub own_file : file_in (with_record bits.volume n (written_record z.file)) n ≡ Some (written_record z.file)
+  pub next : n ≢ mirror_file → IsDraftOf c (with_record bits.volume n (written_record z.file)) mirror after new
   pub tree : has_hole (Some (Placed e)) ≡ false → TreeFollows (drafted mid c) (drafted new c) bits.volume n r (written_record z.file)
   pub bytes : marks_streams (key_of n kind name) ≡ false → bytes_or (drafted new c) v.per (stream_at (with_record bits.volume n (written_record z.file)) (key_of n kind name)) ≡ bytes_or (drafted old c) v.per (stream_at v (key_of n kind name))
   pub goes_on : (first : Content) (start : Volume) (gave : ℕ → Option BlockKind) → MayGive first start (stream_kind (key_of n kind name)) more gave
@@ -95,7 +96,7 @@ pub record CutsWithBits (c : Content) (v : Volume) (mirror : Extents) (b : Bitma
 
 -- What is put is an edit over the draft before: first the file, then the bits, which keep the owners. It leads to a state with the stream in
 -- its front clusters, in which the other files stay, and is an edit of a plan that gives nothing; the stream reads as the front of what it was.
-pub record HasCut (c : Content) (g : Geometry) (clusters : ℕ) (v : Volume) (n kind : ℕ) (name : List ℕ) (e : Extents) (r : Record) (size : ℕ) (z : Resized) (old mid new : List Touched) (after : Bitmap) : Type 0 where
+pub record HasCut (c : Content) (g : Geometry) (clusters : ℕ) (v : Volume) (mirror : Extents) (n kind : ℕ) (name : List ℕ) (e : Extents) (r : Record) (size : ℕ) (z : Resized) (old mid new : List Touched) (after : Bitmap) : Type 0 where
   pub bits : PutsOwnersKept c g clusters (with_record v n (written_record z.file)) z.freed.items false mid new after
   pub bodies : List NewBody
   pub edits : EditsDraft c old new bodies
@@ -103,6 +104,7 @@ pub record HasCut (c : Content) (g : Geometry) (clusters : ℕ) (v : Volume) (n 
   pub stream : stream_at (with_record v n (written_record z.file)) (key_of n kind name) ≡ Some (Placed z.extents)
   pub files : (m : ℕ) → m ≢ n → m ≢ bitmap_file → file_in bits.volume m ≡ file_in v m
   pub own_file : file_in bits.volume n ≡ Some (written_record z.file)
+  pub next : IsDraftOf c bits.volume mirror after new
   pub tree : has_hole (Some (Placed e)) ≡ false → TreeFollows (drafted old c) (drafted mid c) v n r (written_record z.file)
   pub bytes : marks_streams (key_of n kind name) ≡ false → bytes_or (drafted new c) v.per (stream_at bits.volume (key_of n kind name)) ≡ take size (bytes_or (drafted old c) v.per (stream_at v (key_of n kind name)))
   pub goes_on : (first : Content) (start : Volume) (gave : ℕ → Option BlockKind) → ((other : BlockKind) (x : ℕ) → gave x ≡ Some other → bit (cluster_bits first start) x ≡ false)
@@ -128,15 +130,15 @@ pub record MovesWithBits (c : Content) (v : Volume) (mirror : Extents) (b : Bitm
 
 -- What is put is an edit over the draft before: first the bits, which keep the owners, then the file and the value. It leads to a state with the
 -- stream in these clusters, in which the other files stay, and is an edit of a plan that gives them the kind of the stream's blocks; the stream reads as the value.
-pub record HasMoved (c : Content) (g : Geometry) (clusters : ℕ) (v : Volume) (n kind : ℕ) (name value : List ℕ) (r : Record) (more : List Run) (z : Resized) (old mid new : List Touched) (after : Bitmap) : Type 0 where
+pub record HasMoved (c : Content) (g : Geometry) (clusters : ℕ) (v : Volume) (mirror : Extents) (n kind : ℕ) (name value : List ℕ) (r : Record) (more : List Run) (z : Resized) (old mid new : List Touched) (after : Bitmap) : Type 0 where
   pub bits : PutsOwnersKept c g clusters v more true old mid after
   pub bodies : List NewBody
   pub edits : EditsDraft c old new bodies
-  pub kept : IsKept new
   pub stands : Stands (drafted new c) g clusters (with_record bits.volume n (written_record z.file))
   pub stream : stream_at (with_record bits.volume n (written_record z.file)) (key_of n kind name) ≡ Some (Placed z.extents)
   pub files : (m : ℕ) → m ≢ n → m ≢ bitmap_file → file_in (with_record bits.volume n (written_record z.file)) m ≡ file_in v m
-  pub bitmap : IsClusterBitmap (with_record bits.volume n (written_record z.file)) after
+  pub own_file : file_in (with_record bits.volume n (written_record z.file)) n ≡ Some (written_record z.file)
+  pub next : n ≢ mirror_file → IsDraftOf c (with_record bits.volume n (written_record z.file)) mirror after new
   pub tree : TreeFollows (drafted mid c) (drafted new c) bits.volume n r (written_record z.file)
   pub bytes : bytes_or (drafted new c) v.per (stream_at (with_record bits.volume n (written_record z.file)) (key_of n kind name)) ≡ value
   pub goes_on : (first : Content) (start : Volume) (gave : ℕ → Option BlockKind) → MayGive first start (stream_kind (key_of n kind name)) more gave
@@ -145,8 +147,8 @@ pub record HasMoved (c : Content) (g : Geometry) (clusters : ℕ) (v : Volume) (
 -- So they lead from a state to a state, wherever the bits stand.
 pub record ResizedWithBits : Type 0 where
   pub grown : (c : Content) (g : Geometry) (clusters : ℕ) (v : Volume) (mirror : Extents) (b : Bitmap) (n kind : ℕ) (name : List ℕ) (e : Extents) (r : Record) (more : List Run) (z : Resized) (old mid new : List Touched) (after : Bitmap) → g.per_cluster ≡ 8 → Stands (drafted old c) g clusters v
-      → GrowsWithBits c v mirror b n kind name e r more z old mid new after → HasGrown c g clusters v n kind name e r more z old mid new after
+      → GrowsWithBits c v mirror b n kind name e r more z old mid new after → HasGrown c g clusters v mirror n kind name e r more z old mid new after
   pub cut : (c : Content) (g : Geometry) (clusters : ℕ) (v : Volume) (mirror : Extents) (b : Bitmap) (n kind : ℕ) (name : List ℕ) (e : Extents) (r : Record) (size : ℕ) (z : Resized) (old mid new : List Touched) (after : Bitmap) → g.per_cluster ≡ 8 → Stands (drafted old c) g clusters v
-      → CutsWithBits c v mirror b n kind name e r size z old mid new after → HasCut c g clusters v n kind name e r size z old mid new after
+      → CutsWithBits c v mirror b n kind name e r size z old mid new after → HasCut c g clusters v mirror n kind name e r size z old mid new after
   pub moved : (c : Content) (g : Geometry) (clusters : ℕ) (v : Volume) (mirror : Extents) (b : Bitmap) (n kind : ℕ) (name was value : List ℕ) (r : Record) (more : List Run) (z : Resized) (old mid last new : List Touched) (after : Bitmap) → g.per_cluster ≡ 8 → Stands (drafted old c) g clusters v
-      → MovesWithBits c v mirror b n kind name was value r more z old mid last new after → HasMoved c g clusters v n kind name value r more z old mid new after
+      → MovesWithBits c v mirror b n kind name was value r more z old mid last new after → HasMoved c g clusters v mirror n kind name value r more z old mid new after
