@@ -1,6 +1,6 @@
 -- A file that was found comes to have few clusters more.
 use Rattle.std.proofs.Common.{◌≡◌, ℕ, ◌+◌, ◌-◌, ◌*◌, ◌^◌, ◌<◌, ◌≤◌, max, Bool, true, false, cond, ◌&&◌, List, [], ◌∷◌, length, Option, Some, None, refl, sym, ap, subst, ◌∙◌, inl, inr, arith}
-use Rattle.std.specs.Prelude.{not, nat_lt, All}
+use Rattle.std.specs.Prelude.{not, nat_lt, All, count_by}
 use Rattle.std.specs.List.{filter, flat_map}
 use Rattle.std.proofs.lemmas.Bool.{and_parts, cases_lt, lt-ltb, ltb-true}
 use Rattle.std.proofs.lemmas.List.Elements.{All-filter, All-head}
@@ -23,7 +23,7 @@ use Rattle.state_model.specs.declared.stream.Stream.{Stream}
 use Rattle.state_model.specs.declared.stream.Stream.TheVariants.{Held, Placed}
 use Rattle.state_model.specs.Loads.{total_clusters}
 use Rattle.state_model.specs.Streams.{attribute_runs, is_attribute_of, attributes_of, joined, stream_of}
-use Rattle.volume_model.specs.Volumes.{Volume, file_in, size_or, upper_of}
+use Rattle.volume_model.specs.Volumes.{Volume, file_in, size_or, cluster_bits, upper_of}
 use Rattle.volume_model.specs.Nodes.{valid_or, clusters_or}
 use Rattle.volume_state.specs.Trees.{tree_of}
 use Rattle.tree_model.specs.declared.script.Op.{Op}
@@ -43,8 +43,12 @@ use Rattle.plan_growth.proofs.Ruled.{sizes_lawful}
 use Rattle.plan_model.proofs.Drafting.{per_is}
 use Rattle.plan_changes.specs.Files.{IsChangeable}
 use Rattle.plan_changes.proofs.Showing.{node_shows}
+use Rattle.step_model.specs.Placing.{more_of}
+use Rattle.step_model.specs.Used.{is_in_record}
+use Rattle.step_model.specs.Streams.{Comes}
 use Rattle.step_model.proofs.UsedLengths.{value_length}
-use Rattle.data_plan.specs.Changes.{data_in, GrowsLittle}
+use Rattle.data_plan.specs.Changes.{data_in, GrowsLittle, growth_of}
+use Rattle.data_plan.proofs.Cases.{comes_by, cut_stays, placed_comes}
 use Rattle.change_steps.specs.Found.{HasChange, Finds}
 use Rattle.change_steps.specs.Ready.{FilesAreReady}
 use Rattle.change_steps.proofs.Rows.{change_rows_there}
@@ -177,5 +181,37 @@ little c g clusters v o node a r has finds k fits few =
     let own : node.clusters ≡ at.clusters = ap (λ (x : Node). x.clusters) f.at.bare in
     record { few = omega (arith, more, after, own, few); more = omega (arith, more, after, own) }
 
+-- ---- clusters enough
+
+held_none : (bits : List Bool) (r : Record) (o : Op) (a : Node) → shrinks o a ≡ true → is_in_record (data_in r) ≡ true → more_of (growth_of bits r o a) ≡ 0
+held_none bits r o a cut held = ap (λ (z : Comes). more_of z.growth) (comes_by bits r o a true (cut_stays r o a held cut))
+
+placed_none : (bits : List Bool) (r : Record) (o : Op) (a : Node) (e : Extents) → shrinks o a ≡ true → data_in r ≡ Some (Placed e) → a.size ≡ e.real → e.real ≤ 4096 * total_clusters e.runs → more_of (growth_of bits r o a) ≡ 0
+placed_none bits r o a e cut is size within =
+    let come : more_of (growth_of bits r o a) ≡ clusters_after false o a - total_clusters e.runs = ap (λ (z : Comes). more_of z.growth) (placed_comes bits r o a e is) in
+    let after = after_by o a true cut in
+    let less = size_cut o a cut in
+    omega (arith, come, after, less, size, within)
+
+-- data that is cut takes no clusters
+cut_by : (c : Content) (g : Geometry) (clusters : ℕ) (v : Volume) (o : Op) (a : Node) (n : ℕ) (r : Record) (s : Option Stream) (bits : List Bool) → Stands c g clusters v → g.per_cluster ≡ 8 → file_in v n ≡ Some r → shrinks o a ≡ true → a.size ≡ size_or s → data_in r ≡ s
+    → more_of (growth_of bits r o a) ≡ 0
+cut_by c g clusters v o a n r None bits stands eight file cut size is = held_none bits r o a cut (ap is_in_record is)
+cut_by c g clusters v o a n r (Some (Held value)) bits stands eight file cut size is = held_none bits r o a cut (ap is_in_record is)
+cut_by c g clusters v o a n r (Some (Placed e)) bits stands eight file cut size is =
+    let both = sizes_lawful v.per v.clusters e (placed_fits c g clusters v n r e stands file is) in
+    let real : e.real ≤ total_clusters e.runs * (512 * 8) = subst (λ (per : ℕ). e.real ≤ total_clusters e.runs * (512 * per)) (per_is c g clusters v eight stands) both.1 in
+    placed_none bits r o a e cut is size (omega (arith, real))
+
+clusters_enough : (c : Content) (g : Geometry) (clusters : ℕ) (v : Volume) (o : Op) (node a : Node) (r : Record) → HasChange c g clusters v o → Finds c v o (found.File node true) → IsChangeable c v node.number r a → more_of (growth_of (cluster_bits c v) r o node) ≤ count_by not (cluster_bits c v)
+clusters_enough c g clusters v o node a r has finds k = by (shrinks o node) refl
+  where
+    by : (t : Bool) → shrinks o node ≡ t → more_of (growth_of (cluster_bits c v) r o node) ≤ count_by not (cluster_bits c v)
+    by true cut =
+        let shown = shows c g clusters v o node a r true has finds k in
+        let none = cut_by c g clusters v o node node.number r (data_in r) (cluster_bits c v) has.stands has.eight k.file cut shown.size refl in
+        omega (arith, none)
+    by false grows = room c g clusters v o node a r has finds k grows
+
 pub files_are_ready : FilesAreReady
-files_are_ready = record { shows = shows; room = room; little = little }
+files_are_ready = record { shows = shows; room = clusters_enough; little = little }

@@ -1,5 +1,5 @@
 -- What the calls that write or cut a file ask for, of a file that was found without its bytes.
-use Rattle.std.specs.Prelude.{◌≡◌, ℕ, ◌+◌, ◌^◌, ◌≤◌, Bool, true, false, not, List, count_by}
+use Rattle.std.specs.Prelude.{◌≡◌, ℕ, ◌+◌, ◌^◌, ◌≤◌, Bool, true, not, List, count_by}
 use Rattle.disk_model.specs.Content.{Content}
 use Rattle.record_model.specs.Pairs.{cluster_limit}
 use Rattle.record_model.specs.Records.{Record}
@@ -8,7 +8,6 @@ use Rattle.file_tree.specs.Trees.{without_bytes}
 use Rattle.state_model.specs.declared.geometry.Geometry.{Geometry}
 use Rattle.volume_model.specs.Volumes.{Volume, cluster_bits}
 use Rattle.tree_model.specs.declared.script.Op.{Op}
-use Rattle.tree_model.specs.Needs.{shrinks}
 use Rattle.change_lookup.specs.declared.found.Found.TheVariants.{File}
 use Rattle.step_model.specs.Placing.{Growth, more_of}
 use Rattle.plan_changes.specs.Files.{IsChangeable}
@@ -27,11 +26,10 @@ pub record BareIsEnough : Type 0 where
   pub change : (g : Growth) (r : Record) (op : Op) (a : Node) (change : DataChange) → IsChange g r op (without_bytes a) change → IsChange g r op a change
   pub puts : (c : Content) (s : VolumeStreams) (n : ℕ) (op : Op) (a : Node) (stamp : ℕ) (r : Record) (change : DataChange) (old new : List Touched) → PutsChange c s n op (without_bytes a) stamp r change old new → PutsChange c s n op a stamp r change old new
 
--- A file that was found to be changed shows its data, and comes to have few clusters more. Where it isn't cut, as many clusters are free as
--- it takes.
+-- A file that was found to be changed shows its data, and comes to have few clusters more. As many clusters are free as it takes.
 pub record FilesAreReady : Type 0 where
   pub shows : (c : Content) (g : Geometry) (clusters : ℕ) (v : Volume) (op : Op) (node a : Node) (r : Record) (changes : Bool) → HasChange c g clusters v op → Finds c v op (File node changes) → IsChangeable c v node.number r a → ShowsData node r
-  pub room : (c : Content) (g : Geometry) (clusters : ℕ) (v : Volume) (op : Op) (node a : Node) (r : Record) → HasChange c g clusters v op → Finds c v op (File node true) → IsChangeable c v node.number r a → shrinks op node ≡ false
+  pub room : (c : Content) (g : Geometry) (clusters : ℕ) (v : Volume) (op : Op) (node a : Node) (r : Record) → HasChange c g clusters v op → Finds c v op (File node true) → IsChangeable c v node.number r a
       → more_of (growth_of (cluster_bits c v) r op node) ≤ count_by not (cluster_bits c v)
   pub little : (c : Content) (g : Geometry) (clusters : ℕ) (v : Volume) (op : Op) (node a : Node) (r : Record) → HasChange c g clusters v op → Finds c v op (File node true) → IsChangeable c v node.number r a → FitsButRoom r → node.clusters + 2 ^ 15 ≤ cluster_limit
       → GrowsLittle op node

@@ -31,7 +31,7 @@ pub fn bare_is_enough()
     ensures { BareIsEnough }
 {}
 
-/// Law: a file that was found shows its data, and has the room that a write takes.
+/// Law: a file that was found shows its data, and has the room that a write or a cut takes.
 pub fn files_are_ready()
     ensures { FilesAreReady }
 {}

@@ -1,6 +1,6 @@
 -- What a step says of data that stays, leaves, grows, is cut or has other sizes.
 use Rattle.std.proofs.Common.{◌≡◌, ℕ, ◌+◌, ◌-◌, ◌<◌, ◌≤◌, suc, Bool, true, false, cond, List, [], ◌∷◌, length, Option, Some, None, Ok, Err, refl, sym, ap, ◌∙◌, subst, inl, inr, arith}
-use Rattle.std.specs.Prelude.{not, count_by, nat_le, ◌==◌, ◌||◌, if◌then◌else◌}
+use Rattle.std.specs.Prelude.{not, count_by, nat_le, ◌==◌, ◌&&◌, ◌||◌, if◌then◌else◌}
 use Rattle.std.proofs.lemmas.Bool.{cases_lt, lt-ltb, le-ltb, lt-leb, le-leb}
 use Rattle.std.proofs.lemmas.Bool.Decides.{nat_tests}
 use Rattle.std.proofs.lemmas.List.{take_all}
@@ -21,7 +21,7 @@ use Rattle.state_model.specs.Streams.{attributes_of}
 use Rattle.tree_model.specs.declared.script.Op.{Op}
 use Rattle.tree_model.specs.declared.reply.Reply.{Reply}
 use Rattle.tree_model.specs.declared.reply.Reply.TheVariants.{RecordFull}
-use Rattle.tree_model.specs.Needs.{size_after}
+use Rattle.tree_model.specs.Needs.{size_after, shrinks}
 use Rattle.tree_model.specs.Effects.{clusters_after}
 use Rattle.space_model.specs.Choosing.{with_run, run_at, behind, chosen_anywhere, chosen, with_runs}
 use Rattle.plan_space.specs.Choices.{TakesFirst}
@@ -31,8 +31,8 @@ use Rattle.record_streams.specs.Placing.{placed_record}
 use Rattle.resized_streams.specs.declared.resized.Resized.{Resized}
 use Rattle.resized_streams.specs.Resizing.{lengthened, IsGrown}
 use Rattle.step_model.specs.Placing.{Growth, more_of, runs_after}
-use Rattle.step_model.specs.Used.{used_after, own_attr, value_attr, placed_attr, stays_in}
-use Rattle.step_model.specs.Streams.{Comes, as_value, placed_among, placed_by, in_clusters, comes, wanted_data, data_comes}
+use Rattle.step_model.specs.Used.{used_after, own_attr, value_attr, placed_attr, is_in_record, stays_in}
+use Rattle.step_model.specs.Streams.{Comes, as_value, placed_among, placed_by, in_clusters, comes, wanted_data, is_value_cut, data_comes}
 use Rattle.step_model.specs.Plans.{full_row}
 use Rattle.step_model.proofs.NeverFull.{used_bytes}
 use Rattle.used_laws.proofs.Lengths.{written_used}
@@ -93,11 +93,37 @@ sizes_free x y z w runs others a r same =
 -- ---- what comes
 
 abbrev pub StaysIn : Record → Op → Node → Bool
-StaysIn r op node = stays_in (data_in r) (size_after op node) (used_after (value_attr (size_after op node) (own_attr data_type [] r) ∷ []) r)
+StaysIn r op node = stays_in (data_in r) (size_after op node) (used_after (value_attr (size_after op node) (own_attr data_type [] r) ∷ []) r) || is_value_cut r op node
+
+either : {A : Type 0} (s t : Bool) (x y : A) → cond t x (cond s x y) ≡ cond (s || t) x y
+either true true x y = refl
+either true false x y = refl
+either false true x y = refl
+either false false x y = refl
 
 pub comes_by : (bits : List Bool) (r : Record) (op : Op) (node : Node) (t : Bool) → StaysIn r op node ≡ t → data_comes bits r op node ≡ cond t (as_value r (wanted_data op node)) (in_clusters bits r (wanted_data op node))
 unfolding data_comes comes
-comes_by bits r op node t is = ap (λ (b : Bool). cond b (as_value r (wanted_data op node)) (in_clusters bits r (wanted_data op node))) is
+comes_by bits r op node t is =
+    either (stays_in (data_in r) (size_after op node) (used_after (value_attr (size_after op node) (own_attr data_type [] r) ∷ []) r)) (is_value_cut r op node) (as_value r (wanted_data op node)) (in_clusters bits r (wanted_data op node))
+    ∙ ap (λ (b : Bool). cond b (as_value r (wanted_data op node)) (in_clusters bits r (wanted_data op node))) is
+
+-- only what stood in its record stays there
+pub stays_held : (r : Record) (op : Op) (node : Node) → StaysIn r op node ≡ true → is_in_record (data_in r) ≡ true
+stays_held r op node stays = by (is_in_record (data_in r)) (size_after op node == 0 || nat_le (used_after (value_attr (size_after op node) (own_attr data_type [] r) ∷ []) r) 1024) (shrinks op node) stays
+  where
+    by : (b x y : Bool) → ((b && x) || (b && y)) ≡ true → b ≡ true
+    by true x y is = refl
+    by false x y is = absurd cc
+
+-- a value that is cut stays
+pub cut_stays : (r : Record) (op : Op) (node : Node) → is_in_record (data_in r) ≡ true → shrinks op node ≡ true → StaysIn r op node ≡ true
+cut_stays r op node held cut =
+    let fits = stays_in (data_in r) (size_after op node) (used_after (value_attr (size_after op node) (own_attr data_type [] r) ∷ []) r) in
+    ap (λ (b : Bool). fits || (b && shrinks op node)) held ∙ ap (λ (b : Bool). fits || b) cut ∙ either_way fits
+  where
+    either_way : (b : Bool) → (b || true) ≡ true
+    either_way true = refl
+    either_way false = refl
 
 pub clusters_by : (bits : List Bool) (r : Record) (op : Op) (node : Node) (s : Option Stream) → StaysIn r op node ≡ false → data_in r ≡ s → data_comes bits r op node ≡ placed_by r (wanted_data op node) (placed_among bits (runs_in s) (wanted_data op node))
 unfolding in_clusters
@@ -105,27 +131,37 @@ clusters_by bits r op node s leaves is = comes_by bits r op node false leaves �
 
 pub placed_comes : (bits : List Bool) (r : Record) (op : Op) (node : Node) (e : Extents) → data_in r ≡ Some (Placed e) → data_comes bits r op node ≡ placed_by r (wanted_data op node) (placed_among bits e.runs (wanted_data op node))
 placed_comes bits r op node e is =
-    clusters_by bits r op node (Some (Placed e)) (ap (λ (o : Option Stream). stays_in o (size_after op node) (used_after (value_attr (size_after op node) (own_attr data_type [] r) ∷ []) r)) is) is
+    clusters_by bits r op node (Some (Placed e))
+    (ap (λ (o : Option Stream). stays_in o (size_after op node) (used_after (value_attr (size_after op node) (own_attr data_type [] r) ∷ []) r) || (is_in_record o && shrinks op node)) is) is
 
-held_test : (r : Record) (op : Op) (node : Node) (value : List ℕ) (x y : Bool) → data_in r ≡ Some (Held value) → (size_after op node == 0) ≡ x → nat_le (used_after (value_attr (size_after op node) (own_attr data_type [] r) ∷ []) r) 1024 ≡ y → StaysIn r op node ≡ (x || y)
-held_test r op node value x y is zero fits =
-    ap (λ (o : Option Stream). stays_in o (size_after op node) (used_after (value_attr (size_after op node) (own_attr data_type [] r) ∷ []) r)) is
-    ∙ ap (λ (b : Bool). b || nat_le (used_after (value_attr (size_after op node) (own_attr data_type [] r) ∷ []) r) 1024) zero
-    ∙ ap (λ (b : Bool). x || b) fits
+held_test : (r : Record) (op : Op) (node : Node) (value : List ℕ) (x y z : Bool) → data_in r ≡ Some (Held value) → (size_after op node == 0) ≡ x → nat_le (used_after (value_attr (size_after op node) (own_attr data_type [] r) ∷ []) r) 1024 ≡ y → shrinks op node ≡ z → StaysIn r op node ≡ (x || y || z)
+held_test r op node value x y z is zero fits cut =
+    ap (λ (o : Option Stream). stays_in o (size_after op node) (used_after (value_attr (size_after op node) (own_attr data_type [] r) ∷ []) r) || (is_in_record o && shrinks op node)) is
+    ∙ ap (λ (b : Bool). b || nat_le (used_after (value_attr (size_after op node) (own_attr data_type [] r) ∷ []) r) 1024 || shrinks op node) zero
+    ∙ ap (λ (b : Bool). x || b || shrinks op node) fits
+    ∙ ap (λ (b : Bool). x || y || b) cut
 
 pub leaving_comes : (bits : List Bool) (r : Record) (op : Op) (node : Node) (value : List ℕ) → data_in r ≡ Some (Held value) → MustLeave r op node → data_comes bits r op node ≡ placed_by r (wanted_data op node) (placed_among bits [] (wanted_data op node))
 leaving_comes bits r op node value is leaves =
-    clusters_by bits r op node (Some (Held value)) (held_test r op node value false false is (not_zero (size_after op node) leaves.some) (lt-leb _ 1024 leaves.full)) is
+    clusters_by bits r op node (Some (Held value)) (held_test r op node value false false false is (not_zero (size_after op node) leaves.some) (lt-leb _ 1024 leaves.full) leaves.grows) is
 
-staying_comes : (bits : List Bool) (r : Record) (op : Op) (node : Node) (value : List ℕ) (x y : Bool) → data_in r ≡ Some (Held value) → (size_after op node == 0) ≡ x → nat_le (used_after (value_attr (size_after op node) (own_attr data_type [] r) ∷ []) r) 1024 ≡ y → (x || y) ≡ true → data_comes bits r op node ≡ as_value r (wanted_data op node)
-staying_comes bits r op node value x y is zero fits stays = comes_by bits r op node true (held_test r op node value x y is zero fits ∙ stays)
+staying_comes : (bits : List Bool) (r : Record) (op : Op) (node : Node) (value : List ℕ) (x y z : Bool) → data_in r ≡ Some (Held value) → (size_after op node == 0) ≡ x → nat_le (used_after (value_attr (size_after op node) (own_attr data_type [] r) ∷ []) r) 1024 ≡ y → shrinks op node ≡ z → (x || y || z) ≡ true
+    → data_comes bits r op node ≡ as_value r (wanted_data op node)
+staying_comes bits r op node value x y z is zero fits cut stays = comes_by bits r op node true (held_test r op node value x y z is zero fits cut ∙ stays)
 
--- it stays where it has no bytes, or there is room for them
-pub kept_comes : (bits : List Bool) (r : Record) (op : Op) (node : Node) (value : List ℕ) (used : ℕ) → data_in r ≡ Some (Held value) → used ≡ used_after (value_attr (size_after op node) (own_attr data_type [] r) ∷ []) r → (0 < size_after op node → used ≤ 1024) → data_comes bits r op node ≡ as_value r (wanted_data op node)
-kept_comes bits r op node value used is same fits = elim (cases_lt 0 (size_after op node)) [
-  | inl some ↦ staying_comes bits r op node value false true is (not_zero (size_after op node) some) (le-leb _ 1024 (let few = fits some in omega (arith, few, same))) refl
-  | inr none ↦ staying_comes bits r op node value true (nat_le (used_after (value_attr (size_after op node) (own_attr data_type [] r) ∷ []) r) 1024) is (equal (size_after op node) 0 (omega (arith, none))) refl refl
+-- it stays where it has no bytes, where there is room for them, or where it is cut
+pub kept_comes : (bits : List Bool) (r : Record) (op : Op) (node : Node) (value : List ℕ) → data_in r ≡ Some (Held value) → (MustLeave r op node → ⊥) → data_comes bits r op node ≡ as_value r (wanted_data op node)
+kept_comes bits r op node value is never = elim (cases_lt 0 (size_after op node)) [
+  | inl some ↦ elim (cases_lt 1024 (used_after (value_attr (size_after op node) (own_attr data_type [] r) ∷ []) r)) [
+    | inl over ↦ by (shrinks op node) refl some over
+    | inr fits ↦ staying_comes bits r op node value false true (shrinks op node) is (not_zero (size_after op node) some) (le-leb _ 1024 fits) refl refl
+  ]
+  | inr none ↦ staying_comes bits r op node value true (nat_le (used_after (value_attr (size_after op node) (own_attr data_type [] r) ∷ []) r) 1024) (shrinks op node) is (equal (size_after op node) 0 (omega (arith, none))) refl refl refl
 ]
+  where
+    by : (t : Bool) → shrinks op node ≡ t → 0 < size_after op node → 1024 < used_after (value_attr (size_after op node) (own_attr data_type [] r) ∷ []) r → data_comes bits r op node ≡ as_value r (wanted_data op node)
+    by true cut some over = staying_comes bits r op node value false false true is (not_zero (size_after op node) some) (lt-leb _ 1024 over) cut refl
+    by false grows some over = absurd (never (record { some = some; full = over; grows = grows }))
 
 -- ---- clusters
 

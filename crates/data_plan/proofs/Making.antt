@@ -20,7 +20,7 @@ use Rattle.tree_model.specs.declared.script.Op.{Op}
 use Rattle.tree_model.specs.Needs.{clusters_for, size_after, shrinks}
 use Rattle.tree_model.specs.Effects.{clusters_after}
 use Rattle.step_model.specs.Placing.{Growth, runs_after}
-use Rattle.step_model.specs.Used.{is_replaced, used_after, new_attr, first_or, own_attr, value_attr, placed_attr, stays_in}
+use Rattle.step_model.specs.Used.{is_replaced, used_after, new_attr, first_or, own_attr, value_attr, placed_attr, is_in_record, stays_in}
 use Rattle.step_model.specs.Streams.{Comes, placed_among, wanted_data}
 use Rattle.step_model.specs.Plans.{full_row}
 use Rattle.step_model.proofs.NeverFull.{used_bytes}
@@ -118,20 +118,21 @@ same_test : (r s : Record) (op : Op) (node : Node) → HasMadeData r s → Stays
 same_test r s op node made =
     let size = size_after op node in
     let bytes : Record → ℕ = λ t. used_after (value_attr size (own_attr data_type [] t) ∷ []) t in
-    ap (λ (o : Option Stream). stays_in o size (bytes s)) (stream_new r s made)
-    ∙ ap (λ (n : ℕ). stays_in None size n) (same_value r s size made)
-    ∙ sym (ap (λ (o : Option Stream). stays_in o size (bytes r)) (stream_none r s made))
+    ap (λ (o : Option Stream). stays_in o size (bytes s) || (is_in_record o && shrinks op node)) (stream_new r s made)
+    ∙ ap (λ (n : ℕ). stays_in None size n || shrinks op node) (same_value r s size made)
+    ∙ sym (ap (λ (o : Option Stream). stays_in o size (bytes r) || (is_in_record o && shrinks op node)) (stream_none r s made))
 
-by_test : (t b : Bool) (n : ℕ) → (n == 0) ≡ t → (t || b) ≡ false → 0 < n
-by_test true b n is none = absurd cc
-by_test false b n is none = grind (arith, nat_tests)
+by_test : (t b d : Bool) (n : ℕ) → (n == 0) ≡ t → (t || b || d) ≡ false → 0 < n
+by_test true b d n is none = absurd cc
+by_test false b d n is none = grind (arith, nat_tests)
 
 -- what leaves has bytes, and so clusters
 some_size : (r s : Record) (op : Op) (node : Node) → HasMadeData r s → StaysIn r op node ≡ false → 0 < size_after op node
 some_size r s op node made leaves =
     let size = size_after op node in
     let full = nat_le (used_after (value_attr size (own_attr data_type [] r) ∷ []) r) 1024 in
-    by_test (size == 0) full size refl (sym (ap (λ (o : Option Stream). stays_in o size (used_after (value_attr size (own_attr data_type [] r) ∷ []) r)) (stream_none r s made)) ∙ leaves)
+    by_test (size == 0) full (shrinks op node) size refl
+    (sym (ap (λ (o : Option Stream). stays_in o size (used_after (value_attr size (own_attr data_type [] r) ∷ []) r) || (is_in_record o && shrinks op node)) (stream_none r s made)) ∙ leaves)
 
 some_clusters : (t : Bool) (size n : ℕ) → 0 < size → 0 < cond t (clusters_for size) (max n (clusters_for size))
 some_clusters true size n some = omega (arith, some)

@@ -32,7 +32,7 @@ use Rattle.resized_streams.specs.Resizing.{lengthened, shortened, with_sizes, un
 use Rattle.draft_records.specs.Records.{written_bytes}
 use Rattle.step_model.specs.Placing.{Growth, more_of, runs_after}
 use Rattle.step_model.specs.Used.{used_after, own_attr, value_attr, placed_attr}
-use Rattle.step_model.specs.Streams.{Comes, as_value, placed_among, placed_by, wanted_data, data_comes}
+use Rattle.step_model.specs.Streams.{Comes, placed_among, placed_by, wanted_data, data_comes}
 use Rattle.step_model.specs.Plans.{full_row}
 use Rattle.step_model.proofs.NeverFull.{used_bytes}
 use Rattle.used_laws.specs.Laws.{HasBytes, IsReadAttr}
@@ -83,9 +83,10 @@ held_of (Some (Placed e)) held = absurd held
 
 -- what a step says of a value that stays
 pub kept_after : (bits : List Bool) (r : Record) (op : Op) (node : Node) (size used_then : ℕ) (result : Result DataChange DataFault) → BeginsAtZero (attributes_of data_type [] r.attrs) → IsHeld (data_in r) → size ≡ size_after op node
-    → used_then ≡ used_after (value_attr size (own_attr data_type [] r) ∷ []) r → (0 < size → used_then ≤ 1024) → IsKept size used_then result → DataAfter bits bits r op node result
-kept_after bits r op node size used_then (Ok c) begins held is bytes fits kept =
-    let come = comes_in bits r op node size used_then held is bytes fits in
+    → used_then ≡ used_after (value_attr size (own_attr data_type [] r) ∷ []) r → (MustLeave r op node → ⊥) → IsKept size used_then result → DataAfter bits bits r op node result
+kept_after bits r op node size used_then (Ok c) begins held is bytes never kept =
+    let h = held_of (data_in r) held in
+    let come = kept_comes bits r op node h.value h.is never in
     let g = ap (λ (x : Comes). x.growth) come in
     let t = there_is (attributes_of data_type [] r.attrs) begins in
     let row : row_of bits r op node ≡ None = ap (λ (x : Comes). full_row (used_after x.attrs r ∷ [])) come ∙ fits_none _ (omega (arith, kept.1, ap (λ (n : ℕ). used_after (value_attr n (own_attr data_type [] r) ∷ []) r) is, bytes)) in
@@ -95,20 +96,15 @@ kept_after bits r op node size used_then (Ok c) begins held is bytes fits kept =
       room = λ value long. omega (arith, used.valued data_type [] value r t.first t.others t.is, ap (λ (n : ℕ). used_after (value_attr n (own_attr data_type [] r) ∷ []) r) long, bytes, kept.1);
     } in
     quiet_ok bits r op node c (ap (λ (x : Growth). x.runs) g) (ap more_of g) (subst (IsChange (growth_of bits r op node) r op node) (sym kept.0) stays) row
-  where
-    comes_in : (bits : List Bool) (r : Record) (op : Op) (node : Node) (size used_then : ℕ) → IsHeld (data_in r) → size ≡ size_after op node → used_then ≡ used_after (value_attr size (own_attr data_type [] r) ∷ []) r → (0 < size → used_then ≤ 1024) → data_comes bits r op node ≡ as_value r (wanted_data op node)
-    comes_in bits r op node size used_then held is bytes fits =
-        let h = held_of (data_in r) held in
-        kept_comes bits r op node h.value used_then h.is (bytes ∙ ap (λ (n : ℕ). used_after (value_attr n (own_attr data_type [] r) ∷ []) r) is) (λ some. fits (omega (arith, some, is)))
-kept_after bits r op node size used_then (Err (Full full)) begins held is bytes fits kept =
+kept_after bits r op node size used_then (Err (Full full)) begins held is bytes never kept =
     let h = held_of (data_in r) held in
-    let come = kept_comes bits r op node h.value used_then h.is (bytes ∙ ap (λ (n : ℕ). used_after (value_attr n (own_attr data_type [] r) ∷ []) r) is) (λ some. fits (omega (arith, some, is))) in
+    let come = kept_comes bits r op node h.value h.is never in
     let g = ap (λ (x : Comes). x.growth) come in
     let same : used_after (value_attr (size_after op node) (own_attr data_type [] r) ∷ []) r ≡ full = sym (ap (λ (n : ℕ). used_after (value_attr n (own_attr data_type [] r) ∷ []) r) is) ∙ sym bytes ∙ sym kept.0 in
     let row : row_of bits r op node ≡ Some (RecordFull full) = ap (λ (x : Comes). full_row (used_after x.attrs r ∷ [])) come ∙ ap (λ (n : ℕ). full_row (n ∷ [])) same ∙ over_full full (omega (arith, kept.0, kept.1)) in
     quiet_err bits r op node (Full full) (ap more_of g) row
-kept_after bits r op node size used_then (Err (Short room)) begins held is bytes fits kept = absurd kept
-kept_after bits r op node size used_then (Err Memory) begins held is bytes fits kept = absurd kept
+kept_after bits r op node size used_then (Err (Short room)) begins held is bytes never kept = absurd kept
+kept_after bits r op node size used_then (Err Memory) begins held is bytes never kept = absurd kept
 
 -- ---- clusters
 

@@ -14,7 +14,7 @@ use Rattle.volume_model.specs.Volumes.{size_or}
 use Rattle.volume_model.specs.Nodes.{valid_or, clusters_or}
 use Rattle.tree_model.specs.declared.script.Op.{Op}
 use Rattle.tree_model.specs.declared.reply.Reply.{Reply}
-use Rattle.tree_model.specs.Needs.{clusters_for, size_after}
+use Rattle.tree_model.specs.Needs.{clusters_for, size_after, shrinks}
 use Rattle.tree_model.specs.Effects.{valid_after, clusters_after}
 use Rattle.space_model.specs.Choosing.{with_runs}
 use Rattle.plan_space.specs.Choices.{TakesFirst}
@@ -81,9 +81,10 @@ IsHeld None = ⊥
 IsHeld (Some (Held value)) = ⊤
 IsHeld (Some (Placed e)) = ⊥
 
--- as a value of its new size it has no room there
+-- as a value of its new size it has no room there, and it isn't cut
 pub record MustLeave (r : Record) (op : Op) (node : Node) : Type 0 where
   pub some : 0 < size_after op node
+  pub grows : shrinks op node ≡ false
   pub full : 1024 < used_after (value_attr (size_after op node) (own_attr data_type [] r) ∷ []) r
 
 -- a value of this size stays in a record that has room with it

@@ -20,7 +20,7 @@ use record_model::{DATA, Runs};
 use record_values::valued_record;
 use state_model::{ClusterSize, Extents};
 use std::alloc::Global;
-use tree_model::{Op, clusters_for, size_after};
+use tree_model::{Op, clusters_for, shrinks, size_after};
 
 // The bytes that the record uses where its data is a value of so many bytes.
 fn used_as_value(alloc: Global, file: &FileRec, size: u64) -> Result<u64, Memory>
@@ -103,7 +103,7 @@ pub fn held_after<B: FreeBits>(
 {
     let size = size_after(op, node);
     let used = used_as_value(alloc, file, size)?;
-    if size > 0 && used > MOST_USED {
+    if size > 0 && used > MOST_USED && !shrinks(op, node) {
         return leaves(alloc, per, bits, file, op, node);
     }
     stays(size, used)

@@ -22,7 +22,8 @@ use tree_model::Op;
 /// it, takes clusters behind its own, gives some back, or has other sizes alone. The record is made
 /// with it, but where a value stays; nothing is put. `node` shows the data's sizes and clusters; the
 /// volume has 8 sectors a cluster, and `bits` are those of its clusters. The operation has numbers
-/// within bounds, and the data grows by at most 32,768 clusters. A draft can put what is made.
+/// within bounds, and the data grows by at most 32,768 clusters. A draft can put what is made. A
+/// value that is cut stays in its record, since a cut needs no clusters.
 ///
 /// - [`DataFault::Short`]: fewer bits are clear than the data wants, so many. All stay as they were.
 /// - [`DataFault::Full`]: the record would use so many bytes, which are above 1,024. All runs that

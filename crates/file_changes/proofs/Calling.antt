@@ -12,11 +12,9 @@ use Rattle.volume_model.specs.Volumes.{Volume, cluster_bits}
 use Rattle.tree_model.specs.declared.script.Op.{Op}
 use Rattle.tree_model.specs.declared.reply.Reply.{Reply}
 use Rattle.tree_model.specs.declared.reply.Reply.TheVariants as reply
-use Rattle.tree_model.specs.Needs.{shrinks}
 use Rattle.plan_draft.specs.declared.touched.Touched.{Touched}
 use Rattle.step_model.specs.Placing.{Growth, more_of}
 use Rattle.data_plan.specs.declared.change.DataChange.{DataChange}
-use Rattle.data_plan.specs.declared.change.DataChange.TheVariants as change
 use Rattle.data_plan.specs.Changes.{HasData, growth_of, row_of, IsChange}
 use Rattle.file_puts.specs.declared.streams.VolumeStreams.{VolumeStreams}
 use Rattle.file_puts.specs.Puts.{PutsChange}
@@ -26,8 +24,7 @@ use Rattle.file_writes.specs.declared.fault.WriteFault.TheVariants.{Full, Short,
 use Rattle.file_writes.specs.Faults.{IsShortOf, HasRow}
 use Rattle.file_writes.specs.Writing.{PutsWrite}
 use Rattle.change_steps.specs.Changes.{ChangesAreSteps}
-use Rattle.change_steps.specs.Ready.{BareIsEnough}
-use Rattle.file_changes.specs.Writes.{LeavesWhole}
+use Rattle.change_steps.specs.Ready.{BareIsEnough, FilesAreReady}
 use Rattle.file_changes.specs.Steps.{WritesAreSteps}
 use Rattle.file_changes.specs.Calls.{IsAsked, StepsTo, StepsFrom}
 
@@ -44,14 +41,11 @@ done_is bits more row u short full = elim (cases_lt (count_by not bits) more) [
   | inr enough ↦ (enough, full enough)
 ]
 
-leaves_whole : (g : Growth) (r : Record) (op : Op) (a : Node) (what : DataChange) → ((z : _) → IsChange g r op a (change.Leaves z) → shrinks op a ≡ false) → IsChange g r op a what → LeavesWhole (shrinks op a) what
-leaves_whole g r op a (change.Stays size) whole is = tt
-leaves_whole g r op a (change.Leaves z) whole is = whole z is
-leaves_whole g r op a (change.Grows z) whole is = tt
-leaves_whole g r op a (change.Cut z) whole is = tt
-leaves_whole g r op a (change.Sized z) whole is = tt
+-- where there are clusters enough, none lack
+never_short : (bits : List Bool) (more : ℕ) (row : Option Reply) (room : ℕ) → (more ≤ count_by not bits → HasRow {T = Unit {0}} row (Err (Short room))) → more ≤ count_by not bits → ⊥
+never_short bits more row room full enough = full enough
 
-module _ (done : WritesAreSteps) (steps : ChangesAreSteps) (bare : BareIsEnough) (c : Content) (g : Geometry) (clusters : ℕ) (v : Volume) (s : VolumeStreams) (op : Op) (node a : Node) (stamp : ℕ) (r : Record) (bits : List Bool) (asked : IsAsked c g clusters v s op node a r bits) where
+module _ (done : WritesAreSteps) (steps : ChangesAreSteps) (bare : BareIsEnough) (ready : FilesAreReady) (c : Content) (g : Geometry) (clusters : ℕ) (v : Volume) (s : VolumeStreams) (op : Op) (node a : Node) (stamp : ℕ) (r : Record) (bits : List Bool) (asked : IsAsked c g clusters v s op node a r bits) where
   growth_now : growth_of bits r op node ≡ growth_of (cluster_bits c v) r op a
   growth_now = ap (λ (x : Node). growth_of bits r op x) asked.bare ∙ bare.growth bits r op a ∙ ap (λ (l : List Bool). growth_of l r op a) asked.of_volume
 
@@ -71,7 +65,6 @@ module _ (done : WritesAreSteps) (steps : ChangesAreSteps) (bare : BareIsEnough)
   ok_steps old new u soon few has none put enough row =
       done c g clusters v s op stamp node a r put.change new asked.has asked.finds (sym row_now ∙ row)
       (subst (λ (l : List Bool). more_of (growth_of (cluster_bits c v) r op a) ≤ count_by not l) asked.of_volume (subst (λ (x : Growth). more_of x ≤ count_by not bits) growth_now enough))
-      (leaves_whole (growth_of (cluster_bits c v) r op a) r op a put.change asked.whole (is_now put.change put.is))
       (record {
         sized = asked.sized;
         eight = asked.has.eight;
@@ -90,21 +83,26 @@ module _ (done : WritesAreSteps) (steps : ChangesAreSteps) (bare : BareIsEnough)
   pub full_steps : (used : ℕ) (new : List Touched) → row_of bits r op node ≡ Some (reply.RecordFull used) → StepsTo (Err (Full used)) c g clusters op stamp new
   full_steps used new row = steps.full c g clusters v op stamp node a r (reply.RecordFull used) asked.has asked.finds asked.file (sym row_now ∙ row)
 
+  pub short_steps : (room : ℕ) (new : List Touched) → (more_of (growth_of bits r op node) ≤ count_by not bits → HasRow {T = Unit {0}} (row_of bits r op node) (Err (Short room))) → StepsTo (Err (Short room)) c g clusters op stamp new
+  short_steps room new full =
+      never_short bits (more_of (growth_of bits r op node)) (row_of bits r op node) room full
+      (subst (λ (l : List Bool). more_of (growth_of l r op node) ≤ count_by not l) (sym asked.of_volume) (ready.room c g clusters v op node a r asked.has asked.finds asked.file))
+
   pub fault_steps : (new : List Touched) → StepsTo (Err Fault) c g clusters op stamp new
   fault_steps new = steps.given_up c g clusters v op stamp reply.Fault asked.has refl
 
   pub memory_steps : (new : List Touched) → StepsTo (Err Memory) c g clusters op stamp new
   memory_steps new = steps.given_up c g clusters v op stamp reply.Memory asked.has refl
 
-pub call_steps : WritesAreSteps → ChangesAreSteps → BareIsEnough → (content : Option Content) (s : VolumeStreams) (op : Op) (node : Node) (stamp : ℕ) (r : Record) (bits : List Bool) (old new : List Touched) (result : Result (Unit {0}) WriteFault) → stamp < 2 ^ 64 → length bits ≤ cluster_limit → HasData (length bits) r
+pub call_steps : WritesAreSteps → ChangesAreSteps → BareIsEnough → FilesAreReady → (content : Option Content) (s : VolumeStreams) (op : Op) (node : Node) (stamp : ℕ) (r : Record) (bits : List Bool) (old new : List Touched) (result : Result (Unit {0}) WriteFault) → stamp < 2 ^ 64 → length bits ≤ cluster_limit → HasData (length bits) r
     → OnOk result (IfSome content (λ c. PutsWrite c bits s node.number op node stamp r old new)) → (count_by not bits < more_of (growth_of bits r op node) → IsShortOf (count_by not bits) result)
     → (more_of (growth_of bits r op node) ≤ count_by not bits → HasRow (row_of bits r op node) result) → IfSome content (StepsFrom s op node stamp r bits old new result)
-call_steps done steps bare None s op node stamp r bits old new result soon few has put short full = tt
-call_steps done steps bare (Some c) s op node stamp r bits old new (Ok u) soon few has put short full =
+call_steps done steps bare ready None s op node stamp r bits old new result soon few has put short full = tt
+call_steps done steps bare ready (Some c) s op node stamp r bits old new (Ok u) soon few has put short full =
     let is = done_is bits (more_of (growth_of bits r op node)) (row_of bits r op node) u short full in
-    λ g clusters v a asked none. ok_steps done steps bare c g clusters v s op node a stamp r bits asked old new u soon few has none put is.0 is.1
-call_steps done steps bare (Some c) s op node stamp r bits old new (Err (Full used)) soon few has put short full =
-    λ g clusters v a asked none. full_steps done steps bare c g clusters v s op node a stamp r bits asked used new (row_is bits (more_of (growth_of bits r op node)) (row_of bits r op node) used short full)
-call_steps done steps bare (Some c) s op node stamp r bits old new (Err (Short room)) soon few has put short full = λ g clusters v a asked none. tt
-call_steps done steps bare (Some c) s op node stamp r bits old new (Err Fault) soon few has put short full = λ g clusters v a asked none. fault_steps done steps bare c g clusters v s op node a stamp r bits asked new
-call_steps done steps bare (Some c) s op node stamp r bits old new (Err Memory) soon few has put short full = λ g clusters v a asked none. memory_steps done steps bare c g clusters v s op node a stamp r bits asked new
+    λ g clusters v a asked none. ok_steps done steps bare ready c g clusters v s op node a stamp r bits asked old new u soon few has none put is.0 is.1
+call_steps done steps bare ready (Some c) s op node stamp r bits old new (Err (Full used)) soon few has put short full =
+    λ g clusters v a asked none. full_steps done steps bare ready c g clusters v s op node a stamp r bits asked used new (row_is bits (more_of (growth_of bits r op node)) (row_of bits r op node) used short full)
+call_steps done steps bare ready (Some c) s op node stamp r bits old new (Err (Short room)) soon few has put short full = λ g clusters v a asked none. short_steps done steps bare ready c g clusters v s op node a stamp r bits asked room new full
+call_steps done steps bare ready (Some c) s op node stamp r bits old new (Err Fault) soon few has put short full = λ g clusters v a asked none. fault_steps done steps bare ready c g clusters v s op node a stamp r bits asked new
+call_steps done steps bare ready (Some c) s op node stamp r bits old new (Err Memory) soon few has put short full = λ g clusters v a asked none. memory_steps done steps bare ready c g clusters v s op node a stamp r bits asked new

@@ -16,14 +16,14 @@ use Rattle.file_puts.specs.declared.streams.VolumeStreams.{VolumeStreams}
 use Rattle.file_puts.specs.Written.{WritesFile, HasWritten}
 use Rattle.written_values.specs.Laws.{ValuesAreDone, ShorterAreDone, CutsAreDone}
 use Rattle.written_clusters.specs.Done.{HasClusters, LongerIsDone, GrowthIsDone, LeavingIsDone}
-use Rattle.file_changes.specs.Writes.{LeavesWhole, WritesAreDone}
+use Rattle.file_changes.specs.Writes.{WritesAreDone}
 
 pub joined : ValuesAreDone → ShorterAreDone → CutsAreDone → LongerIsDone → GrowthIsDone → LeavingIsDone → WritesAreDone
-joined values shorter cuts longer growth leaving c g clusters v s op n stamp a r (change.Stays size) new has whole w = values c g clusters v s op n stamp a r size new w
-joined values shorter cuts longer growth leaving c g clusters v s op n stamp a r (change.Leaves z) new has whole w = leaving c g clusters v s op n stamp a r z new whole has w
-joined values shorter cuts longer growth leaving c g clusters v s op n stamp a r (change.Grows z) new has whole w = growth c g clusters v s op n stamp a r z new has w
-joined values shorter cuts longer growth leaving c g clusters v s op n stamp a r (change.Cut z) new has whole w = cuts c g clusters v s op n stamp a r z new w
-joined values shorter cuts longer growth leaving c g clusters v s op n stamp a r (change.Sized z) new has whole w = by (shrinks op a) refl
+joined values shorter cuts longer growth leaving c g clusters v s op n stamp a r (change.Stays size) new has w = values c g clusters v s op n stamp a r size new w
+joined values shorter cuts longer growth leaving c g clusters v s op n stamp a r (change.Leaves z) new has w = leaving c g clusters v s op n stamp a r z new has w
+joined values shorter cuts longer growth leaving c g clusters v s op n stamp a r (change.Grows z) new has w = growth c g clusters v s op n stamp a r z new has w
+joined values shorter cuts longer growth leaving c g clusters v s op n stamp a r (change.Cut z) new has w = cuts c g clusters v s op n stamp a r z new w
+joined values shorter cuts longer growth leaving c g clusters v s op n stamp a r (change.Sized z) new has w = by (shrinks op a) refl
   where
     by : (t : Bool) → shrinks op a ≡ t → HasWritten c g clusters v op n stamp a (growth_of (cluster_bits c v) r op a) new
     by true is = shorter c g clusters v s op n stamp a r z new is w

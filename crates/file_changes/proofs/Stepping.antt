@@ -15,5 +15,5 @@ use Rattle.file_changes.specs.Writes.{WritesAreDone}
 use Rattle.file_changes.specs.Steps.{WritesAreSteps}
 
 pub stepped : WritesAreDone → DraftsAreWritten → ChangesAreSteps → WritesAreSteps
-stepped done drafts steps c g clusters v s op stamp node a r what new has finds row enough whole w =
-    steps.written c g clusters v op stamp node a r (drafted new c) has finds w.file row (drafts c g clusters v op node.number stamp r a new w.file (done c g clusters v s op node.number stamp a r what new enough whole w))
+stepped done drafts steps c g clusters v s op stamp node a r what new has finds row enough w =
+    steps.written c g clusters v op stamp node a r (drafted new c) has finds w.file row (drafts c g clusters v op node.number stamp r a new w.file (done c g clusters v s op node.number stamp a r what new enough w))

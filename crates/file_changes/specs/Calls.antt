@@ -1,5 +1,5 @@
 -- A call that writes or cuts a file takes the step of the operation.
-use Rattle.std.specs.Prelude.{◌≡◌, ⊤, ℕ, Bool, true, false, List, [], length, Result, Ok, Err}
+use Rattle.std.specs.Prelude.{◌≡◌, ℕ, Bool, true, List, [], length, Result, Ok, Err}
 use Rattle.disk_model.specs.Content.{Content, HasSizes}
 use Rattle.record_model.specs.Records.{Record}
 use Rattle.file_tree.specs.declared.node.Node.{Node}
@@ -8,15 +8,12 @@ use Rattle.state_model.specs.declared.geometry.Geometry.{Geometry}
 use Rattle.volume_model.specs.Volumes.{Volume, cluster_bits}
 use Rattle.tree_model.specs.declared.script.Op.{Op}
 use Rattle.tree_model.specs.declared.reply.Reply.TheVariants as reply
-use Rattle.tree_model.specs.Needs.{changes_file, shrinks}
+use Rattle.tree_model.specs.Needs.{changes_file}
 use Rattle.change_lookup.specs.declared.found.Found.TheVariants.{File}
-use Rattle.resized_streams.specs.declared.resized.Resized.{Resized}
 use Rattle.plan_draft.specs.declared.touched.Touched.{Touched}
 use Rattle.plan_draft.specs.Drafts.{drafted}
 use Rattle.plan_changes.specs.Files.{IsChangeable}
 use Rattle.step_model.specs.Steps.{Step}
-use Rattle.data_plan.specs.declared.change.DataChange.TheVariants as change
-use Rattle.data_plan.specs.Changes.{growth_of, IsChange}
 use Rattle.file_puts.specs.declared.streams.VolumeStreams.{VolumeStreams}
 use Rattle.file_puts.specs.Written.{AreStreamsOf}
 use Rattle.file_writes.specs.declared.fault.WriteFault.{WriteFault}
@@ -25,7 +22,7 @@ use Rattle.change_steps.specs.Found.{HasChange, Finds}
 use Rattle.change_steps.specs.Changes.{change_reply}
 
 -- In a state without a change journal the operation was found to change a file, which is the node with these bytes. The streams and the
--- bits are those of its volume. A value that is cut doesn't leave its record.
+-- bits are those of its volume.
 pub record IsAsked (c : Content) (g : Geometry) (clusters : ℕ) (v : Volume) (s : VolumeStreams) (op : Op) (node a : Node) (r : Record) (bits : List Bool) : Type 0 where
   pub has : HasChange c g clusters v op
   pub finds : Finds c v op (File node true)
@@ -36,14 +33,13 @@ pub record IsAsked (c : Content) (g : Geometry) (clusters : ℕ) (v : Volume) (s
   pub of_volume : bits ≡ cluster_bits c v
   pub count : length bits ≡ clusters
   pub sized : HasSizes c
-  pub whole : (z : Resized) → IsChange (growth_of (cluster_bits c v) r op a) r op a (change.Leaves z) → shrinks op a ≡ false
 
 -- Done, the draft stands for the content of the step. A record that would be too full, a failure and want of memory are steps that leave the
--- content; of clusters that lack nothing is said here.
+-- content. Clusters never lack, since an operation for which they lack isn't found to change the file.
 abbrev pub StepsTo : Result (Unit {0}) WriteFault → Content → Geometry → ℕ → Op → ℕ → List Touched → Type 0
 StepsTo (Ok u) c g clusters op stamp new = Step g clusters op stamp (change_reply op) c (drafted new c)
 StepsTo (Err (Full used)) c g clusters op stamp new = Step g clusters op stamp (reply.RecordFull used) c c
-StepsTo (Err (Short room)) c g clusters op stamp new = ⊤
+StepsTo (Err (Short room)) c g clusters op stamp new = ⊥
 StepsTo (Err Fault) c g clusters op stamp new = Step g clusters op stamp reply.Fault c c
 StepsTo (Err Memory) c g clusters op stamp new = Step g clusters op stamp reply.Memory c c
 

@@ -6,7 +6,6 @@ use Rattle.file_tree.specs.declared.node.Node.{Node}
 use Rattle.state_model.specs.declared.geometry.Geometry.{Geometry}
 use Rattle.volume_model.specs.Volumes.{Volume, cluster_bits}
 use Rattle.tree_model.specs.declared.script.Op.{Op}
-use Rattle.tree_model.specs.Needs.{shrinks}
 use Rattle.change_lookup.specs.declared.found.Found.TheVariants.{File}
 use Rattle.plan_draft.specs.declared.touched.Touched.{Touched}
 use Rattle.plan_draft.specs.Drafts.{drafted}
@@ -18,10 +17,9 @@ use Rattle.file_puts.specs.Written.{WritesFile}
 use Rattle.change_steps.specs.Found.{HasChange, Finds}
 use Rattle.change_steps.specs.Changes.{change_reply}
 use Rattle.written_clusters.specs.Done.{HasClusters}
-use Rattle.file_changes.specs.Writes.{LeavesWhole}
 
 -- A file is found to be written or cut, no row of its record refuses it, as many clusters are clear as its data comes to take, and the draft
--- has put what comes of that: the content that the draft stands for is the step's. A value that is cut doesn't leave its record.
+-- has put what comes of that: the content that the draft stands for is the step's.
 abbrev pub WritesAreSteps : Type 0
 WritesAreSteps = (c : Content) (g : Geometry) (clusters : ℕ) (v : Volume) (s : VolumeStreams) (op : Op) (stamp : ℕ) (node a : Node) (r : Record) (what : DataChange) (new : List Touched) → HasChange c g clusters v op → Finds c v op (File node true)
-    → row_of (cluster_bits c v) r op a ≡ None → HasClusters c v op a r → LeavesWhole (shrinks op a) what → WritesFile c g clusters v s op node.number stamp a r what new → Step g clusters op stamp (change_reply op) c (drafted new c)
+    → row_of (cluster_bits c v) r op a ≡ None → HasClusters c v op a r → WritesFile c g clusters v s op node.number stamp a r what new → Step g clusters op stamp (change_reply op) c (drafted new c)

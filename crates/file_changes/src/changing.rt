@@ -10,7 +10,7 @@ ghost use Rattle.file_changes.specs.Calls.{IsAsked, StepsTo, StepsFrom};
 
 use crate::laws::writes_are_steps;
 use block_view::View;
-use change_steps::{bare_is_enough, changes_are_steps};
+use change_steps::{bare_is_enough, changes_are_steps, files_are_ready};
 use file_puts::VolumeStreams;
 use file_record::FileRec;
 use file_tree::Node;
@@ -28,7 +28,8 @@ use tree_model::Op;
 /// the volume's clusters. Where the view's content is a state, the draft stands for the content that
 /// the step of the operation leaves, of which the reply is how many bytes were written, or the size;
 /// after [`WriteFault::Full`] the step is that the record is too full, and after a failure or want
-/// of memory that it was given up.
+/// of memory that it was given up. [`WriteFault::Short`] doesn't come there, since an operation for
+/// which clusters lack isn't found to change the file.
 pub fn change_file<V: View, B: FreeBits>(
     draft: &mut Draft<'_, V>,
     alloc: Global,
@@ -52,6 +53,7 @@ pub fn change_file<V: View, B: FreeBits>(
     writes_are_steps();
     changes_are_steps();
     bare_is_enough();
+    files_are_ready();
     write_file(
         draft,
         alloc,

@@ -7,8 +7,7 @@ use written_clusters::{growth_is_done, leaving_is_done, longer_is_done};
 use written_values::{cuts_are_done, shorter_are_done, values_are_done};
 
 /// Law: where a draft has put what comes of a file's data, which has clusters enough, it stands for a
-/// state, and the operation has changed the tree and left the content as a step says. Of a value that
-/// is cut and leaves its record nothing is said.
+/// state, and the operation has changed the tree and left the content as a step says.
 pub fn writes_are_done()
     ensures { WritesAreDone }
 {

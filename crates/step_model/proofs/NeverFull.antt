@@ -1,13 +1,15 @@
 -- Which files are never too full.
-use Rattle.std.proofs.Common.{◌≡◌, ◌⊎◌, inl, inr, ℕ, ◌+◌, ◌*◌, ◌≤◌, Bool, true, false, cond, not, nat_eq, List, [], ◌∷◌, length, Some, None, refl, sym, ap, ◌∙◌, arith}
+use Rattle.std.proofs.Common.{◌≡◌, ◌⊎◌, inl, inr, ℕ, ◌+◌, ◌*◌, ◌<◌, ◌≤◌, Bool, true, false, cond, not, nat_eq, List, [], ◌∷◌, length, Some, None, refl, sym, ap, ◌∙◌, arith}
 use Rattle.std.specs.Prelude.{◌==◌, ◌&&◌, ◌||◌, nat_le, if◌then◌else◌}
-use Rattle.std.specs.List.{filter, sum_by}
+use Rattle.std.specs.List.{filter, flat_map, sum_by}
 use Rattle.std.specs.List.Sorted.{IsPermutation}
 use Rattle.std.specs.Cmp.Lexicographic.{pointwise}
+use Rattle.std.proofs.lemmas.Bool.{and_parts}
 use Rattle.std.proofs.lemmas.Bool.Decides.{nat_tests}
 use Rattle.std.proofs.lemmas.List.Sums.{sum_by-cons}
 use Rattle.std.proofs.lemmas.List.Sorted.{sum_by-IsPermutation}
 use Rattle.disk_model.specs.Bytes.{zeros}
+use Rattle.record_model.specs.declared.attribute.OwnForm.{OwnForm}
 use Rattle.record_model.specs.declared.attribute.OwnForm.TheVariants.{Resident, Mapped}
 use Rattle.record_model.specs.declared.attribute.Attr.{Attr}
 use Rattle.record_model.specs.declared.attribute.Sizes.{Sizes}
@@ -21,15 +23,18 @@ use Rattle.record_writer.specs.Edits.{whole_length}
 use Rattle.record_writer.proofs.Measures.{length-spelling, held_length}
 use Rattle.file_tree.specs.declared.node.Node.{Node}
 use Rattle.state_model.specs.Loads.{total_clusters}
-use Rattle.state_model.specs.Streams.{is_attribute_of, attributes_of, sorted_into}
+use Rattle.state_model.specs.Streams.{is_attribute_of, attributes_of, sorted_into, attribute_runs, form_stream, joined, stream_of}
+use Rattle.volume_model.specs.Volumes.{size_or}
 use Rattle.stream_laws.specs.Sharing.{runs_in}
 use Rattle.tree_model.specs.declared.script.Op.{Op}
+use Rattle.tree_model.specs.declared.script.Op.TheVariants as op
+use Rattle.tree_model.specs.Needs.{size_after, shrinks}
 use Rattle.step_model.specs.Placing.{Growth, runs_after}
 use Rattle.step_model.specs.Used.{most_used, is_replaced, attrs_with, used_after, new_attr, own_attr, first_or, value_attr, placed_attr, is_in_record, stays_in}
-use Rattle.step_model.specs.Streams.{Wanted, stream_in, as_value, placed_among, in_clusters, comes, wanted_data, data_comes, data_of}
+use Rattle.step_model.specs.Streams.{Wanted, stream_in, as_value, placed_among, in_clusters, comes, wanted_data, is_value_cut, data_comes, data_of}
 use Rattle.step_model.specs.Plans.{new_file_attrs}
 use Rattle.step_model.specs.UsedLaws.{UsedBytes, IsPlainFile, AreFew, NeverFull}
-use Rattle.step_model.proofs.UsedLengths.{few_pairs, short_value, few_placed, within_eights}
+use Rattle.step_model.proofs.UsedLengths.{value_length, few_pairs, short_value, few_placed, within_eights}
 
 -- ---- used bytes
 
@@ -85,12 +90,20 @@ first_two {A} p a b c first second third =
     ∙ ap (λ t. a ∷ cond t (b ∷ filter p (c ∷ [])) (filter p (c ∷ []))) second
     ∙ ap (λ t. a ∷ b ∷ cond {A = List A} t (c ∷ []) []) third
 
-data_attr : (r : Record) (stream : Attr) → IsPlainFile r stream → own_attr data_type [] r ≡ stream
-unfolding own_attr attributes_of
-data_attr r stream plain =
-    ap (λ attrs. first_or (new_attr data_type []) (sorted_into [] (filter (is_attribute_of data_type []) attrs))) plain.attrs
-    ∙ ap (λ attrs. first_or (new_attr data_type []) (sorted_into [] attrs))
+data_alone : (r : Record) (stream : Attr) → IsPlainFile r stream → attributes_of data_type [] r.attrs ≡ stream ∷ []
+unfolding attributes_of
+data_alone r stream plain =
+    ap (λ attrs. sorted_into [] (filter (is_attribute_of data_type []) attrs)) plain.attrs
+    ∙ ap (sorted_into [])
     (third_alone (is_attribute_of data_type []) plain.info plain.name stream (not_data plain.info standard_information plain.has_info.is_kind refl) (not_data plain.name file_name plain.has_name.is_kind refl) (is_data stream plain.is_data plain.unnamed))
+
+data_attr : (r : Record) (stream : Attr) → IsPlainFile r stream → own_attr data_type [] r ≡ stream
+unfolding own_attr
+data_attr r stream plain = ap (first_or (new_attr data_type [])) (data_alone r stream plain)
+
+data_stream : (r : Record) (stream : Attr) (form : OwnForm) → IsPlainFile r stream → stream.form ≡ form → stream_of data_type [] r.attrs ≡ Some (form_stream form (flat_map attribute_runs (stream ∷ [])))
+unfolding stream_of
+data_stream r stream form plain is = ap joined (data_alone r stream plain) ∙ ap (λ (f : OwnForm). Some (form_stream f (flat_map attribute_runs (stream ∷ [])))) is
 
 replaces : (new a : Attr) (b : Bool) → new.head.kind ≡ data_type → new.name ≡ [] → is_attribute_of data_type [] a ≡ b → not (is_replaced (new ∷ []) a) ≡ not b
 replaces new a b kind unnamed is =
@@ -177,6 +190,24 @@ placed_used r stream w g kind name plain fits few false =
     let e = few_placed a _ (pairs_of (runs_after g)) refl (own_unnamed r stream plain) (few_pairs (runs_after g) few) in
     omega arith)
 
+shrinks_less : (o : Op) (node : Node) → shrinks o node ≡ true → size_after o node < node.size
+shrinks_less (op.Truncate path size) node is = grind (arith, nat_tests)
+shrinks_less other node is = absurd cc
+
+-- a value that is cut takes no more bytes than before
+cut_used : (r : Record) (stream : Attr) (form : OwnForm) (size : ℕ) → IsPlainFile r stream → used_of r.attrs ≤ most_used → stream.form ≡ form → is_in_record (stream_of data_type [] r.attrs) ≡ true → size ≤ size_or (stream_of data_type [] r.attrs)
+    → used_after (value_attr size (own_attr data_type [] r) ∷ []) r ≤ most_used
+cut_used r stream (Resident value indexed) size plain fits is stands less =
+    let own = own_attr data_type [] r in
+    let held : size_or (stream_of data_type [] r.attrs) ≡ length value = ap size_or (data_stream r stream (Resident value indexed) plain is) in
+    let after = with_one r stream (value_attr size own) plain (own_kind r stream plain) (own_unnamed r stream plain) in
+    let before : used_of r.attrs ≡ used_of (plain.info ∷ plain.name ∷ stream ∷ []) = ap used_of plain.attrs in
+    let long : length (spelling (value_attr size own)) ≡ whole_length 0x18 0 size = value_zeros size own ∙ ap (λ (n : List ℕ). whole_length 0x18 (length n) size) (own_unnamed r stream plain) in
+    let was : length (spelling stream) ≡ whole_length 0x18 0 (length value) = value_length stream value indexed is ∙ ap (λ (n : List ℕ). whole_length 0x18 (length n) (length value)) plain.unnamed in
+    omega (arith, held, after, before, long, was, less, fits)
+cut_used r stream (Mapped sizes pairs) size plain fits is stands less =
+    (let never = sym (ap is_in_record (data_stream r stream (Mapped sizes pairs) plain is)) ∙ stands in absurd cc)
+
 changed_by : (bits : List Bool) (r : Record) (stream : Attr) (op : Op) (node : Node) → IsPlainFile r stream → used_of r.attrs ≤ most_used → (b : Bool)
     → stays_in (stream_in r (data_of node.number)) (wanted_data op node).real (used_after (value_attr (wanted_data op node).real (own_attr data_type [] r) ∷ []) r) ≡ b
     → AreFew (runs_after (cond b (as_value r (wanted_data op node)) (in_clusters bits r (wanted_data op node))).growth) → used_after (cond b (as_value r (wanted_data op node)) (in_clusters bits r (wanted_data op node))).attrs r ≤ most_used
@@ -187,9 +218,22 @@ changed_by bits r stream op node plain fits false stays few =
     let g = placed_among bits (runs_in (stream_in r w.stream)) w in
     placed_used r stream w g refl refl plain fits few (w.clusters == total_clusters g.old)
 
-changed : (bits : List Bool) (r : Record) (stream : Attr) (op : Op) (node : Node) → IsPlainFile r stream → used_of r.attrs ≤ most_used → AreFew (runs_after (data_comes bits r op node).growth) → used_after (data_comes bits r op node).attrs r ≤ most_used
-unfolding data_comes comes
-changed bits r stream op node plain fits few = changed_by bits r stream op node plain fits (stays_in (stream_in r (data_of node.number)) (wanted_data op node).real (used_after (value_attr (wanted_data op node).real (own_attr data_type [] r) ∷ []) r)) refl few
+-- a value that is cut, and other data
+changed_to : (bits : List Bool) (r : Record) (stream : Attr) (op : Op) (node : Node) → IsPlainFile r stream → used_of r.attrs ≤ most_used → (shrinks op node ≡ true → node.size ≡ size_or (stream_of data_type [] r.attrs)) → (b : Bool) → is_value_cut r op node ≡ b
+    → AreFew (runs_after (cond b (as_value r (wanted_data op node)) (comes bits r [] (wanted_data op node))).growth) → used_after (cond b (as_value r (wanted_data op node)) (comes bits r [] (wanted_data op node))).attrs r ≤ most_used
+unfolding comes
+changed_to bits r stream op node plain fits shows true cut few =
+    let both = and_parts (is_in_record (stream_of data_type [] r.attrs)) (shrinks op node) cut in
+    let less = shrinks_less op node both.1 in
+    let size = shows both.1 in
+    cut_used r stream stream.form (size_after op node) plain fits refl both.0 (omega (arith, less, size))
+changed_to bits r stream op node plain fits shows false grows few =
+    changed_by bits r stream op node plain fits (stays_in (stream_in r (data_of node.number)) (wanted_data op node).real (used_after (value_attr (wanted_data op node).real (own_attr data_type [] r) ∷ []) r)) refl few
+
+changed : (bits : List Bool) (r : Record) (stream : Attr) (op : Op) (node : Node) → IsPlainFile r stream → used_of r.attrs ≤ most_used → (shrinks op node ≡ true → node.size ≡ size_or (stream_in r (data_of node.number))) → AreFew (runs_after (data_comes bits r op node).growth)
+    → used_after (data_comes bits r op node).attrs r ≤ most_used
+unfolding data_comes
+changed bits r stream op node plain fits shows few = changed_to bits r stream op node plain fits shows (is_value_cut r op node) refl few
 
 made : (name : List ℕ) → length name ≤ 255 → used_of (new_file_attrs name) ≤ most_used
 made name short =

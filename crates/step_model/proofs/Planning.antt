@@ -21,7 +21,7 @@ use Rattle.tree_model.specs.Refusals.{parent_path, new_name}
 use Rattle.stream_runs.specs.Runs.{last_cluster}
 use Rattle.step_model.specs.Placing.{Growth, more_of, AllPlaced, taken_runs}
 use Rattle.step_model.specs.Used.{used_after, value_attr, stays_in}
-use Rattle.step_model.specs.Streams.{Wanted, stream_in, attr_in, as_value, in_clusters, comes, data_comes, wanted_bits, wanted_table, table_comes, wanted_blocks, wanted_used, own_comes, used_behind, with_own, no_change, one_change, blocks_size, index_comes, wanted_entries, entries_come}
+use Rattle.step_model.specs.Streams.{Wanted, stream_in, attr_in, as_value, in_clusters, comes, data_comes, wanted_data, is_value_cut, wanted_bits, wanted_table, table_comes, wanted_blocks, wanted_used, own_comes, used_behind, with_own, no_change, one_change, blocks_size, index_comes, wanted_entries, entries_come}
 use Rattle.step_model.specs.Spreads.{Outcome, Flat, Raised, TooDeep}
 use Rattle.step_model.specs.Plans.{Plan, no_plan, number_or, journal_comes, with_journal, data_in, change_plan, table_in, grows_table, table_change, bits_left, spread_comes, made_plan, IsMadePlan, AtNode, change_or_none, IsOwnPlan}
 use Rattle.step_model.specs.PlanLaws.{PlansPlaced}
@@ -71,10 +71,15 @@ one_placed : (bits : List Bool) (a : Growth) → IsPlaced bits a → AllPlaced b
 unfolding IsPlaced
 one_placed bits a first = (first, tt)
 
+data_placed_by : (bits : List Bool) (r : Record) (w : Wanted) (b : Bool) → IsPlaced bits (cond b (as_value r w) (comes bits r [] w)).growth
+unfolding IsPlaced
+data_placed_by bits r w true = none_chosen bits
+data_placed_by bits r w false = comes_placed bits r [] w
+
 data_placed : (bits : List Bool) (file : Option Record) (o : Op) (node : Node) → AllPlaced bits (data_in bits file o node).growths
 unfolding data_comes
 data_placed bits None o node = tt
-data_placed bits (Some r) o node = one_placed bits (data_comes bits r o node).growth (comes_placed bits r [] _)
+data_placed bits (Some r) o node = one_placed bits (data_comes bits r o node).growth (data_placed_by bits r (wanted_data o node) (is_value_cut r o node))
 
 table_placed : (bits : List Bool) (v : Volume) (r : Record) → AllPlaced bits (table_comes bits v r).growths
 unfolding table_comes

@@ -1,5 +1,5 @@
 -- The streams that an operation changes: what comes into their record, and which clusters they take.
-use Rattle.std.specs.Prelude.{ℕ, ◌+◌, ◌-◌, ◌*◌, ◌/◌, max, Bool, true, false, ◌==◌, nat_lt, if◌then◌else◌, List, [], ◌∷◌, ◌++◌, Option}
+use Rattle.std.specs.Prelude.{ℕ, ◌+◌, ◌-◌, ◌*◌, ◌/◌, max, Bool, true, false, ◌&&◌, ◌==◌, nat_lt, if◌then◌else◌, List, [], ◌∷◌, ◌++◌, Option}
 use Rattle.record_model.specs.declared.attribute.Attr.{Attr}
 use Rattle.record_model.specs.declared.runs.Run.{Run}
 use Rattle.record_model.specs.Constants.{standard_information, data_type, bitmap_type, index_root, index_allocation, names_index}
@@ -19,12 +19,12 @@ use Rattle.volume_state.specs.Journals.{entries_name}
 use Rattle.stream_laws.specs.Sharing.{StreamKey, runs_in}
 use Rattle.stream_laws.specs.Tables.{table_key}
 use Rattle.tree_model.specs.declared.script.Op.{Op}
-use Rattle.tree_model.specs.Needs.{size_after, clusters_for, chunk_clusters}
+use Rattle.tree_model.specs.Needs.{size_after, shrinks, clusters_for, chunk_clusters}
 use Rattle.tree_model.specs.Effects.{valid_after, clusters_after}
 use Rattle.tree_model.specs.Refusals.{more_records}
 use Rattle.stream_runs.specs.Runs.{last_cluster}
 use Rattle.step_model.specs.Placing.{Growth, runs_after}
-use Rattle.step_model.specs.Used.{used_after, new_attr, own_attr, value_attr, placed_attr, stays_in}
+use Rattle.step_model.specs.Used.{used_after, new_attr, own_attr, value_attr, placed_attr, is_in_record, stays_in}
 
 -- A stream as it is to be: its size, how many of its bytes are initialised, and how many clusters it is to have where it doesn't stand in
 -- its record.
@@ -86,8 +86,13 @@ data_of n = record { file = n; kind = data_type; name = [] }
 abbrev pub wanted_data : Op → Node → Wanted
 wanted_data op node = record { stream = data_of node.number; real = size_after op node; initialised = valid_after op node; clusters = clusters_after false op node }
 
+-- a value that is cut
+abbrev pub is_value_cut : Record → Op → Node → Bool
+is_value_cut r op node = is_in_record (stream_in r (data_of node.number)) && shrinks op node
+
+-- A value that is cut stays in its record also where that is too full with it, since a cut needs no clusters. Other data leaves where it has to.
 unfoldable pub data_comes : List Bool → Record → Op → Node → Comes
-data_comes bits r op node = comes bits r [] (wanted_data op node)
+data_comes bits r op node = if is_value_cut r op node then as_value r (wanted_data op node) else comes bits r [] (wanted_data op node)
 
 -- ---- streams of one record
 

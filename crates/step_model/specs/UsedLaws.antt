@@ -1,5 +1,5 @@
 -- What the used bytes of a record that would be are, and which files are never too full.
-use Rattle.std.specs.Prelude.{◌≡◌, ℕ, ◌+◌, ◌*◌, ◌≤◌, ◌^◌, Bool, List, [], ◌∷◌, length, if◌then◌else◌, IfSome}
+use Rattle.std.specs.Prelude.{◌≡◌, ℕ, ◌+◌, ◌*◌, ◌≤◌, ◌^◌, Bool, true, List, [], ◌∷◌, length, if◌then◌else◌, IfSome}
 use Rattle.std.specs.List.{AllByRecursion}
 use Rattle.std.specs.List.Sorted.{IsPermutation}
 use Rattle.record_model.specs.declared.attribute.OwnForm.TheVariants.{Resident, Mapped}
@@ -12,10 +12,12 @@ use Rattle.record_model.specs.Pairs.{pairs_of}
 use Rattle.record_model.specs.Records.{Record, used_of}
 use Rattle.record_writer.specs.Edits.{whole_length}
 use Rattle.file_tree.specs.declared.node.Node.{Node}
+use Rattle.volume_model.specs.Volumes.{size_or}
 use Rattle.tree_model.specs.declared.script.Op.{Op}
+use Rattle.tree_model.specs.Needs.{shrinks}
 use Rattle.step_model.specs.Placing.{runs_after}
 use Rattle.step_model.specs.Used.{most_used, used_after, value_attr, placed_attr}
-use Rattle.step_model.specs.Streams.{data_comes}
+use Rattle.step_model.specs.Streams.{stream_in, data_of, data_comes}
 use Rattle.step_model.specs.Plans.{new_file_attrs}
 
 -- Used bytes are a sum, so that they don't hang on the order of attributes. Where none comes they are those that the record has. An
@@ -53,9 +55,9 @@ pub record AreFew (runs : List Run) : Type 0 where
   pub inside : AllByRecursion (λ r. (r.len ≤ 2 ^ 24) × IfSome r.lcn (λ lcn. lcn ≤ 2 ^ 24)) runs
 
 -- Such a file isn't too full with data of few runs whose mapping pairs have the fewest bytes, nor with data of no bytes, as a new file has. And
--- where it isn't, its record isn't after a change of its data that leaves few runs.
+-- where it isn't, its record isn't after a change of its data that leaves few runs; a node that is cut shows the size of the data.
 pub record NeverFull : Type 0 where
   pub placed : (r : Record) (stream : Attr) (sizes : Sizes) (runs : List Run) → IsPlainFile r stream → stream.form ≡ Mapped sizes (pairs_of runs) → AreFew runs → used_of r.attrs ≤ most_used
   pub empty : (r : Record) (stream : Attr) (indexed : ℕ) → IsPlainFile r stream → stream.form ≡ Resident [] indexed → used_of r.attrs ≤ most_used
-  pub changed : (bits : List Bool) (r : Record) (stream : Attr) (op : Op) (node : Node) → IsPlainFile r stream → used_of r.attrs ≤ most_used → AreFew (runs_after (data_comes bits r op node).growth) → used_after (data_comes bits r op node).attrs r ≤ most_used
+  pub changed : (bits : List Bool) (r : Record) (stream : Attr) (op : Op) (node : Node) → IsPlainFile r stream → used_of r.attrs ≤ most_used → (shrinks op node ≡ true → node.size ≡ size_or (stream_in r (data_of node.number))) → AreFew (runs_after (data_comes bits r op node).growth) → used_after (data_comes bits r op node).attrs r ≤ most_used
   pub made : (name : List ℕ) → length name ≤ 255 → used_of (new_file_attrs name) ≤ most_used

@@ -1,5 +1,5 @@
 -- Worked rows: clusters that streams take one after the other, and records that a change makes too full.
-use Rattle.std.specs.Prelude.{◌≡◌, ℕ, Bool, true, false, List, [], ◌∷◌, Some, None}
+use Rattle.std.specs.Prelude.{◌≡◌, ℕ, Bool, true, false, List, [], ◌∷◌, Option, Some, None}
 use Rattle.disk_model.specs.Bytes.{zeros}
 use Rattle.record_model.specs.declared.attribute.Attr.{Attr}
 use Rattle.record_model.specs.declared.runs.Run.{Run}
@@ -11,10 +11,11 @@ use Rattle.file_tree.specs.declared.node.Why.TheVariants as why
 use Rattle.stream_laws.specs.Sharing.{StreamKey}
 use Rattle.tree_model.specs.declared.script.Op.{Op}
 use Rattle.tree_model.specs.declared.script.Op.TheVariants as op
+use Rattle.tree_model.specs.declared.reply.Reply.{Reply}
 use Rattle.tree_model.specs.declared.reply.Reply.TheVariants as reply
 use Rattle.step_model.specs.Placing.{Growth, AllPlaced, runs_after}
 use Rattle.step_model.specs.Used.{used_after, new_attr, value_attr}
-use Rattle.step_model.specs.Streams.{data_comes}
+use Rattle.step_model.specs.Streams.{Comes, data_comes}
 use Rattle.step_model.specs.Plans.{full_row}
 use Rattle.step_model.specs.Steps.{Done, Refused, Synced, GivenUp, Never, answer_of}
 
@@ -93,6 +94,13 @@ used_beside others count = used_after (data_comes worked_bits (worked_record 0 o
 abbrev pub large : List Attr
 large = value_attr 680 (new_attr 0x100 []) ∷ []
 
+-- a value of 700 bytes beside it that is cut to so many
+abbrev pub cut_beside : ℕ → Comes
+cut_beside size = data_comes worked_bits (worked_record 700 large) (op.Truncate [] size) (worked_file 700)
+
+abbrev pub cut_row : ℕ → Option Reply
+cut_row size = full_row (used_after (cut_beside size).attrs (worked_record 700 large) ∷ [])
+
 pub record WorkedRecords : Type 0 where
   pub room : Stands 744 true
   pub no_room : Stands 745 false
@@ -100,6 +108,9 @@ pub record WorkedRecords : Type 0 where
   pub left : used_beside [] 745 ≡ 328
   pub full : full_row (used_beside large 100 ∷ []) ≡ Some (reply.RecordFull 1032)
   pub empty : full_row (used_beside large 0 ∷ []) ≡ None
+  pub stays : (cut_beside 41).growth.stands ≡ true
+  pub over : cut_row 41 ≡ Some (reply.RecordFull 1032)
+  pub within : cut_row 40 ≡ None
 
 -- ---- answers
 

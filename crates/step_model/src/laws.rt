@@ -68,7 +68,7 @@ pub fn worked_clusters()
 {}
 
 /// Worked rows: 744 bytes stand in the record of a file whose name has one unit, and 745 leave it;
-/// beside an attribute of 704 bytes no data has room.
+/// beside an attribute of 704 bytes no data has room, and a value that is cut stays there.
 pub fn worked_records()
     ensures { WorkedRecords }
 {}

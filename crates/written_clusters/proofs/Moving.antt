@@ -87,10 +87,11 @@ use Rattle.plan_changes.proofs.Falling.{rooms_are}
 use Rattle.plan_changes.proofs.Going.{files_going}
 use Rattle.plan_changes.proofs.Showing.{files_are}
 use Rattle.step_model.specs.Placing.{Growth, more_of, runs_after}
+use Rattle.step_model.specs.Used.{is_in_record}
 use Rattle.step_model.specs.Streams.{Comes, wanted_data, placed_among}
 use Rattle.data_plan.specs.declared.change.DataChange.TheVariants as change
 use Rattle.data_plan.specs.Changes.{growth_of}
-use Rattle.data_plan.proofs.Cases.{StaysIn, comes_by, clusters_by}
+use Rattle.data_plan.proofs.Cases.{StaysIn, comes_by, cut_stays, clusters_by}
 use Rattle.file_puts.specs.declared.streams.VolumeStreams.{VolumeStreams}
 use Rattle.file_puts.specs.Puts.{with_bytes, PutsLeaving}
 use Rattle.file_puts.specs.Written.{WritesFile, HasWritten}
@@ -104,7 +105,7 @@ use Rattle.written_clusters.proofs.Taking.{total_chosen, grows_file, clusters_ar
 use Rattle.written_clusters.proofs.Sizes.{EndsSizes}
 use Rattle.written_clusters.proofs.Beginning.{none_kept, first_state, first_file, has_written}
 
-module _ (times_set : TimesAreSet) (c : Content) (g : Geometry) (clusters : ℕ) (v : Volume) (st : VolumeStreams) (op : Op) (n stamp : ℕ) (a : Node) (r : Record) (z : Resized) (new : List Touched) (longer : shrinks op a ≡ false) (enough : HasClusters c v op a r) (k : WritesFile c g clusters v st op n stamp a r (change.Leaves z) new) where
+module _ (times_set : TimesAreSet) (c : Content) (g : Geometry) (clusters : ℕ) (v : Volume) (st : VolumeStreams) (op : Op) (n stamp : ℕ) (a : Node) (r : Record) (z : Resized) (new : List Touched) (enough : HasClusters c v op a r) (k : WritesFile c g clusters v st op n stamp a r (change.Leaves z) new) where
   abbrev first : Content
   first = drafted [] c
 
@@ -169,6 +170,16 @@ module _ (times_set : TimesAreSet) (c : Content) (g : Geometry) (clusters : ℕ)
 
   value_is : value ≡ bytes_after op a
   value_is = ap (λ (l : List ℕ). bytes_after op (with_bytes l a)) (sym bytes_was)
+
+  -- a value that is cut doesn't leave
+  longer : shrinks op a ≡ false
+  longer = elim (cases_Bool (shrinks op a)) [
+    | inl cut ↦
+        absurd
+        (both_ways (growth_of (cluster_bits c v) r op a).stands k.is.takes.clusters
+        (ap (λ (x : Comes). x.growth.stands) (comes_by (cluster_bits c v) r op a true (cut_stays r op a (ap is_in_record puts.held) cut))))
+    | inr grows ↦ grows
+  ]
 
   grows_is : GrowsFile op a
   grows_is = grows_file op a k.changes longer
@@ -472,4 +483,4 @@ module _ (times_set : TimesAreSet) (c : Content) (g : Geometry) (clusters : ℕ)
   is_done = subst (λ (x : Growth). HasWritten c g clusters v op n stamp a x new) (sym growth_is) (has_written c g clusters v w op n stamp a z.extents new gives growth k.sized ends grows)
 
 pub leaving_done : TimesAreSet → LeavingIsDone
-leaving_done times_set c g clusters v st op n stamp a r z new longer enough k = is_done times_set c g clusters v st op n stamp a r z new longer enough k
+leaving_done times_set c g clusters v st op n stamp a r z new enough k = is_done times_set c g clusters v st op n stamp a r z new enough k

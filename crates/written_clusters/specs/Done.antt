@@ -29,7 +29,7 @@ abbrev pub GrowthIsDone : Type 0
 GrowthIsDone = (c : Content) (g : Geometry) (clusters : ℕ) (v : Volume) (s : VolumeStreams) (op : Op) (n stamp : ℕ) (a : Node) (r : Record) (z : Resized) (new : List Touched) → HasClusters c v op a r → WritesFile c g clusters v s op n stamp a r (change.Grows z) new
     → HasWritten c g clusters v op n stamp a (growth_of (cluster_bits c v) r op a) new
 
--- A value that leaves its record for clusters, and isn't cut.
+-- A value that leaves its record for clusters.
 abbrev pub LeavingIsDone : Type 0
-LeavingIsDone = (c : Content) (g : Geometry) (clusters : ℕ) (v : Volume) (s : VolumeStreams) (op : Op) (n stamp : ℕ) (a : Node) (r : Record) (z : Resized) (new : List Touched) → shrinks op a ≡ false → HasClusters c v op a r
+LeavingIsDone = (c : Content) (g : Geometry) (clusters : ℕ) (v : Volume) (s : VolumeStreams) (op : Op) (n stamp : ℕ) (a : Node) (r : Record) (z : Resized) (new : List Touched) → HasClusters c v op a r
     → WritesFile c g clusters v s op n stamp a r (change.Leaves z) new → HasWritten c g clusters v op n stamp a (growth_of (cluster_bits c v) r op a) new

@@ -1,6 +1,6 @@
 -- What a step says of the clusters of a file's data.
 use Rattle.std.proofs.Common.{◌≡◌, ℕ, ◌<◌, ◌≤◌, min, max, Bool, true, false, cond, List, [], Option, Some, None, refl, sym, ap, subst, ◌∙◌, inl, inr, arith}
-use Rattle.std.proofs.lemmas.Bool.{and_parts, both_ways, cases_Bool, cases_lt}
+use Rattle.std.proofs.lemmas.Bool.{both_ways, cases_Bool, cases_lt}
 use Rattle.record_model.specs.Records.{Record}
 use Rattle.file_tree.specs.declared.node.Node.{Node}
 use Rattle.state_model.specs.declared.stream.Extents.{Extents}
@@ -19,7 +19,7 @@ use Rattle.step_model.specs.Placing.{Growth, more_of, runs_after}
 use Rattle.step_model.specs.Used.{is_in_record}
 use Rattle.step_model.specs.Streams.{Comes, in_record, placed_among, data_of, wanted_data}
 use Rattle.data_plan.specs.Changes.{data_in, growth_of}
-use Rattle.data_plan.proofs.Cases.{StaysIn, comes_by, clusters_by, placed_comes, chosen_none, runs_cut, runs_same}
+use Rattle.data_plan.proofs.Cases.{StaysIn, comes_by, stays_held, clusters_by, placed_comes, chosen_none, runs_cut, runs_same}
 
 -- ---- all growths
 
@@ -38,7 +38,7 @@ pub growth_is : (bits : List Bool) (r : Record) (op : Op) (a : Node) → IsOf bi
 growth_is bits r op a = elim (cases_Bool (StaysIn r op a)) [
   | inl stays ↦
       subst (λ (x : Comes). IsOf bits r a x.growth) (sym (comes_by bits r op a true stays))
-      (record { stream = refl; old = sym (no_runs (data_in r) (and_parts (is_in_record (data_in r)) _ stays).0); placed = sym (chosen_none bits None 0 refl) })
+      (record { stream = refl; old = sym (no_runs (data_in r) (stays_held r op a stays)); placed = sym (chosen_none bits None 0 refl) })
   | inr leaves ↦ subst (λ (x : Comes). IsOf bits r a x.growth) (sym (clusters_by bits r op a (data_in r) leaves refl)) (record { stream = refl; old = refl; placed = refl })
 ]
 

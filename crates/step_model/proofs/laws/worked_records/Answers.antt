@@ -20,4 +20,7 @@ returns c = record {
   left = refl;
   full = refl;
   empty = refl;
+  stays = refl;
+  over = refl;
+  within = refl;
 }

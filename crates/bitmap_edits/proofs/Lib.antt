@@ -1,0 +1,13 @@
+pub mod Now
+pub mod Restreaming
+pub mod FreeBits
+pub mod FreeRuns
+pub mod OwnRuns
+pub mod Longer
+pub mod Shorter
+pub mod Leaving
+pub mod Between
+pub mod Taking
+pub mod Moving
+pub mod Giving
+pub mod Rooms
