@@ -1,26 +1,26 @@
 -- What a step says of a record doesn't hang on whether its pairs are filled.
-use Rattle.std.proofs.Common.{◌≡◌, ℕ, ◌+◌, Bool, true, false, List, [], ◌∷◌, ◌++◌, length, map, Option, Some, refl, sym, ap, ◌∙◌, arith}
+use Rattle.std.proofs.Common.{◌≡◌, ℕ, Bool, true, false, List, [], ◌∷◌, map, Option, refl, sym, ap, ◌∙◌, arith}
 use Rattle.std.specs.Prelude.{not, ◌||◌, ◌&&◌, ◌==◌, if◌then◌else◌}
 use Rattle.std.specs.List.{filter, list_any}
 use Rattle.record_model.specs.declared.attribute.Attr.{Attr}
 use Rattle.record_model.specs.Constants.{data_type}
-use Rattle.record_model.specs.Records.{Record, spelled_bytes, used_of}
+use Rattle.record_model.specs.Records.{Record, spelled_bytes}
 use Rattle.record_writer.specs.Normal.{normal}
 use Rattle.file_tree.specs.declared.node.Node.{Node}
 use Rattle.state_model.specs.declared.stream.Stream.{Stream}
 use Rattle.state_model.specs.Loads.{total_clusters}
-use Rattle.state_model.specs.Streams.{is_attribute_of, stream_of}
+use Rattle.state_model.specs.Streams.{is_attribute_of}
 use Rattle.stream_laws.specs.Sharing.{runs_in}
 use Rattle.tree_model.specs.declared.script.Op.{Op}
-use Rattle.tree_model.specs.Needs.{size_after}
+use Rattle.tree_model.specs.Needs.{size_after, shrinks}
 use Rattle.tree_model.specs.Effects.{valid_after, clusters_after}
 use Rattle.draft_records.specs.Records.{written_record}
 use Rattle.step_model.specs.Placing.{Growth, runs_after}
-use Rattle.step_model.specs.Used.{is_replaced, attrs_with, used_after, own_attr, value_attr, placed_attr, stays_in}
-use Rattle.step_model.specs.Streams.{Comes, in_record, placed_among, in_clusters, comes, data_of, wanted_data, data_comes, one_change}
-use Rattle.step_model.specs.Plans.{full_row, used_in}
+use Rattle.step_model.specs.Used.{is_replaced, attrs_with, used_after, own_attr, value_attr, placed_attr, is_in_record, stays_in}
+use Rattle.step_model.specs.Streams.{Comes, in_record, placed_among, in_clusters, comes, data_of, wanted_data, data_comes}
+use Rattle.step_model.specs.Plans.{full_row}
 use Rattle.used_laws.proofs.Lengths.{filter_yes, filter_no, bytes-append, written_used}
-use Rattle.data_plan.specs.Changes.{data_in, growth_of, row_of}
+use Rattle.data_plan.specs.Changes.{data_in, row_of}
 
 -- ---- attributes as they are written
 
@@ -65,7 +65,9 @@ value_come op node own = record { attrs = value_attr (size_after op node) own �
 
 -- by what it says of the data, its attribute and the used bytes with a value
 abbrev come_by : List Bool → Op → Node → Option Stream → Attr → ℕ → Comes
-come_by bits op node held own used = if stays_in held (size_after op node) used then value_come op node own else placed_come op node (placed_among bits (runs_in held) (wanted_data op node)) own
+come_by bits op node held own used =
+    if is_in_record held && shrinks op node then value_come op node own
+    else (if stays_in held (size_after op node) used then value_come op node own else placed_come op node (placed_among bits (runs_in held) (wanted_data op node)) own)
 
 come_is : (bits : List Bool) (r : Record) (op : Op) (node : Node) → data_comes bits r op node ≡ come_by bits op node (data_in r) (own_attr data_type [] r) (used_after (value_attr (size_after op node) (own_attr data_type [] r) ∷ []) r)
 unfolding data_comes comes in_clusters

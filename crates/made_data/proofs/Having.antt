@@ -1,8 +1,8 @@
 -- The record of a file as it is once its data is made.
-use Rattle.std.proofs.Common.{◌≡◌, ℕ, zero, suc, ◌+◌, ◌<◌, ◌≤◌, ◌^◌, ◌%◌, ◌-◌, Bool, true, false, cond, not, ◌||◌, ◌&&◌, leb, ltb, List, [], ◌∷◌, ◌++◌, length, map, take, drop, replicate, Option, Some, None, refl, sym, ap, subst, ◌∙◌, inl, inr, arith}
+use Rattle.std.proofs.Common.{◌≡◌, ℕ, zero, suc, ◌+◌, ◌<◌, ◌≤◌, ◌^◌, ◌%◌, ◌-◌, Bool, true, false, cond, not, ◌&&◌, leb, ltb, List, [], ◌∷◌, ◌++◌, length, map, take, drop, replicate, Some, None, refl, sym, ap, subst, ◌∙◌, inl, inr, arith}
 use Rattle.std.specs.Prelude.{All, insert, find, IsTrue, ◌==◌}
 use Rattle.std.specs.List.{filter, list_any, list_all, range_with_len}
-use Rattle.std.proofs.lemmas.Bool.{or_parts, or_cases, or_left, or_right, and_parts, and_from, leb-true, ltb-true, ltb-false, le-leb}
+use Rattle.std.proofs.lemmas.Bool.{or_parts, or_cases, or_left, or_right, and_parts, and_from, ltb-true, ltb-false, le-leb}
 use Rattle.std.proofs.lemmas.List.{append-nil, take-append-drop, length-map}
 use Rattle.std.proofs.lemmas.List.Elements.{All-head, All-tail, All-cons, All-nil, All-map, All-weaker}
 use Rattle.std.proofs.lemmas.List.Sums.{count_by-le-length}
@@ -12,7 +12,7 @@ use Rattle.record_model.specs.declared.attribute.OwnForm.{OwnForm}
 use Rattle.record_model.specs.declared.attribute.OwnForm.TheVariants.{Resident, Mapped}
 use Rattle.record_model.specs.Attributes.{filled, spelling, FitsAttr, FitsForm}
 use Rattle.record_model.specs.Constants.{data_type}
-use Rattle.record_model.specs.Records.{Record, TypesRise, FitsHead, spelled_bytes}
+use Rattle.record_model.specs.Records.{Record, spelled_bytes}
 use Rattle.record_model.specs.Values.{has_lawful_value}
 use Rattle.record_writer.specs.Fitting.{rise_from}
 use Rattle.record_writer.specs.Normal.{normal, normal_form}
@@ -21,7 +21,6 @@ use Rattle.record_writer.proofs.NormalRoom.{rise_stays}
 use Rattle.record_writer.proofs.Rising.{rise_true, true_rise}
 use Rattle.record_writer.proofs.Staying.{all_stand}
 use Rattle.file_tree.specs.declared.node.Node.{Node}
-use Rattle.state_model.specs.declared.stream.Stream.{Stream}
 use Rattle.state_model.specs.declared.stream.Stream.TheVariants.{Held}
 use Rattle.state_model.specs.Files.{has_type}
 use Rattle.state_model.specs.Loads.{has_fitting_pairs, has_all_pairs}

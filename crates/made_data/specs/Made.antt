@@ -1,5 +1,5 @@
 -- A file without unnamed data that gets it.
-use Rattle.std.specs.Prelude.{ℕ, Bool, List, [], insert}
+use Rattle.std.specs.Prelude.{ℕ, Bool, [], insert}
 use Rattle.std.specs.List.{list_any}
 use Rattle.record_model.specs.declared.attribute.Attr.{Attr}
 use Rattle.record_model.specs.declared.attribute.OwnForm.TheVariants.{Resident}

@@ -1,7 +1,6 @@
 -- The unnamed data of a file in a state.
-use Rattle.std.proofs.Common.{◌≡◌, ◌≢◌, ℕ, ◌+◌, ◌*◌, ◌^◌, ◌<◌, ◌≤◌, Bool, true, false, ◌&&◌, eqb, ltb, List, [], ◌∷◌, length, Option, Some, refl, sym, ap, subst, ◌∙◌, arith}
+use Rattle.std.proofs.Common.{◌≡◌, ℕ, ◌+◌, ◌*◌, ◌<◌, ◌≤◌, true, false, ◌&&◌, eqb, ltb, List, [], ◌∷◌, Some, sym, ap, subst, ◌∙◌, arith}
 use Rattle.std.specs.Prelude.{IfSome}
-use Rattle.std.specs.List.{list_all}
 use Rattle.std.proofs.lemmas.Bool.{and_parts, eqb-true}
 use Rattle.disk_model.specs.declared.block.BlockKind.TheVariants.{FileRec}
 use Rattle.disk_model.specs.Content.{Content}
@@ -10,16 +9,14 @@ use Rattle.record_model.specs.Constants.{attribute_list, data_type}
 use Rattle.record_model.specs.Pairs.{cluster_limit}
 use Rattle.record_model.specs.Records.{Record}
 use Rattle.state_model.specs.declared.geometry.Geometry.{Geometry}
-use Rattle.state_model.specs.declared.stream.Extents.{Extents}
 use Rattle.state_model.specs.declared.stream.Stream.{Stream}
 use Rattle.state_model.specs.declared.stream.Stream.TheVariants.{Held, Placed}
 use Rattle.state_model.specs.Files.{has_type}
-use Rattle.state_model.specs.Loads.{total_clusters, has_fitting_pairs, has_all_pairs}
+use Rattle.state_model.specs.Loads.{total_clusters, has_all_pairs}
 use Rattle.state_model.specs.Streams.{first_vcn, attribute_runs, attributes_of, stream_of, block_at}
-use Rattle.volume_model.specs.Sizes.{are_joined, follow, has_hole, fits_volume, keeps_streams}
+use Rattle.volume_model.specs.Sizes.{are_joined, follow, has_hole, keeps_streams}
 use Rattle.volume_model.specs.Volumes.{Volume, file_in}
 use Rattle.stream_runs.specs.Runs.{last_cluster}
-use Rattle.tree_model.specs.Needs.{clusters_for}
 use Rattle.plan_owners.specs.States.{Stands}
 use Rattle.stream_laws.proofs.Rewriting.{volume_parts}
 use Rattle.plan_owners.proofs.Standing.{streams_at}
@@ -29,7 +26,7 @@ use Rattle.plan_growth.proofs.Placed.{some_attributes, stream_rule}
 use Rattle.plan_growth.proofs.Resizing.{slot_open, used_pairs}
 use Rattle.record_streams.specs.Fitting.{FitsButRoom}
 use Rattle.state_streams.specs.Streams.{IsPlacedIn, StreamsOfStates}
-use Rattle.data_plan.specs.Changes.{data_in, BeginsAtZero, LiesBelow, StandsBelow, HasData}
+use Rattle.data_plan.specs.Changes.{data_in, BeginsAtZero, StandsBelow, HasData}
 use Rattle.state_files.specs.Files.{HasFewRuns, FilesHaveData}
 
 pairs_read : (c : Content) (g : Geometry) (clusters : ℕ) (v : Volume) (n : ℕ) (r : Record) → Stands c g clusters v → file_in v n ≡ Some r → has_type attribute_list r ≡ false → has_all_pairs r ≡ true

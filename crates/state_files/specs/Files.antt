@@ -1,5 +1,5 @@
 -- What a state says of the unnamed data of a file.
-use Rattle.std.specs.Prelude.{◌≡◌, ℕ, ◌≤◌, ◌^◌, true, false, length, [], Some}
+use Rattle.std.specs.Prelude.{◌≡◌, ℕ, ◌≤◌, ◌^◌, true, false, length, Some}
 use Rattle.disk_model.specs.Content.{Content}
 use Rattle.record_model.specs.Constants.{attribute_list}
 use Rattle.record_model.specs.Pairs.{cluster_limit}
