@@ -1,3 +1,4 @@
 mod Joined
 mod Stepping
 mod Calling
+mod Giving
