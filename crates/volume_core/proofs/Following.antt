@@ -21,7 +21,7 @@ map_loaded c g clusters v is = ap (λ (r : Result Volume MapRefusal). r >>= λ w
 pub has_map : (m : MapParts) (table : List ℕ) (c : Content) → IsStateOf m table c → map_of c (geometry_of m) m.volume.clusters ≡ Ok m
 has_map m table c state = map_loaded c (geometry_of m) m.volume.clusters m.volume state.stands.loaded ∙ ap Ok (sym state.map)
 
-pub have_maps : (m : MapParts) (table : List ℕ) (changes : List Change) (c : Content) → IsStateOf m table c → LeadsOn m table changes (content_after changes c) → HaveMaps m c (content_after changes c)
+pub have_maps : (m : MapParts) (table : List ℕ) (changes : List Change) (c : Content) → IsStateOf m table c → LeadsOn m table changes c → HaveMaps m c (content_after changes c)
 have_maps m table changes c state leads = record {
   now = has_map m table c state;
   next = parts_of (content_after changes c) leads.volume;
@@ -43,7 +43,13 @@ own_geometry m d w s =
 one_map : (a b : MapParts) (r : Result MapParts MapRefusal) → r ≡ Ok a → r ≡ Ok b → b ≡ a
 one_map a b r one two = cc
 
-pub state_after : (m next : MapParts) (table : List ℕ) (changes : List Change) (d : Content) → LeadsOn m table changes d → map_of d (geometry_of m) m.volume.clusters ≡ Ok next → IsStateOf next table d
-state_after m next table changes d leads is =
-    let same : next ≡ parts_of d leads.volume = one_map (parts_of d leads.volume) next (map_of d (geometry_of m) m.volume.clusters) (map_loaded d (geometry_of m) m.volume.clusters leads.volume leads.stands.loaded) is in
-    subst (λ (x : MapParts). IsStateOf x table d) (sym same) (record { stands = own_geometry m d leads.volume leads.stands; map = refl; upper = leads.upper })
+-- the map that follows is that of the state to which they lead
+pub next_map : (m next : MapParts) (table : List ℕ) (changes : List Change) (c : Content) (leads : LeadsOn m table changes c) → map_of (content_after changes c) (geometry_of m) m.volume.clusters ≡ Ok next → next ≡ parts_of (content_after changes c) leads.volume
+next_map m next table changes c leads is =
+    let d = content_after changes c in
+    one_map (parts_of d leads.volume) next (map_of d (geometry_of m) m.volume.clusters) (map_loaded d (geometry_of m) m.volume.clusters leads.volume leads.stands.loaded) is
+
+pub state_after : (m next : MapParts) (table : List ℕ) (changes : List Change) (c : Content) → LeadsOn m table changes c → map_of (content_after changes c) (geometry_of m) m.volume.clusters ≡ Ok next → IsStateOf next table (content_after changes c)
+state_after m next table changes c leads is =
+    let d = content_after changes c in
+    subst (λ (x : MapParts). IsStateOf x table d) (sym (next_map m next table changes c leads is)) (record { stands = own_geometry m d leads.volume leads.stands; map = refl; upper = leads.upper })

@@ -6,4 +6,7 @@ pub mod Going
 pub mod Roomy
 pub mod Reading
 pub mod Following
+pub mod Marking
+pub mod Sparing
 pub mod Outcomes
+pub mod Turned

@@ -15,6 +15,7 @@ use Rattle.disk_model.proofs.Frames.{same_block-is, overlay_elsewhere}
 use Rattle.block_view.specs.Changes.{writes_of, content_after}
 use Rattle.store_model.proofs.Told.{true≢false}
 use Rattle.stream_laws.proofs.Changing.{has_sectors}
+use Rattle.state_blocks.specs.Drafts.{is_changed}
 use Rattle.volume_core.specs.Changes.{IsWritable}
 use Rattle.volume_core.specs.Windows.{changed_content, changed_by}
 
@@ -54,7 +55,7 @@ bytes_by (x ∷ xs) c b = bytes_by xs (changed_content x c) b ∙ ap (bytes_afte
 touches : List Change → Block → Bool
 touches xs b = list_any (λ (x : Change). same_block b x.block) xs
 
-or_parts : (s t : Bool) → (s || t) ≡ false → (s ≡ false) × (t ≡ false)
+pub or_parts : (s t : Bool) → (s || t) ≡ false → (s ≡ false) × (t ≡ false)
 or_parts true t is = absurd (true≢false is)
 or_parts false t is = (refl, is)
 
@@ -109,3 +110,17 @@ same_after xs c sized writable = fun_ext (λ b. elim (cases_Bool (touches xs b))
   where
     some_bytes : (b : Block) → 0 < length (c b).bytes
     some_bytes b = let size = sized b in let some = has_sectors b.kind in omega (arith, size, some)
+
+-- ---- the same of which blocks are changed
+
+pub unchanged_by : (xs : List Change) (c : Content) (b : Block) → is_changed xs b ≡ false → changed_by xs c b ≡ c b
+unfolding touches
+unchanged_by xs c b none = untouched xs c b none
+
+pub changed_whole : (xs : List Change) (c : Content) (b : Block) → is_changed xs b ≡ true → (changed_by xs c b).torn ≡ false
+unfolding touches
+changed_whole xs c b some = touched xs c b some
+
+pub changed_found : (P : Block → Type 0) (xs : List Change) (b : Block) → is_changed xs b ≡ true → AllByRecursion (λ x. P x.block) xs → P b
+unfolding touches
+changed_found P xs b some all = found P xs b some all

@@ -1,6 +1,7 @@
 -- What stands after changes were put, from what each call leaves.
-use Rattle.std.proofs.Common.{◌≡◌, subst, ℕ, suc, ◌<◌, ◌≤◌, true, false, List, [], ◌∷◌, length, Option, Some, None, Result, Ok, Err, refl, sym, ap, ◌∙◌, inl, inr, arith}
+use Rattle.std.proofs.Common.{◌≡◌, subst, ℕ, suc, ◌^◌, ◌<◌, ◌≤◌, true, false, List, [], ◌∷◌, length, Option, Some, None, Result, Ok, Err, refl, sym, ap, ◌∙◌, inl, inr, arith}
 use Rattle.std.specs.Prelude.{IfSome, IfErr, IsErrOf, is_some}
+use Rattle.std.specs.List.{AllByRecursion}
 use Rattle.std.specs.Option.{option_map}
 use Rattle.host_base.specs.Answers.{Gives, GivesOrFails}
 use Rattle.host_base.specs.Causes.{HasFailed, last_moment}
@@ -13,6 +14,7 @@ use Rattle.sector_device.specs.Moments.{Changes}
 use Rattle.sector_device.specs.Sectors.{IsDiskOf}
 use Rattle.block_view.specs.Changes.{content_after}
 use Rattle.device_view.specs.Devices.{CountsOnDevice, CountsCauseOnDevice}
+use Rattle.log_page.specs.declared.places.LogPlace.{LogPlace}
 use Rattle.map_change.specs.Parts.{MapParts, map_of}
 use Rattle.txn_model.specs.Values.{StoreFacts}
 use Rattle.txn_state.specs.States.{StateOf, facts_of, HasSize, IsStore}
@@ -25,16 +27,17 @@ use Rattle.txn_core.specs.Sizes.{sized_present}
 use Rattle.txn_core.specs.Views.{present_on, present_content, KeepsSizes}
 use Rattle.volume_core.specs.declared.fault.PutFault.{PutFault}
 use Rattle.volume_core.specs.declared.fault.PutFault.TheVariants.{NeedsRoom, Fault, Memory, Broken}
-use Rattle.volume_core.specs.Volumes.{geometry_of, IsStateOf, HoldsState}
-use Rattle.volume_core.specs.Changes.{IsWritable, AreWritable, LeadsOn}
+use Rattle.volume_core.specs.Volumes.{geometry_of, IsStateOf, SparesState, HoldsState}
+use Rattle.volume_core.specs.Changes.{MayLog, AreApart, IsWritable, AreWritable, LeadsOn}
 use Rattle.volume_core.specs.Rooms.{Shortage, room_cause}
 use Rattle.volume_core.specs.Windows.{LeadsTo, AfterPut, StaysWindow, AfterChanges}
 use Rattle.volume_core.specs.Logging.{AreSpelled, HasCommitted}
 use Rattle.volume_core.specs.Preparing.{HaveMaps, NeverShort}
-use Rattle.volume_core.specs.Puts.{put_cause, change_put_fault, PutsContent, PutsMap, commits_for, PutsOver, IsUnknownWhereBroken, HasPutCauses}
+use Rattle.volume_core.specs.Puts.{put_cause, change_put_fault, PutsContent, PutsMap, PutsFacts, commits_for, PutsOver, IsUnknownWhereBroken, HasPutCauses}
 use Rattle.volume_core.proofs.Lists.{each_weaker, same_after}
 use Rattle.volume_core.proofs.Contents.{committed_content, stopped_content, committed_counts, stopped_counts}
 use Rattle.volume_core.proofs.Following.{has_map, have_maps, state_after}
+use Rattle.volume_core.proofs.Sparing.{place_stays, spares_behind}
 
 -- ---- bodies that are put have spellings
 
@@ -65,6 +68,15 @@ one_more : (xs : List Change) (n : ℕ) → 0 < length xs → suc n ≡ commits_
 one_more [] n some = absurd (omega (arith, some))
 one_more (x ∷ xs) n some = refl
 
+facts_put : (gives : Option (List (List ℕ))) (f g : StoreFacts) (xs : List Change) → 0 < length xs → HasCommitted {E = ChangeFault} (Ok tt) gives xs f g → PutsFacts {E = ChangeFault} (Ok tt) xs gives f g
+facts_put gives f g [] some done = absurd (omega (arith, some))
+facts_put gives f g (x ∷ xs) some done = done
+
+-- the same with other faults
+facts_as : (E F : Type 0) (xs : List Change) (gives : Option (List (List ℕ))) (f g : StoreFacts) → PutsFacts {E = E} (Ok tt) xs gives f g → PutsFacts {E = F} (Ok tt) xs gives f g
+facts_as E F [] gives f g is = is
+facts_as E F (x ∷ xs) gives f g is = is
+
 content_put : (gives : Option (List (List ℕ))) (count : ℕ) (old new : StateOf) (xs : List Change) → IsStore (facts_of old) → IfSome gives (IsDiskOf count) → IfSome (present_content gives old) (λ c. AreWritable xs (content_after xs c))
     → HasCommitted {E = ChangeFault} (Ok tt) gives xs (facts_of old) (facts_of new) → present_content gives new ≡ option_map (content_after xs) (present_content gives old)
 content_put None count old new xs k whole writable done = refl
@@ -89,6 +101,7 @@ is_put gives gave count old new before now xs m next after some same unchanged k
       map = subst (λ (y : MapParts). IfSome (present_content gives old) (λ c. map_of (content_after xs c) (geometry_of m) m.volume.clusters ≡ Ok y)) (sym is) value;
       commits = counts.0 ∙ one_more xs old.commits some;
       durable = counts.1;
+      facts = facts_put gives (facts_of old) (facts_of new) xs some done;
       closed = counts.2;
       same = same;
       unchanged = unchanged;
@@ -104,6 +117,7 @@ is_left gives gave old new before now xs m next failure same unchanged shut is d
       map = is;
       commits = counts.0;
       durable = counts.1;
+      facts = inr done;
       closed = counts.2;
       same = same;
       unchanged = unchanged;
@@ -123,6 +137,7 @@ none_put {E} failure xs gives gave old new before now m next closed stays same u
       map = is;
       commits = refl;
       durable = refl;
+      facts = inl refl;
       closed = closed;
       same = same;
       unchanged = unchanged;
@@ -138,6 +153,7 @@ nothing_put {E} xs gives count state before m table none closed k whole shown = 
       map = mapped (present_content gives state) sized shown;
       commits = refl;
       durable = refl;
+      facts = refl;
       closed = closed;
       same = refl;
       unchanged = refl;
@@ -166,10 +182,10 @@ after_reading {E} result xs gives given gave old mid new first before now m read
     (subst (λ (x : StateOf). PutsOver result xs given gave x new before now read next) state put)))
 
 pub ok_as : {E F : Type 0} (xs : List Change) (gives gave : Option (List (List ℕ))) (old new : StateOf) (before now : Changes) (m next : MapParts) → PutsOver {E = E} (Ok tt) xs gives gave old new before now m next → PutsOver {E = F} (Ok tt) xs gives gave old new before now m next
-ok_as xs gives gave old new before now m next p = record { content = p.content; map = p.map; commits = p.commits; durable = p.durable; closed = p.closed; same = p.same; unchanged = p.unchanged; windows = p.windows }
+ok_as {E} {F} xs gives gave old new before now m next p = record { content = p.content; map = p.map; commits = p.commits; durable = p.durable; facts = facts_as E F xs gives (facts_of old) (facts_of new) p.facts; closed = p.closed; same = p.same; unchanged = p.unchanged; windows = p.windows }
 
 pub err_as : {E F : Type 0} (e : E) (f : F) (xs : List Change) (gives gave : Option (List (List ℕ))) (old new : StateOf) (before now : Changes) (m next : MapParts) → PutsOver (Err e) xs gives gave old new before now m next → PutsOver (Err f) xs gives gave old new before now m next
-err_as e f xs gives gave old new before now m next p = record { content = p.content; map = p.map; commits = p.commits; durable = p.durable; closed = p.closed; same = p.same; unchanged = p.unchanged; windows = p.windows }
+err_as e f xs gives gave old new before now m next p = record { content = p.content; map = p.map; commits = p.commits; durable = p.durable; facts = p.facts; closed = p.closed; same = p.same; unchanged = p.unchanged; windows = p.windows }
 
 -- ---- faults
 
@@ -257,23 +273,29 @@ room_answer (Err Broken) meant is short = tt
 
 -- ---- the volume
 
-pub all_maps : (m : MapParts) (table : List ℕ) (xs : List Change) (known : Option Content) → IfSome known (IsStateOf m table) → IfSome known (λ c. LeadsOn m table xs (content_after xs c)) → IfSome known (λ c. HaveMaps m c (content_after xs c))
+pub all_maps : (m : MapParts) (table : List ℕ) (xs : List Change) (known : Option Content) → IfSome known (IsStateOf m table) → IfSome known (LeadsOn m table xs) → IfSome known (λ c. HaveMaps m c (content_after xs c))
 all_maps m table xs None shown leads = tt
 all_maps m table xs (Some c) shown leads = have_maps m table xs c shown leads
 
-pub all_writable : (m : MapParts) (table : List ℕ) (xs : List Change) (known : Option Content) → IfSome known (λ c. LeadsOn m table xs (content_after xs c)) → IfSome known (λ c. AreWritable xs (content_after xs c))
+pub all_writable : (m : MapParts) (table : List ℕ) (xs : List Change) (known : Option Content) → IfSome known (LeadsOn m table xs) → IfSome known (λ c. AreWritable xs (content_after xs c))
 all_writable m table xs None leads = tt
 all_writable m table xs (Some c) leads = leads.writable
 
 -- it shows a state again
-pub shows_state : (result : Result (Unit {0}) PutFault) (xs : List Change) (m next : MapParts) (table : List ℕ) (old new : Option Content) → IfSome old (IsStateOf m table) → IfSome old (λ c. LeadsOn m table xs (content_after xs c)) → PutsContent result xs old new → PutsMap result xs old m next
+pub shows_state : (result : Result (Unit {0}) PutFault) (xs : List Change) (m next : MapParts) (table : List ℕ) (old new : Option Content) → IfSome old (IsStateOf m table) → IfSome old (LeadsOn m table xs) → PutsContent result xs old new → PutsMap result xs old m next
     → IfSome new (IsStateOf next table)
 shows_state (Ok tt) xs m next table None new shown leads content map = subst (λ (o : Option Content). IfSome o (IsStateOf next table)) (sym content) tt
-shows_state (Ok tt) xs m next table (Some c) new shown leads content map = subst (λ (o : Option Content). IfSome o (IsStateOf next table)) (sym content) (state_after m next table xs (content_after xs c) leads map)
+shows_state (Ok tt) xs m next table (Some c) new shown leads content map = subst (λ (o : Option Content). IfSome o (IsStateOf next table)) (sym content) (state_after m next table xs c leads map)
 shows_state (Err failure) xs m next table old new shown leads content map =
     subst (λ (o : Option Content). IfSome o (IsStateOf next table)) (sym content) (subst (λ (y : MapParts). IfSome old (IsStateOf y table)) (sym map) shown)
 
-pub holds_again : (result : Result (Unit {0}) PutFault) (xs : List Change) (gives gave : Option (List (List ℕ))) (old new : StateOf) (before now : Changes) (m next : MapParts) (table : List ℕ) → HoldsState gives old m table → IfSome (present_content gives old) (λ c. LeadsOn m table xs (content_after xs c))
-    → PutsOver result xs gives gave old new before now m next → HoldsState gave new next table
-holds_again result xs gives gave old new before now m next table holds leads put =
-    record { closed = put.closed; shown = shows_state result xs m next table (present_content gives old) (present_content gave new) holds.shown leads put.content put.map }
+pub holds_again : (result : Result (Unit {0}) PutFault) (xs : List Change) (gives gave : Option (List (List ℕ))) (old new : StateOf) (before now : Changes) (m next : MapParts) (table : List ℕ) → 0 < length xs → ((b : Block) → is_some ((facts_of old).before b) ≡ false) → AllByRecursion (MayLog (facts_of old)) xs
+    → AreApart xs → HoldsState gives before old m table → IfSome (present_content gives old) (LeadsOn m table xs) → PutsOver result xs gives gave old new before now m next → HoldsState gave now new next table
+holds_again result xs gives gave old new before now m next table some shut each apart holds leads put = record {
+  closed = put.closed;
+  near = subst (λ (p : LogPlace). p.device ≤ 2 ^ 62) (sym (place_stays result xs gives (facts_of old) (facts_of new) put.facts)) holds.near;
+  shown = shows_state result xs m next table (present_content gives old) (present_content gave new) holds.shown leads put.content put.map;
+  spares = subst (λ (o : Option (List (List ℕ))). IfSome o (SparesState now (facts_of new) next.volume)) (sym put.same)
+      (spares_behind result xs gives old new before now m next table some shut each apart put.unchanged put.facts put.windows
+      (subst (λ (o : Option (List (List ℕ))). PutsContent result xs (present_content gives old) (present_content o new)) put.same put.content) holds.spares leads put.map);
+}

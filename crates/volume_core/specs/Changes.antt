@@ -6,10 +6,11 @@ use Rattle.disk_model.specs.declared.block.Change.{Change}
 use Rattle.disk_model.specs.Content.{Content}
 use Rattle.disk_model.specs.Sectors.{sectors, same_block, are_rivals}
 use Rattle.fixup_record.specs.Spellings.{has_spelling}
-use Rattle.block_view.specs.Changes.{Fits}
+use Rattle.block_view.specs.Changes.{Fits, content_after}
 use Rattle.volume_model.specs.Volumes.{Volume, upper_of}
 use Rattle.map_change.specs.Parts.{MapParts}
 use Rattle.plan_owners.specs.States.{Stands}
+use Rattle.state_blocks.specs.Drafts.{DraftIn}
 use Rattle.store_model.specs.Volumes.{is_known}
 use Rattle.txn_model.specs.Values.{StoreFacts, own_of}
 use Rattle.volume_core.specs.Volumes.{geometry_of}
@@ -40,9 +41,11 @@ pub record IsWritable (d : Content) (b : Block) : Type 0 where
 abbrev pub AreWritable : List Change → Content → Type 0
 AreWritable changes d = AllByRecursion (λ x. IsWritable d x.block) changes
 
--- The content after the changes is a state of the volume with this map, with the same table of upper-case units, and each body that was changed can be written.
-pub record LeadsOn (m : MapParts) (table : List ℕ) (changes : List Change) (d : Content) : Type 0 where
+-- The content after the changes is a state of the volume with this map, with the same table of upper-case units; the changes lead there as a plan's do, and each body that was
+-- changed can be written.
+pub record LeadsOn (m : MapParts) (table : List ℕ) (changes : List Change) (c : Content) : Type 0 where
   pub volume : Volume
-  pub stands : Stands d (geometry_of m) m.volume.clusters volume
-  pub upper : table ≡ upper_of d volume
-  pub writable : AreWritable changes d
+  pub stands : Stands (content_after changes c) (geometry_of m) m.volume.clusters volume
+  pub upper : table ≡ upper_of (content_after changes c) volume
+  pub draft : DraftIn c m.volume changes (content_after changes c) volume
+  pub writable : AreWritable changes (content_after changes c)

@@ -5,3 +5,4 @@ pub mod Windows
 pub mod Logging
 pub mod Preparing
 pub mod Puts
+pub mod Turns

@@ -1,5 +1,5 @@
 -- What a volume answers where changes are put, and what stands then.
-use Rattle.std.specs.Prelude.{◌≡◌, ℕ, suc, ◌<◌, ⊤, false, List, [], ◌∷◌, Option, None, IfSome, IfErr, Result, Ok, Err}
+use Rattle.std.specs.Prelude.{◌≡◌, ◌⊎◌, ℕ, suc, ◌<◌, ⊤, false, List, [], ◌∷◌, Option, None, IfSome, IfErr, Result, Ok, Err}
 use Rattle.std.specs.Option.{option_map}
 use Rattle.host_base.specs.Answers.{Cause, refused, no_memory, failed}
 use Rattle.host_base.specs.Causes.{HasFailed, last_moment}
@@ -13,11 +13,13 @@ use Rattle.txn_core.specs.declared.fault.ChangeFault.{ChangeFault}
 use Rattle.txn_core.specs.declared.fault.ChangeFault.TheVariants as faults
 use Rattle.volume_core.specs.declared.fault.PutFault.{PutFault}
 use Rattle.volume_core.specs.declared.fault.PutFault.TheVariants.{NeedsRoom, Fault, Memory, Broken}
+use Rattle.txn_model.specs.Values.{StoreFacts}
 use Rattle.txn_state.specs.States.{StateOf, facts_of}
 use Rattle.txn_core.specs.Seen.{Seen}
 use Rattle.txn_core.specs.Views.{present_content}
 use Rattle.volume_core.specs.Volumes.{geometry_of}
 use Rattle.volume_core.specs.Windows.{LeadsTo, AfterPutting}
+use Rattle.volume_core.specs.Logging.{HasCommitted}
 
 -- why changes are put nowhere
 abbrev pub put_cause : PutFault → Cause (Unit {0})
@@ -51,12 +53,19 @@ abbrev pub commits_after : {E : Type 0} → Result (Unit {0}) E → List Change 
 commits_after (Ok u) changes n = commits_for changes n
 commits_after (Err e) changes n = n
 
+-- What is made of what the store keeps: a transaction with the changes is committed; or nothing, or one is given up.
+abbrev pub PutsFacts : {E : Type 0} → Result (Unit {0}) E → List Change → Option (List (List ℕ)) → (f g : StoreFacts) → Type 0
+PutsFacts (Ok u) [] gives f g = g ≡ f
+PutsFacts {E} (Ok u) (x ∷ xs) gives f g = HasCommitted {E = E} (Ok u) gives (x ∷ xs) f g
+PutsFacts (Err e) changes gives f g = (g ≡ f) ⊎ HasCommitted (Err e) gives changes f g
+
 -- What stands after changes were put through a store, or weren't: of what is seen of its device before and after, and of its map.
 pub record PutsOver {E : Type 0} (result : Result (Unit {0}) E) (list : List Change) (gives gave : Option (List (List ℕ))) (old new : StateOf) (before now : Changes) (m next : MapParts) : Type 0 where
   pub content : PutsContent result list (present_content gives old) (present_content gave new)
   pub map : PutsMap result list (present_content gives old) m next
   pub commits : new.commits ≡ commits_after result list old.commits
   pub durable : new.durable ≡ old.durable
+  pub facts : PutsFacts result list gives (facts_of old) (facts_of new)
   pub closed : new.is_open ≡ false
   pub same : gave ≡ gives
   pub unchanged : now ≡ before

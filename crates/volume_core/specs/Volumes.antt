@@ -1,13 +1,20 @@
 -- A volume in memory: its store, and what it keeps of the state that the store shows.
-use Rattle.std.specs.Prelude.{◌≡◌, ℕ, false, List, Option, IfSome}
+use Rattle.std.specs.Prelude.{◌≡◌, ℕ, ◌^◌, ◌≤◌, false, List, Option, IfSome}
+use Rattle.disk_model.specs.declared.block.Block.{Block}
 use Rattle.disk_model.specs.Content.{Content}
 use Rattle.state_model.specs.declared.geometry.Geometry.{Geometry}
-use Rattle.volume_model.specs.Volumes.{upper_of}
+use Rattle.sector_device.specs.Moments.{Changes}
+use Rattle.volume_model.specs.Volumes.{Volume, upper_of}
 use Rattle.map_change.specs.Parts.{MapParts, parts_of}
 use Rattle.plan_owners.specs.States.{Stands}
-use Rattle.txn_state.specs.States.{StateOf}
+use Rattle.state_blocks.specs.Needing.{IsNeeded}
+use Rattle.store_model.specs.Volumes.{ContentWindow}
+use Rattle.txn_model.specs.Values.{StoreFacts}
+use Rattle.txn_laws.specs.Windows.{HasWindow}
+use Rattle.txn_state.specs.States.{StateOf, facts_of}
 use Rattle.txn_core.specs.Seen.{Seen}
-use Rattle.txn_core.specs.Views.{present_content}
+use Rattle.txn_core.specs.Views.{present_on, present_content}
+use Rattle.turn_laws.specs.Sparing.{IsSpared}
 
 -- Its store, the parts of its map, and its table of upper-case units.
 pub record VolumeOf (D : Type 0) : Type 0 where
@@ -25,7 +32,15 @@ pub record IsStateOf (m : MapParts) (table : List ℕ) (c : Content) : Type 0 wh
   pub map : m ≡ parts_of c m.volume
   pub upper : table ≡ upper_of c m.volume
 
--- What is always so of a volume: no transaction is open, and the present content of its store is such a state, where it is known.
-pub record HoldsState (gives : Option (List (List ℕ))) (state : StateOf) (m : MapParts) (table : List ℕ) : Type 0 where
+-- The store has a window, and no step of it takes the body of a block from which its present content, over these sectors, is read as a state of this volume.
+pub record SparesState (changes : Changes) (f : StoreFacts) (v : Volume) (disk : List (List ℕ)) : Type 0 where
+  pub window : ContentWindow
+  pub has : HasWindow changes f window
+  pub spared : (b : Block) → IsNeeded (present_on disk f) v b → IsSpared f window disk b
+
+-- What is always so of a volume: no transaction is open, and the present content of its store is such a state, which no step of the store takes from it, where it is known.
+pub record HoldsState (gives : Option (List (List ℕ))) (changes : Changes) (state : StateOf) (m : MapParts) (table : List ℕ) : Type 0 where
   pub closed : state.is_open ≡ false
+  pub near : state.place.device ≤ 2 ^ 62
   pub shown : IfSome (present_content gives state) (IsStateOf m table)
+  pub spares : IfSome gives (SparesState changes (facts_of state) m.volume)

@@ -3,7 +3,8 @@
 //!
 //! The contract: the present content of the store is a state, of which the map is the map. After a
 //! call that answers `Ok` it is the content after the changes, with one commit more; after any error
-//! content, map and commits are as before.
+//! content, map and commits are as before. A step of the store itself, as a page written or a block
+//! written out, leaves them too, whatever it answers: it takes no body from which the state is read.
 #![tactic(auto)]
 
 mod closing;
@@ -12,9 +13,12 @@ mod logging;
 mod preparing;
 mod putting;
 mod rooms;
+mod turning;
 mod volume;
 
 pub use disk_model::Change;
 pub use fault::PutFault;
+pub use flush_policy::StoreStep;
+pub use host_base::Failed;
 pub use txn_close::CloseFault;
 pub use volume::Volume;

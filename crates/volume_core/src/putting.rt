@@ -163,12 +163,12 @@ fn put_list<D: Device>(
     alloc: Global,
     changes: &[Change],
 ) -> Result<(), PutFault>
-    requires holds { HoldsState (D.gives store.old.device) store.old.state (live_parts live.old) upper.now }
+    requires holds { HoldsState (D.gives store.old.device) (D.changes_of store.old.device) store.old.state (live_parts live.old) upper.now }
     requires number { MayNumber (facts_of store.old.state) }
     requires each { All (MayLog (facts_of store.old.state)) changes.now }
     requires apart { AreApart changes.now }
-    requires leads { IfSome (present_content (D.gives store.old.device) store.old.state) (λ c. LeadsOn (live_parts live.old) upper.now changes.now (content_after changes.now c)) }
-    ensures holds { HoldsState (D.gives store.new.device) store.new.state (live_parts live.new) upper.now }
+    requires leads { IfSome (present_content (D.gives store.old.device) store.old.state) (LeadsOn (live_parts live.old) upper.now changes.now) }
+    ensures holds { HoldsState (D.gives store.new.device) (D.changes_of store.new.device) store.new.state (live_parts live.new) upper.now }
     ensures put { HasPut D.gives D.changes_of result changes.now store.old store.new (live_parts live.old) (live_parts live.new) }
     ensures sectors { D.sector_count store.new.device ≡ D.sector_count store.old.device }
     ensures answer { 0 < length changes.now → GivesOrFails (λ u. u) room_cause result (room_in (facts_of store.old.state) changes.now) }
@@ -176,6 +176,7 @@ fn put_list<D: Device>(
     ensures causes { HasPutCauses D.fault_count D.moment_of result store.old store.new }
 {
     store.state().known();
+    store.known();
     let _ = upper;
     if changes.is_empty() {
         return Ok(());
@@ -201,7 +202,7 @@ impl<D: Device> Volume<D> {
         requires number { MayNumber (facts_of self.old.store.state) }
         requires each { All (MayLog (facts_of self.old.store.state)) changes.now }
         requires apart { AreApart changes.now }
-        requires leads { IfSome (present_content (D.gives self.old.store.device) self.old.store.state) (λ c. LeadsOn self.old.map self.old.upper changes.now (content_after changes.now c)) }
+        requires leads { IfSome (present_content (D.gives self.old.store.device) self.old.store.state) (LeadsOn self.old.map self.old.upper changes.now) }
         ensures put { HasPut D.gives D.changes_of result changes.now self.old.store self.new.store self.old.map self.new.map }
         ensures upper { self.new.upper ≡ self.old.upper }
         ensures sectors { D.sector_count self.new.store.device ≡ D.sector_count self.old.store.device }

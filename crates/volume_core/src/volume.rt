@@ -1,12 +1,12 @@
 //! A volume on a device.
-ghost use Rattle.std.specs.Prelude.{◌≡◌, IfSome, false};
+ghost use Rattle.std.specs.Prelude.{◌≡◌, ◌^◌, ◌≤◌, IfSome, false};
 ghost use Rattle.map_change.specs.Parts.{live_parts};
 ghost use Rattle.txn_model.specs.Told.{FactsTold, KeepsMarked, KeepsSteps};
 ghost use Rattle.txn_state.specs.States.{facts_of};
 ghost use Rattle.txn_core.specs.Kept.{IsKept};
 ghost use Rattle.txn_core.specs.Tells.{HasLap};
 ghost use Rattle.txn_core.specs.Views.{present_content};
-ghost use Rattle.volume_core.specs.Volumes.{IsStateOf};
+ghost use Rattle.volume_core.specs.Volumes.{IsStateOf, SparesState};
 
 use flush_policy::Facts;
 use map_change::LiveMap;
@@ -31,15 +31,18 @@ impl<D: Device> Model for Volume<D> {
 
     ghost view = { λ v. record { store = v.store; map = live_parts v.live; upper = v.upper } };
 
-    ghost invariant = { λ v. HoldsState (D.gives v.store.device) v.store.state (live_parts v.live) v.upper };
+    ghost invariant = { λ v. HoldsState (D.gives v.store.device) (D.changes_of v.store.device) v.store.state (live_parts v.live) v.upper };
 }
 
 impl<D: Device> Volume<D> {
     /// A volume over a store that shows a state, with no transaction open, of which this is the map,
-    /// and this the table of upper-case units. It takes no memory.
+    /// and this the table of upper-case units; and no step of the store may take the body of a block
+    /// from which the state is read. It takes no memory.
     pub fn over(store: Store<D>, live: LiveMap, upper: Upcase) -> Self
         requires closed { store.state.is_open ≡ false }
+        requires near { store.state.place.device ≤ 2 ^ 62 }
         requires shown { IfSome (present_content (D.gives store.device) store.state) (IsStateOf (live_parts live) upper) }
+        requires spares { IfSome (D.gives store.device) (SparesState (D.changes_of store.device) (facts_of store.state) (live_parts live).volume) }
         ensures store { result.store ≡ store }
         ensures map { result.map ≡ live_parts live }
         ensures upper { result.upper ≡ upper }

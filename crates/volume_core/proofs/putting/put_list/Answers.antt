@@ -1,9 +1,12 @@
 use Rattle.std.proofs.Common.{subst, sym, ◌∙◌}
 use Rattle.std.proofs.lemmas.Bool.{eqb-true}
 use Rattle.std.proofs.lemmas.List.{nil_from_length}
+use Rattle.std.proofs.lemmas.List.Elements.{recursion_from_All}
 use Rattle.map_change.specs.Parts.{live_parts}
 use Rattle.txn_state.specs.States.{StateOf, facts_of, IsStore}
 use Rattle.txn_core.specs.Views.{present_content}
+use Rattle.volume_core.specs.Changes.{MayLog}
+use Rattle.volume_core.proofs.Sparing.{some_length}
 use Rattle.volume_core.proofs.Outcomes.{nothing_put, all_maps, all_writable, holds_again}
 use Rattle.volume_core.proofs.putting.put_list.Goals as goal
 
@@ -20,4 +23,5 @@ put_some-requires-clause-writable g c = all_writable (live_parts c.args.live.now
 
 pub returns-clause-holds : goal.returns-clause-holds
 returns-clause-holds g c =
-    holds_again c.put_some.result c.args.changes.now _ _ _ _ _ _ (live_parts c.args.live.now) (live_parts c.put_some.new.live) c.args.upper.now c.requires.holds c.requires.leads c.put_some.ensures.put
+    holds_again c.put_some.result c.args.changes.now _ _ _ _ _ _ (live_parts c.args.live.now) (live_parts c.put_some.new.live) c.args.upper.now
+    (some_length c.args.changes.now (sym c.is_empty.ensures ∙ c.if-is_empty.false)) (c.known-2.ensures.shut c.requires.holds.closed) (recursion_from_All (MayLog (facts_of c.args.store.now.state)) c.args.changes.now c.requires.each) c.requires.apart c.requires.holds c.requires.leads c.put_some.ensures.put
