@@ -100,26 +100,6 @@ static ACROSS: [Row; 4] = [
     ),
 ];
 
-/// A walk reads its pieces, and goes on in them from other places.
-static WALK: [Row; 7] = [
-    Row(2, BlockKind::FileRec, Ok((false, 1024)), &[(0, 0)]),
-    Row(4, BlockKind::FileRec, Ok((false, 1024)), &[(510, 0x41)]),
-    Row(6, BlockKind::FileRec, Ok((true, 1024)), &[(510, 7)]),
-    Row(120, BlockKind::Index, Ok((false, 4096)), &[(0, 0)]),
-    Row(128, BlockKind::Index, Ok((false, 4096)), &[(1536, 9)]),
-    Row(8, BlockKind::Index, Ok((false, 4096)), &[(510, 0x41)]),
-    Row(131, BlockKind::Plain, Ok((false, 512)), &[(0, 9)]),
-];
-
-/// A piece that can't be read isn't held, and a block that is asked for again is read alone.
-static BAD_PIECE: [Row; 5] = [
-    Row(4, BlockKind::FileRec, Ok((false, 1024)), &[(510, 0x41)]),
-    Row(6, BlockKind::FileRec, Err(ViewFault::Fault), &[]),
-    Row(6, BlockKind::FileRec, Ok((true, 1024)), &[(510, 7)]),
-    Row(8, BlockKind::Index, Ok((false, 4096)), &[(510, 0x41)]),
-    Row(4, BlockKind::FileRec, Ok((false, 1024)), &[(510, 0x41)]),
-];
-
 /// A view goes on after a fault.
 static FAULT: [Row; 3] = [
     Row(4, BlockKind::FileRec, Ok((false, 1024)), &[(510, 0x41)]),
@@ -165,12 +145,10 @@ fn first_wrong(
 
 #[test]
 fn blocks_are_read_in_pieces(rt: HostRuntime) -> Result<(), Fail> {
-    let lists: [(&[u64], &[Row], (u64, u64)); 6] = [
-        (&[], &KINDS, (8, 0)),
+    let lists: [(&[u64], &[Row], (u64, u64)); 4] = [
+        (&[], &KINDS, (2, 0)),
         (&[], &PAST, (0, 0)),
-        (&[], &ACROSS, (8, 0)),
-        (&[], &WALK, (8, 0)),
-        (&[2], &BAD_PIECE, (8, 1)),
+        (&[], &ACROSS, (6, 0)),
         (&[2], &FAULT, (6, 1)),
     ];
     for (number, list) in lists.iter().enumerate() {

@@ -17,20 +17,13 @@ use sector_device::{Device, SECTOR_BYTES};
 
 const PIECE_SECTORS: u64 = 128;
 
-/// Which piece of 128 sectors of a device is held, the one that was read last, and where the block
-/// that was read last ends. A block that begins there goes on with a walk: its whole piece is read
-/// at once. Any other block that isn't held is read alone, so that reads here and there cost no
-/// more than their own sectors.
-///
-/// It has neither the device nor the room for the piece: each call is given both, and has what is
-/// held as a condition. So a device's owner keeps it beside the device, and empties it where it
-/// writes.
+/// Which piece of 128 sectors of a device is held, the one that was read last. It has neither the
+/// device nor the room for the piece: each call is given both, and has what is held as a condition.
+/// So a device's owner keeps it beside the device, and empties it where it writes.
 #[derive(Clone, Copy, Drop)]
 pub struct ReadAhead {
     /// The number of the piece, none where nothing is held.
     pub piece: Option<u64>,
-    // The sector behind the block that was read last, none where nothing was read.
-    next: Option<u64>,
 }
 
 // Copies the bytes from this place on.
@@ -47,20 +40,7 @@ impl ReadAhead {
     pub fn empty() -> Self
         ensures empty { result.piece ≡ None }
     {
-        ReadAhead {
-            piece: None,
-            next: None,
-        }
-    }
-
-    // Whether a block of so many sectors begins where the one before ended. It is the one that was
-    // read last then.
-    fn goes_on(&mut self, first: u64, count: usize) -> bool
-        ensures piece { self.new.piece ≡ self.old.piece }
-    {
-        let goes_on = self.next == Some(first);
-        self.next = first.checked_add(count as u64);
-        goes_on
+        ReadAhead { piece: None }
     }
 
     // Reads the piece, unless it stands in the room.
@@ -85,8 +65,7 @@ impl ReadAhead {
     }
 
     // Fills the buffer from the sector with the number `first` on, with zeros past the end: out of
-    // the piece where they begin, if it is held or they go on with a walk, or by a call of their
-    // own, also where they go past that piece.
+    // the piece where they begin, or by a call of their own where they go past it.
     fn fill<D: Device>(
         &mut self,
         room: &mut [u8],
@@ -107,12 +86,10 @@ impl ReadAhead {
     {
         let at = (first % PIECE_SECTORS) as usize;
         let count = raw.len() / SECTOR_BYTES;
-        let piece = first / PIECE_SECTORS;
-        let ahead = self.goes_on(first, count) || self.piece == Some(piece);
-        if first >= device.sectors() || PIECE_SECTORS as usize - at < count || !ahead {
+        if first >= device.sectors() || PIECE_SECTORS as usize - at < count {
             return read_sectors(device, first, raw);
         }
-        self.load(room, device, piece)?;
+        self.load(room, device, first / PIECE_SECTORS)?;
         copy_part(room, SECTOR_BYTES * at, raw);
         Ok(())
     }
@@ -143,14 +120,12 @@ impl ReadAhead {
         Ok(())
     }
 
-    /// Reads the body of a block: out of the piece that is held, or by one call of the device. The
-    /// call reads the whole piece where the block begins, if it begins where the one that was read
-    /// before ended, and else, or where it goes past that piece's end, the block alone. A sector at
-    /// or past the device's end counts as zeros, and the device isn't asked for it. Linear in the
-    /// sectors read.
+    /// Reads the body of a block: out of the piece that is held, or by one call of the device,
+    /// which reads the piece where the block begins, or the block alone where it goes past that
+    /// piece's end. A sector at or past the device's end counts as zeros, and the device isn't
+    /// asked for it. Linear in the sectors read.
     ///
-    /// The error is a failure of the device, and the body may be any then; a piece that can't be
-    /// read isn't held.
+    /// The error is a failure of the device; nothing is held then, and the body may be any.
     pub fn body<D: Device>(
         &mut self,
         room: &mut [u8],
@@ -177,8 +152,7 @@ impl ReadAhead {
     }
 
     /// Writes the bytes, a whole number of sectors, from the sector with the number `first` on, as
-    /// the device does. Nothing is held or remembered then, so that no read shows what stood there
-    /// before.
+    /// the device does. Nothing is held then, so that no read shows what stood there before.
     pub fn write<D: Device>(
         &mut self,
         device: &mut D,

@@ -60,7 +60,7 @@ fn told_faults<R: Threads + Wait + Sync + Abort + AllocGlobal>(
     rt: &R,
 ) -> Result<(u64, u64, bool), Fail> {
     let (mut ended_by, mut told) = (0u64, 0u64);
-    for call in 1..=1000 {
+    for call in 1..=200 {
         let ended = run(rt, &LISTS, Fault(Part::Device, call))?;
         if told == 0 && ended.is(8, b"") {
             ended_by = call;

@@ -125,12 +125,11 @@ fn calls(alloc: Global, image: Vec<u8>) -> Result<Option<(u64, u64, u64)>, Alloc
     Ok(Some((reads, writes, syncs)))
 }
 
-/// Of the log of 64 KiB the first sector is read, a piece, and two sectors behind this; and the
-/// place of the restart page before it is written.
+/// The log of 64 KiB is read in two pieces, and the place of the restart page before it is written.
 #[test]
 fn a_mount_of_a_closed_log_makes_so_many_calls(rt: HostRuntime) -> Result<(), Fail> {
     let image = image_with(rt.alloc(), &closed_page(3), &[])?;
-    assert_eq!(rt; calls(rt.alloc(), image)?, Some((5, 1, 2)));
+    assert_eq!(rt; calls(rt.alloc(), image)?, Some((3, 1, 2)));
     Ok(())
 }
 

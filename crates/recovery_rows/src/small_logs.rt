@@ -117,15 +117,15 @@ fn refuses_a_log_without_laps(rt: HostRuntime) -> Result<(), Fail> {
     Ok(())
 }
 
-// One of the first 50 calls fails, or the one behind them, which isn't made.
+// One of the first four calls fails, or the fifth one, which isn't made.
 #[test]
 fn answers_each_fault_of_the_device(rt: HostRuntime) -> Result<(), Fail> {
     let alloc = rt.alloc();
     let place = place(alloc)?;
-    for call in 1..52 {
+    for call in 1..6 {
         let mut device = device(alloc, 0xFF, 0xFF, &[call])?;
         let found = recover(alloc, &mut device, &place).map(|found| found.next_lap);
-        let wanted = if call < 51 {
+        let wanted = if call < 5 {
             Err(RecoveryFault::Fault)
         } else {
             Ok(1)
