@@ -118,13 +118,13 @@ impl<D: Device> AheadDevice<D> {
         }
     }
 
-    /// Reads the body of a block: out of the piece that is held, or by one call of the device,
-    /// which reads the piece where the block begins, or the block alone where it goes past that
-    /// piece's end. A sector at or past the device's end counts as zeros, and the device isn't
-    /// asked for it. It answers the check word that stands there too, unless the block goes past a
-    /// piece's end. It takes no memory; linear in the sectors read.
+    /// Reads the body of a block, as [`ReadAhead::body`] does: out of the piece that is held, or by
+    /// one call of the device, which reads the whole piece where blocks are walked over, else the
+    /// block alone. A sector at or past the device's end counts as zeros, and the device isn't asked
+    /// for it. It answers the check word that stands there too, where the block lies in the piece
+    /// that is held then. It takes no memory; linear in the sectors read.
     ///
-    /// The error is a failure of the device; nothing is held then, and the body may be any.
+    /// The error is a failure of the device; the body may be any then.
     pub fn body(&mut self, block: Block, out: &mut Body) -> Result<CheckWord, Failed>
         ensures body { OnOk result (IfSome (D.gives self.old.device) (λ disk. out.new ≡ content_of (sector_of disk) block)) }
         ensures size { OnOk result (length out.new.bytes ≡ 512 * sectors block.kind) }

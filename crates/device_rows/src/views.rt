@@ -100,6 +100,28 @@ static ACROSS: [Row; 4] = [
     ),
 ];
 
+/// A walk goes on into the next piece, which is read at once, past the end too.
+static WALK: [Row; 3] = [
+    Row(120, BlockKind::Index, Ok((false, 4096)), &[(4095, 0)]),
+    Row(128, BlockKind::Index, Ok((false, 4096)), &[(1536, 9)]),
+    Row(131, BlockKind::Plain, Ok((false, 512)), &[(0, 9)]),
+];
+
+/// A walk passes over 7 sectors, and ends where 8 are passed over.
+static STEPS: [Row; 4] = [
+    Row(4, BlockKind::FileRec, Ok((false, 1024)), &[(510, 0x41)]),
+    Row(14, BlockKind::FileRec, Ok((false, 1024)), &[(510, 0)]),
+    Row(23, BlockKind::Plain, Ok((false, 512)), &[(510, 0)]),
+    Row(23, BlockKind::Plain, Ok((false, 512)), &[(510, 0)]),
+];
+
+/// A piece that can't be read isn't held, and the same block is read alone then.
+static PIECE_FAULT: [Row; 3] = [
+    Row(4, BlockKind::FileRec, Ok((false, 1024)), &[(510, 0x41)]),
+    Row(6, BlockKind::FileRec, Err(ViewFault::Fault), &[]),
+    Row(6, BlockKind::FileRec, Ok((true, 1024)), &[(1022, 8)]),
+];
+
 /// A view goes on after a fault.
 static FAULT: [Row; 3] = [
     Row(4, BlockKind::FileRec, Ok((false, 1024)), &[(510, 0x41)]),
@@ -145,10 +167,13 @@ fn first_wrong(
 
 #[test]
 fn blocks_are_read_in_pieces(rt: HostRuntime) -> Result<(), Fail> {
-    let lists: [(&[u64], &[Row], (u64, u64)); 4] = [
-        (&[], &KINDS, (2, 0)),
+    let lists: [(&[u64], &[Row], (u64, u64)); 7] = [
+        (&[], &KINDS, (8, 0)),
         (&[], &PAST, (0, 0)),
-        (&[], &ACROSS, (6, 0)),
+        (&[], &ACROSS, (8, 0)),
+        (&[], &WALK, (4, 0)),
+        (&[], &STEPS, (6, 0)),
+        (&[2], &PIECE_FAULT, (6, 1)),
         (&[2], &FAULT, (6, 1)),
     ];
     for (number, list) in lists.iter().enumerate() {

@@ -17,13 +17,19 @@ use sector_device::{Device, SECTOR_BYTES};
 
 const PIECE_SECTORS: u64 = 128;
 
-/// Which piece of 128 sectors of a device is held, the one that was read last. It has neither the
-/// device nor the room for the piece: each call is given both, and has what is held as a condition.
-/// So a device's owner keeps it beside the device, and empties it where it writes.
+// How many sectors a walk may pass over: fewer than these.
+const STEP_SECTORS: u64 = 8;
+
+/// Which piece of 128 sectors of a device is held, the one that was read last, and where a walk over
+/// blocks would go on. It has neither the device nor the room for the piece: each call is given
+/// both, and has what is held as a condition. So a device's owner keeps it beside the device, and
+/// empties it where it writes.
 #[derive(Clone, Copy, Drop)]
 pub struct ReadAhead {
     /// The number of the piece, none where nothing is held.
     pub piece: Option<u64>,
+    // The sector behind the block that was read last, none where none was.
+    next: Option<u64>,
 }
 
 // Copies the bytes from this place on.
@@ -40,7 +46,23 @@ impl ReadAhead {
     pub fn empty() -> Self
         ensures empty { result.piece ≡ None }
     {
-        ReadAhead { piece: None }
+        ReadAhead {
+            piece: None,
+            next: None,
+        }
+    }
+
+    // Says whether a block that begins there goes on a walk, where blocks rise and fewer than 8
+    // sectors are passed over, and notes where the walk would go on behind it.
+    fn goes_on(&mut self, first: u64, count: usize) -> bool
+        ensures { self.new.piece ≡ self.old.piece }
+    {
+        let next = self.next;
+        self.next = first.checked_add(count as u64);
+        match next {
+            Some(next) => first >= next && first - next < STEP_SECTORS,
+            None => false,
+        }
     }
 
     // Reads the piece, unless it stands in the room.
@@ -65,7 +87,7 @@ impl ReadAhead {
     }
 
     // Fills the buffer from the sector with the number `first` on, with zeros past the end: out of
-    // the piece where they begin, or by a call of their own where they go past it.
+    // the piece where they begin, if it is held or a walk goes on there, or by a call of their own.
     fn fill<D: Device>(
         &mut self,
         room: &mut [u8],
@@ -86,10 +108,12 @@ impl ReadAhead {
     {
         let at = (first % PIECE_SECTORS) as usize;
         let count = raw.len() / SECTOR_BYTES;
-        if first >= device.sectors() || PIECE_SECTORS as usize - at < count {
+        let piece = first / PIECE_SECTORS;
+        let ahead = self.goes_on(first, count) || self.piece == Some(piece);
+        if first >= device.sectors() || PIECE_SECTORS as usize - at < count || !ahead {
             return read_sectors(device, first, raw);
         }
-        self.load(room, device, first / PIECE_SECTORS)?;
+        self.load(room, device, piece)?;
         copy_part(room, SECTOR_BYTES * at, raw);
         Ok(())
     }
@@ -120,12 +144,13 @@ impl ReadAhead {
         Ok(())
     }
 
-    /// Reads the body of a block: out of the piece that is held, or by one call of the device,
-    /// which reads the piece where the block begins, or the block alone where it goes past that
-    /// piece's end. A sector at or past the device's end counts as zeros, and the device isn't
-    /// asked for it. Linear in the sectors read.
+    /// Reads the body of a block: out of the piece that is held, or by one call of the device. That
+    /// call reads the whole piece where the block lies in one piece and goes on a walk, which is
+    /// where it begins behind the block that was read last, or fewer than 8 sectors further on; else
+    /// it reads the block alone. A sector at or past the device's end counts as zeros, and the
+    /// device isn't asked for it. Linear in the sectors read.
     ///
-    /// The error is a failure of the device; nothing is held then, and the body may be any.
+    /// The error is a failure of the device; the body may be any then.
     pub fn body<D: Device>(
         &mut self,
         room: &mut [u8],
