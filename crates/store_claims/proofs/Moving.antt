@@ -1,6 +1,8 @@
 -- What each event does to the claims of a store.
-use Rattle.std.proofs.Common.{◌≡◌, ℕ, suc, ◌-◌, ◌≤◌, Bool, true, false, List, [], ◌∷◌, ◌++◌, length, drop, refl, sym, ◌∙◌, ap, subst, arith}
+use Rattle.std.proofs.Common.{◌≡◌, ℕ, suc, ◌-◌, ◌≤◌, Bool, true, false, List, [], ◌∷◌, ◌++◌, length, drop, refl, sym, ◌∙◌, ap, ap₂, subst, arith}
+use Rattle.std.specs.Prelude.{◌&&◌, ◌||◌, not}
 use Rattle.std.proofs.lemmas.List.{drop_all, drop-append-le}
+use mathlib.Core.Path.{fun_ext}
 use Rattle.disk_model.specs.declared.block.Block.{Block}
 use Rattle.disk_model.specs.Sectors.{same_block, are_rivals}
 use Rattle.disk_model.proofs.Frames.{same_block-is}
@@ -9,17 +11,17 @@ use Rattle.log_model.specs.declared.entry.Entry.{Entry}
 use Rattle.store_model.specs.Logs.{AllBytes, AreUpdates, commit_by}
 use Rattle.store_model.specs.Geometry.{Geometry}
 use Rattle.store_model.specs.Stores.{Window, Store, IsSound}
-use Rattle.store_model.specs.Events.{after_change, after_changes, changed_store, MayChange, Step}
+use Rattle.store_model.specs.Events.{after_change, after_changes, changed_store, checkpoint_begun, MayChange, Step}
 use Rattle.store_model.specs.Events.Step.{begin, change, commit, give_up, write_page, write_page_fails, sync, sync_frees, write_out, write_out_fails, write_again, begin_checkpoint, write_restart, write_restart_fails}
 use Rattle.store_model.specs.Runs.{mounted}
 use Rattle.store_model.proofs.Told.{true≢false, rivals_both}
 use Rattle.store_model.proofs.Pieces.{are_updates}
 use Rattle.store_model.proofs.Sound.{sound-step}
-use Rattle.store_claims.specs.Claims.{IsClaimedIn, IsClaimedWith, claims, IsClaimedBack, will, WillBeClaimed, claims_of}
+use Rattle.store_claims.specs.Claims.{claims_in, claims_with, IsClaimedIn, IsClaimedWith, claims, IsClaimedBack, will, WillBeClaimed, claims_of}
 use Rattle.store_claims.specs.Moves.{Keeps, ClaimsStay, ClaimsAfterChange, ClaimsAfterCommit, ClaimsAfter}
 use Rattle.store_claims.specs.Laws.{ClaimsMove}
 use Rattle.store_claims.proofs.Lists.{claimed_later, claimed_empty, claimed_whole, with_unnamed, with_empty, commit_older, commit_newest, change_claimed, change_own, change_other}
-use Rattle.store_claims.proofs.Agreeing.{back_gives, back_from, will_gives, will_from}
+use Rattle.store_claims.proofs.Agreeing.{in_from, with_from, back_gives, back_from, will_gives, will_from}
 
 -- ---- where no transaction is open
 
@@ -122,7 +124,7 @@ module _ (geometry : Geometry) (s t : Store) (lsn previous : ℕ) (sound : IsSou
     will = λ b h. will_from t b (closed_back geometry t sound_t closed_t b (newest b (will_gives s b h)));
   }
 
--- ---- events that change no entry
+-- ---- other events
 
 stay : (s t : Store) → ((k : ℕ) (b : Block) → IsClaimedBack s k b → IsClaimedBack t k b) → ((b : Block) → WillBeClaimed s b → WillBeClaimed t b) → ClaimsStay (claims_of s) (claims_of t)
 stay s t back now = record { claims = λ k b h. back_from t k b (back k b (back_gives s k b h)); will = λ b h. will_from t b (now b (will_gives s b h)) }
@@ -131,24 +133,44 @@ stay s t back now = record { claims = λ k b h. back_from t k b (back k b (back_
 more_durable : (s : Store) (d k : ℕ) (b : Block) → s.synced ≤ d → IsClaimedBack s k b → IsClaimedIn s.log d k b × (s.begun ≡ true → IsClaimedIn (drop s.place s.log) (d - s.place) k b)
 more_durable s d k b le x = (claimed_later s.log s.synced k b d le x.0, λ begun. claimed_later (drop s.place s.log) (s.synced - s.place) k b (d - s.place) (omega (arith, le)) (x.1 begun))
 
+-- where a checkpoint begins its list is empty
+module _ (s : Store) (fresh : s.begun ≡ false) where
+  nothing : drop (length s.log) s.log ≡ []
+  nothing = drop_all (length s.log) s.log (omega arith)
+
+  one_list : (x begun y z : Bool) → begun ≡ false → y ≡ true → (x && (not true || y)) ≡ (x && (not begun || z))
+  one_list x begun y z off is = rw (off, is) refl
+
+  noted_claims : (k : ℕ) (b : Block) → claims (checkpoint_begun s) k b ≡ claims s k b
+  unfolding claims
+  noted_claims k b = one_list (claims_in s.log s.synced k b) s.begun (claims_in (drop (length s.log) s.log) (s.synced - length s.log) k b) (claims_in (drop s.place s.log) (s.synced - s.place) k b) fresh
+      (in_from (drop (length s.log) s.log) (s.synced - length s.log) k b (claimed_empty (drop (length s.log) s.log) (s.synced - length s.log) k b nothing))
+
+  noted_will : (b : Block) → will (checkpoint_begun s) b ≡ will s b
+  unfolding will
+  noted_will b = one_list (claims_with s.window.tx s.log b) s.begun (claims_with s.window.tx (drop (length s.log) s.log) b) (claims_with s.window.tx (drop s.place s.log) b) fresh
+      (with_from s.window.tx (drop (length s.log) s.log) b (with_empty s.window.tx (drop (length s.log) s.log) b nothing))
+
+  after_noting : claims_of (checkpoint_begun s) ≡ claims_of s
+  after_noting = ap₂ (λ (c : ℕ → Block → Bool) (w : Block → Bool). record { claims = c; will = w }) (fun_ext (λ k. fun_ext (λ b. noted_claims k b))) (fun_ext noted_will)
+
 pub claims-step : (geometry : Geometry) (s t : Store) (step : Step geometry s t) → IsSound geometry s → ClaimsAfter geometry s t step
-unfolding claims
-claims-step geometry s t (begin a) sound = record { claims = λ k b. refl; will = λ b h. will_from t b (closed_back geometry s sound a b (back_gives s 0 b h)) }
+unfolding claims will
+claims-step geometry s t (begin a) sound = record { same = refl; will = λ b h. will_from t b (closed_back geometry s sound a b (back_gives s 0 b h)) }
 claims-step geometry s t (change c us may) sound = after_a_change geometry s sound c us may
 claims-step geometry s t (commit lsn previous a) sound = after_an_end geometry s t lsn previous sound (sound-step geometry s t (commit lsn previous a) sound) refl refl refl refl refl
-claims-step geometry s t (give_up a) sound = record { claims = λ k b. refl; will = λ b h. will_from t b (closed_back geometry t (sound-step geometry s t (give_up a) sound) refl b (back_gives s 0 b h)) }
-claims-step geometry s t (write_page m a d) sound = stay s t (λ k b x. x) (λ b x. x)
-claims-step geometry s t (write_page_fails m a) sound = stay s t (λ k b x. x) (λ b x. x)
+claims-step geometry s t (give_up a) sound = record { claims = refl; will = λ b h. will_from t b (closed_back geometry t (sound-step geometry s t (give_up a) sound) refl b (back_gives s 0 b h)) }
+claims-step geometry s t (write_page m a d) sound = refl
+claims-step geometry s t (write_page_fails m a) sound = refl
 claims-step geometry s t (sync gone a may) sound = stay s t (λ k b x. more_durable s s.done k b sound.synced x) (λ b x. x)
 claims-step geometry s t (sync_frees gone a may) sound = let begun : s.begun ≡ true = (sound.renamed (sound.replaced a)).0 in
     stay s t (λ k b x. ((more_durable s s.done k b sound.synced x).1 begun, λ off. absurd (true≢false (sym off)))) (λ b x. (x.1 begun, λ off. absurd (true≢false (sym off))))
-claims-step geometry s t (write_out c new disk may spells puts) sound = stay s t (λ k b x. x) (λ b x. x)
-claims-step geometry s t (write_out_fails c new disk may puts) sound = stay s t (λ k b x. x) (λ b x. x)
-claims-step geometry s t (write_again disk a) sound = stay s t (λ k b x. x) (λ b x. x)
-claims-step geometry s t (begin_checkpoint a d) sound = let nothing : drop (length s.log) s.log ≡ [] = drop_all (length s.log) s.log (omega arith) in
-    stay s t (λ k b x. (x.0, λ begun. claimed_empty (drop (length s.log) s.log) (s.synced - length s.log) k b nothing)) (λ b x. (x.0, λ begun. with_empty s.window.tx (drop (length s.log) s.log) b nothing))
-claims-step geometry s t (write_restart a) sound = stay s t (λ k b x. x) (λ b x. x)
-claims-step geometry s t (write_restart_fails a) sound = stay s t (λ k b x. x) (λ b x. x)
+claims-step geometry s t (write_out c new disk may spells puts) sound = refl
+claims-step geometry s t (write_out_fails c new disk may puts) sound = refl
+claims-step geometry s t (write_again disk a) sound = refl
+claims-step geometry s t (begin_checkpoint a d) sound = after_noting s a
+claims-step geometry s t (write_restart a) sound = refl
+claims-step geometry s t (write_restart_fails a) sound = refl
 
 -- ---- a mounted store
 
