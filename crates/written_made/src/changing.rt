@@ -10,15 +10,17 @@ ghost use Rattle.file_writes.specs.Faults.{write_cause, IsShortOf, StaysWhereRef
 ghost use Rattle.file_writes.specs.Writing.{MayWrite};
 ghost use Rattle.file_changes.specs.Calls.{StepsFrom};
 ghost use Rattle.file_changes.specs.Written.{WrittenFrom};
+ghost use Rattle.written_made.specs.Made.{record_with_data};
 
 use crate::laws::{made_is_done, made_is_step};
 use block_view::View;
 use change_steps::{bare_is_enough, changes_are_steps, files_are_ready};
+use file_changes::change_file;
 use file_puts::VolumeStreams;
 use file_record::FileRec;
 use file_tree::Node;
 use file_writes::{WriteFault, write_file};
-use made_data::{made_is_counted, make_data};
+use made_data::{has_data, made_is_counted, make_data};
 use plan_draft::Draft;
 use plan_space::FreeBits;
 use state_model::ClusterSize;
@@ -113,4 +115,39 @@ pub fn change_without_data<V: View, B: FreeBits>(
     change_made(
         draft, alloc, per, bits, streams, file, &made, op, node, stamp,
     )
+}
+
+/// Writes or cuts the file that an operation was found to change
+/// ([`change_found`](change_lookup::change_found)), whether its record has unnamed data or not
+/// (Linux-NTFS documentation, "FILE Record", "$DATA"), in a draft that touched nothing before: as
+/// [`change_file`] does it where the file has data, and as [`change_without_data`] where it has none,
+/// with their errors and costs. `file` is the record of the node, as it was read, which has a spelling
+/// but for its room and fewer than 1,024 attributes.
+pub fn change_any_file<V: View, B: FreeBits>(
+    draft: &mut Draft<'_, V>,
+    alloc: Global,
+    per: ClusterSize,
+    bits: &mut B,
+    streams: &VolumeStreams,
+    file: &FileRec,
+    op: &Op,
+    node: &Node,
+    stamp: u64,
+) -> Result<(), WriteFault>
+    requires per { per ≡ 8 }
+    requires fits { FitsButRoom file.now }
+    requires attrs { length file.now.attrs < 2 ^ 10 }
+    requires may { MayWrite (length (B.bits bits.old)) node.now.number streams.now (record_with_data file.now) op.now node.now }
+    ensures step { IfSome (V.content draft.old.view.now) (StepsFrom streams.now op.now node.now stamp file.now (B.bits bits.old) draft.old.touched.items draft.new.touched.items result) }
+    ensures written { IfSome (V.content draft.old.view.now) (WrittenFrom streams.now op.now node.now stamp file.now (B.bits bits.old) draft.old.touched.items draft.new.touched.items result) }
+    ensures bits { OnOk result (B.bits bits.new ≡ with_runs (growth_of (B.bits bits.old) file.now op.now node.now).runs (B.bits bits.old)) }
+    ensures short { count_by not (B.bits bits.old) < more_of (growth_of (B.bits bits.old) file.now op.now node.now) → IsShortOf (count_by not (B.bits bits.old)) result }
+    ensures refused { IfErr result (StaysWhereRefused draft.old.touched.items draft.new.touched.items) }
+    ensures asks { AsksView V.content V.kept V.faults write_cause draft.old.view.now draft.new.view.now result }
+    ensures reference { draft.new.view.ghost_name ≡ draft.old.view.ghost_name }
+{
+    if has_data(file) {
+        return change_file(draft, alloc, per, bits, streams, file, op, node, stamp);
+    }
+    change_without_data(draft, alloc, per, bits, streams, file, op, node, stamp)
 }

@@ -9,7 +9,7 @@
 mod changing;
 mod laws;
 
-pub use changing::change_without_data;
+pub use changing::{change_any_file, change_without_data};
 pub use file_changes::{
     ClusterSize, Draft, FileRec, FreeBits, Node, Op, View, VolumeStreams, WriteFault,
 };
