@@ -1,0 +1,7 @@
+mod Alike
+mod Joining
+mod Making
+mod Rebasing
+mod Doing
+mod Stepping
+mod Calling
