@@ -106,7 +106,7 @@ module _ (c : Content) (v : Volume) where
     where
       none_some : (bytes : List ℕ) → None ≡ Some bytes → ⊥
       none_some bytes is = absurd cc
-  changed_or (t ∷ touched) b whole well put = by (same_block b t.block) refl put.1
+  changed_or (t ∷ touched) b whole well put = by (same_block b t.block) refl put.1 (λ more. changed_or touched b (All-tail IsWhole t touched whole) well.1 more)
     where
       here : same_block b t.block ≡ true → IsNeeded c v b ⊎ (is_changed (changes_of (t ∷ touched)) b ≡ true)
       here is = elim (cases_lt (change_start t) (change_end t)) [
@@ -120,27 +120,26 @@ module _ (c : Content) (v : Volume) where
         ]
       ]
 
-      there : IsPut (bodies_of touched) b → IsNeeded c v b ⊎ (is_changed (changes_of (t ∷ touched)) b ≡ true)
-      there more = elim (changed_or touched b (All-tail IsWhole t touched whole) well.1 more) [
-        | inl needed ↦ inl needed
-        | inr some ↦ inr (with_change t (changes_of touched) (λ xs. is_changed xs b ≡ true) (λ lt. or_right (same_block b t.block) (is_changed (changes_of touched) b) some) (λ le. some))
-      ]
+      there : IsNeeded c v b ⊎ (is_changed (changes_of touched) b ≡ true) → IsNeeded c v b ⊎ (is_changed (changes_of (t ∷ touched)) b ≡ true)
+      there (inl needed) = inl needed
+      there (inr some) = inr (with_change t (changes_of touched) (λ xs. is_changed xs b ≡ true) (λ lt. or_right (same_block b t.block) (is_changed (changes_of touched) b) some) (λ le. some))
 
-      by : (s : Bool) → same_block b t.block ≡ s → cond s (Some t.new) (body_in (bodies_of touched) b) ≡ Some put.0 → IsNeeded c v b ⊎ (is_changed (changes_of (t ∷ touched)) b ≡ true)
-      by true is at = here is
-      by false is at = there (put.0, at)
+      by : (s : Bool) → same_block b t.block ≡ s → cond s (Some t.new) (body_in (bodies_of touched) b) ≡ Some put.0 → (IsPut (bodies_of touched) b → IsNeeded c v b ⊎ (is_changed (changes_of touched) b ≡ true))
+          → IsNeeded c v b ⊎ (is_changed (changes_of (t ∷ touched)) b ≡ true)
+      by true is at rest = here is
+      by false is at rest = there (rest (put.0, at))
 
   -- what is put there has a spelling
   spelled_there : (touched : List Touched) (b : Block) (bytes : List ℕ) → AllByRecursion (TouchesWell c v) touched → body_in (bodies_of touched) b ≡ Some bytes → has_spelling b.kind bytes ≡ true
   spelled_there [] b bytes well is = absurd cc
-  spelled_there (t ∷ touched) b bytes well is = by (same_block b t.block) refl is
+  spelled_there (t ∷ touched) b bytes well is = by (same_block b t.block) refl is (λ later. spelled_there touched b bytes well.1 later)
     where
-      by : (s : Bool) → same_block b t.block ≡ s → cond s (Some t.new) (body_in (bodies_of touched) b) ≡ Some bytes → has_spelling b.kind bytes ≡ true
-      by true same at = (let equal : t.new ≡ bytes = one t.new at in ap₂ (λ (x : Block) (l : List ℕ). has_spelling x.kind l) (same_block-is b t.block same) (sym equal) ∙ well.0.spelled)
-        where
-          one : (l : List ℕ) → Some l ≡ Some bytes → l ≡ bytes
-          one l e = cc
-      by false same at = spelled_there touched b bytes well.1 at
+      one : (l : List ℕ) → Some l ≡ Some bytes → l ≡ bytes
+      one l e = cc
+
+      by : (s : Bool) → same_block b t.block ≡ s → cond s (Some t.new) (body_in (bodies_of touched) b) ≡ Some bytes → (body_in (bodies_of touched) b ≡ Some bytes → has_spelling b.kind bytes ≡ true) → has_spelling b.kind bytes ≡ true
+      by true same at rest = ap₂ (λ (x : Block) (l : List ℕ). has_spelling x.kind l) (same_block-is b t.block same) (sym (one t.new at)) ∙ well.0.spelled
+      by false same at rest = rest at
 
   -- none that is needed was torn
   whole_changes : (touched : List Touched) → All (IsOldOf c) touched → AllByRecursion (TouchesWell c v) touched → AllByRecursion (λ (t : Touched). change_start t < change_end t → IsNeeded c v t.block → (c t.block).torn ≡ false) touched
@@ -222,4 +221,4 @@ module _ (drafts : DraftsGoOn) (spares : PlansSpare) (c : Content) (g : Geometry
   }
 
   pub kept : ChangesKeep c v bodies changes w
-  kept = subst (λ (xs : List Change). ChangesKeep c v bodies xs w) (sym done.changes) of_touched
+  kept = subst (λ (xs : List Change). ChangesKeep c v bodies xs w) (sym done.are) of_touched

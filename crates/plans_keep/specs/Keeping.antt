@@ -28,7 +28,7 @@ pub record AreFinished (c : Content) (touched : List Touched) (changes : List Ch
   pub rises : rises 0 (keys_of touched) ≡ true
   pub whole : All IsWhole touched
   pub olds : All (IsOldOf c) touched
-  pub changes : changes ≡ changes_of touched
+  pub are : changes ≡ changes_of touched
 
 -- The body that is put has a spelling. Where the block isn't fresh, the state before is judged by it; and where that is read from it, it isn't torn.
 pub record TouchesWell (c : Content) (v : Volume) (t : Touched) : Type 0 where
