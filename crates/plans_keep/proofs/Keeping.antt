@@ -1,7 +1,7 @@
 -- The changes of a draft that puts the bodies of a plan.
-use Rattle.std.proofs.Common.{◌≡◌, subst, ℕ, suc, ◌+◌, ◌-◌, ◌*◌, ◌<◌, ◌≤◌, Bool, true, false, ◌||◌, cond, List, [], ◌∷◌, ◌++◌, length, Option, Some, None, refl, sym, ap, ap₂, ◌∙◌, inl, inr, arith}
+use Rattle.std.proofs.Common.{◌≡◌, subst, ℕ, suc, ◌<◌, ◌≤◌, Bool, true, false, ◌||◌, cond, List, [], ◌∷◌, ◌++◌, length, Option, Some, None, refl, sym, ap, ap₂, ◌∙◌, inl, inr, arith}
 use Rattle.std.specs.Prelude.{◌⊎◌, All}
-use Rattle.std.specs.List.{AllByRecursion, list_any}
+use Rattle.std.specs.List.{AllByRecursion}
 use Rattle.std.proofs.lemmas.Bool.{cases_Bool, cases_lt, lt-ltb, le-ltb, or_left, or_right}
 use Rattle.std.proofs.lemmas.List.Elements.{All-head, All-tail}
 use Rattle.disk_model.specs.declared.block.Block.{Block}
@@ -14,7 +14,6 @@ use Rattle.disk_model.specs.Content.{Content, HasSizes}
 use Rattle.disk_model.specs.Sectors.{sectors, same_block, are_rivals}
 use Rattle.disk_model.proofs.Frames.{same_block-is}
 use Rattle.fixup_record.specs.Spellings.{has_spelling}
-use Rattle.block_view.specs.Changes.{content_after}
 use Rattle.state_model.specs.declared.geometry.Geometry.{Geometry}
 use Rattle.volume_model.specs.Volumes.{Volume}
 use Rattle.stream_laws.specs.Owners.{Owns}
@@ -22,12 +21,11 @@ use Rattle.stream_laws.specs.Sharing.{stream_at, runs_in}
 use Rattle.plan_owners.specs.States.{Stands}
 use Rattle.plan_owners.specs.Agreeing.{IsJudged, log_key}
 use Rattle.state_blocks.specs.Needing.{IsListed, IsNeeded}
-use Rattle.state_blocks.specs.Drafts.{is_changed, DraftIn}
-use Rattle.plan_bodies.specs.Bodies.{NewBody, content_with, body_in, body_or, AreBodies}
+use Rattle.state_blocks.specs.Drafts.{is_changed}
+use Rattle.plan_bodies.specs.Bodies.{NewBody, content_with, body_in, body_or}
 use Rattle.plan_bodies.proofs.Putting.{block_itself, body_put}
 use Rattle.plan_draft.specs.declared.touched.Touched.{Touched}
-use Rattle.plan_draft.specs.Touching.{block_key, keys_of, rises, bodies_of, new_body, IsWhole, IsOldOf}
-use Rattle.plan_draft.specs.Drafts.{drafted}
+use Rattle.plan_draft.specs.Touching.{block_key, rises, bodies_of, new_body, IsWhole, IsOldOf}
 use Rattle.plan_draft.specs.Finishing.{is_whole_change, change_start, change_end, change_of, changes_in, changes_of, change_keys}
 use Rattle.plan_draft.specs.Same.{PutSame}
 use Rattle.plan_draft.proofs.Finished.{finished, fits, in_order}
@@ -46,7 +44,7 @@ each_as P Q f (x ∷ xs) all = (f x all.0, each_as P Q f xs all.1)
 -- ---- bodies that are put
 
 -- what holds of the block of each body holds of a block into which one is put
-put_found : (P : Block → Type 0) (bodies : List NewBody) (b : Block) → AllByRecursion (λ (p : NewBody). P p.block) bodies → IsPut bodies b → P b
+pub put_found : (P : Block → Type 0) (bodies : List NewBody) (b : Block) → AllByRecursion (λ (p : NewBody). P p.block) bodies → IsPut bodies b → P b
 put_found P [] b all put = absurd (none_some put.0 put.1)
   where
     none_some : (bytes : List ℕ) → None ≡ Some bytes → ⊥
@@ -82,7 +80,7 @@ with_change t changes P some none = elim (cases_lt (change_start t) (change_end 
 ]
 
 -- what holds of the change of each touched block that has one
-each_change : (Q : Change → Type 0) (touched : List Touched) → AllByRecursion (λ (t : Touched). change_start t < change_end t → Q (change_of t (change_start t) (change_end t))) touched → AllByRecursion Q (changes_of touched)
+pub each_change : (Q : Change → Type 0) (touched : List Touched) → AllByRecursion (λ (t : Touched). change_start t < change_end t → Q (change_of t (change_start t) (change_end t))) touched → AllByRecursion Q (changes_of touched)
 each_change Q [] all = tt
 each_change Q (t ∷ touched) all = with_change t (changes_of touched) (AllByRecursion Q) (λ lt. (all.0 lt, each_change Q touched all.1)) (λ le. each_change Q touched all.1)
 

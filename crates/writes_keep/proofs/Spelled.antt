@@ -1,9 +1,9 @@
 -- The body of a record that is put has a spelling.
-use Rattle.std.proofs.Common.{◌≡◌, ℕ, ◌+◌, ◌*◌, ◌≤◌, Bool, true, false, not, ◌&&◌, ◌||◌, eqb, leb, List, length, Result, Ok, Err, refl, sym, ap, ◌∙◌, inl, inr, arith}
+use Rattle.std.proofs.Common.{◌≡◌, ℕ, ◌+◌, ◌*◌, ◌≤◌, true, not, ◌&&◌, eqb, leb, List, length, Ok, Err, refl, sym, ap, ◌∙◌, inl, inr, arith}
 use Rattle.std.specs.List.{list_all}
-use Rattle.std.proofs.lemmas.Bool.{cases_lt, and_from, or_right, le-leb}
+use Rattle.std.proofs.lemmas.Bool.{cases_lt, and_from, or_right}
 use Rattle.disk_model.specs.declared.block.BlockKind.TheVariants.{FileRec}
-use Rattle.disk_model.specs.Bytes.{part}
+use Rattle.disk_model.specs.Bytes.{part, zeros}
 use Rattle.disk_model.specs.Fixups.{array_at, sector_count, is_in_shape}
 use Rattle.fixup_record.specs.Spellings.{is_sequenced, has_zeros, is_ready, has_spelling}
 use Rattle.record_model.specs.RecordLaws.{RecordIsBody}
@@ -35,9 +35,9 @@ module _ (body : RecordIsBody) (r : Record) (fits : FitsByRoom r) (room : fits_r
   unfolding bytes
   place = body.place (written_record r)
 
-  zeros : has_zeros bytes ≡ true
-  unfolding bytes has_zeros
-  zeros =
+  zeros_there : has_zeros bytes ≡ true
+  unfolding bytes has_zeros zeros
+  zeros_there =
       let count : 2 * (sector_count bytes + 1) ≡ 6 = (let size = sized in omega (arith, size)) in
       ap (λ (k : ℕ). list_all (λ b. eqb b 0) (part k (2 * (sector_count bytes + 1)) bytes)) place
       ∙ ap (λ (k : ℕ). list_all (λ b. eqb b 0) (part 0x30 k bytes)) count
@@ -47,4 +47,4 @@ module _ (body : RecordIsBody) (r : Record) (fits : FitsByRoom r) (room : fits_r
   unfolding bytes has_spelling
   record_spelled =
       or_right (not (is_sequenced FileRec bytes)) (is_ready bytes)
-      (and_from (is_in_shape bytes && leb 8 (array_at bytes)) (has_zeros bytes) (and_from (is_in_shape bytes) (leb 8 (array_at bytes)) shape (ap (leb 8) place)) zeros)
+      (and_from (is_in_shape bytes && leb 8 (array_at bytes)) (has_zeros bytes) (and_from (is_in_shape bytes) (leb 8 (array_at bytes)) shape (ap (leb 8) place)) zeros_there)

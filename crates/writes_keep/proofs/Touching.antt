@@ -1,5 +1,5 @@
 -- What is put into a draft, block by block.
-use Rattle.std.proofs.Common.{◌≡◌, subst, ℕ, zero, suc, ◌+◌, ◌*◌, ◌/◌, ◌<◌, Bool, true, false, cond, leb, List, [], ◌∷◌, length, Option, Some, None, refl, sym, ap, ◌∙◌, inl, inr, arith}
+use Rattle.std.proofs.Common.{◌≡◌, subst, ℕ, zero, suc, ◌+◌, ◌/◌, ◌<◌, Bool, true, false, leb, List, [], ◌∷◌, length, Option, Some, None, refl, sym, inl, inr}
 use Rattle.std.specs.List.{AllByRecursion}
 use Rattle.std.proofs.lemmas.Bool.{cases_Bool, cases_lt, lt-ltb, le-ltb, leb-false, or_parts}
 use Rattle.disk_model.specs.declared.block.Block.{Block}
@@ -11,19 +11,17 @@ use Rattle.disk_model.specs.Sectors.{same_block}
 use Rattle.disk_model.proofs.Frames.{same_block-is}
 use Rattle.fixup_record.specs.Spellings.{has_spelling}
 use Rattle.record_model.specs.declared.runs.Run.{Run}
-use Rattle.record_model.specs.Records.{record_spelling}
 use Rattle.state_model.specs.declared.stream.Extents.{Extents}
 use Rattle.state_model.specs.Streams.{block_at}
 use Rattle.stream_laws.proofs.Placing.{lies}
 use Rattle.plan_draft.specs.declared.touched.Touched.{Touched}
-use Rattle.plan_draft.specs.Touching.{block_key, first_touch, touch_again, touch}
+use Rattle.plan_draft.specs.Touching.{block_key, touch_again, touch}
 use Rattle.draft_streams.specs.Parts.{touch_part, touch_sectors, touch_bytes, offset_in, bytes_in, first_sector, sector_count}
 use Rattle.draft_bits.specs.Filling.{PutsBits, first_past}
 use Rattle.draft_runs.specs.Clusters.{PutsClusters, PutsRuns}
-use Rattle.draft_records.specs.Records.{written_record, record_block, is_past, has_mirror, touch_if, touch_in, touch_record}
+use Rattle.draft_records.specs.Records.{record_block, is_past, has_mirror, touch_if, touch_record}
 use Rattle.resized_streams.specs.declared.resized.Resized.{Resized}
-use Rattle.draft_resized.specs.Resized.{resized_bytes, with_file, PutsBoth, PutsResized}
-use Rattle.draft_resized.specs.Moved.{PutsMoved}
+use Rattle.draft_resized.specs.Resized.{resized_bytes, with_file, PutsResized}
 
 -- where a body goes that is put, what holds where its block isn't fresh, and that it has a spelling
 pub record IsWellPut (Goes Judged : Block → Type 0) (b : Block) (fresh : Bool) (bytes : List ℕ) : Type 0 where
