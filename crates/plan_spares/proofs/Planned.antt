@@ -45,7 +45,7 @@ judged_of c v b lists (inl judged) = judged
 judged_of c v b lists (inr listed) = listed_judged c v b listed (lists listed.number listed.file listed.is_file)
 
 module _ (drafts : DraftsGoOn) (once : OwnedOnce) (states : StatesStand) (c : Content) (g : Geometry) (clusters : ℕ) (v w : Volume) (bodies : List NewBody) (gave : ℕ → Option BlockKind) (changes : List Change) (eight : g.per_cluster ≡ 8) (s : Stands c g clusters v) (plan : PlanIn c g clusters v bodies w gave)
-    (are : AreOf changes bodies) (keeps : PlanKeeps c v changes (content_with c bodies) w) where
+    (are : AreOf c v changes bodies) (keeps : PlanKeeps c v changes (content_with c bodies) w) where
   same_per : w.per ≡ v.per
   same_per = sym (volume_parts (content_with c bodies) g clusters w plan.stands.loaded).per ∙ (volume_parts c g clusters v s.loaded).per
 
@@ -74,14 +74,18 @@ module _ (drafts : DraftsGoOn) (once : OwnedOnce) (states : StatesStand) (c : Co
     other = λ is. judged.other ((once.place w b plan.stands.some (states.once (content_with c bodies) g clusters w plan.stands) judged.live.owned (log_stays b live.owned is)).0);
   }
 
+  owned_covers : (b : Block) → IsJudged w b → IsNeeded c v b ⊎ (is_changed changes b ≡ true)
+  owned_covers b judged = elim (plan.covers b judged.live) [
+    | inl live ↦ inl (inl (was_judged b judged live))
+    | inr put ↦ are.all b put
+  ]
+
   covers : (b : Block) → IsNeeded (content_with c bodies) w b → IsNeeded c v b ⊎ (is_changed changes b ≡ true)
-  covers b needed = by (judged_of (content_with c bodies) w b keeps.then needed)
-    where
-      by : IsJudged w b → IsNeeded c v b ⊎ (is_changed changes b ≡ true)
-      by judged = elim (plan.covers b judged.live) [
-        | inl live ↦ inl (inl (was_judged b judged live))
-        | inr put ↦ inr (are.all b put)
-      ]
+  covers b (inl judged) = owned_covers b judged
+  covers b (inr listed) = elim (keeps.then b listed) [
+    | inl old ↦ inl old
+    | inr judged ↦ owned_covers b judged
+  ]
 
   pub planned : DraftIn c v changes (content_with c bodies) w
   planned = record { rivals = rivals; whole = keeps.whole; covers = covers }

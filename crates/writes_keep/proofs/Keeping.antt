@@ -1,0 +1,309 @@
+-- What comes of a file's data keeps the blocks from which a state is read.
+use Rattle.std.proofs.Common.{◌≡◌, ◌≢◌, subst, ℕ, ◌+◌, ◌*◌, ◌/◌, ◌<◌, ◌≤◌, Bool, false, ◌&&◌, ltb, leb, List, [], ◌∷◌, length, Option, Some, None, refl, sym, ap, ap₂, ◌∙◌, inl, inr, arith}
+use Rattle.std.specs.Prelude.{◌⊎◌, All}
+use Rattle.std.specs.List.{AllByRecursion}
+use Rattle.std.proofs.lemmas.Bool.{le-ltb, leb-false}
+use Rattle.std.proofs.lemmas.List.Elements.{All-head, All-tail}
+use Rattle.disk_model.specs.declared.block.Block.{Block}
+use Rattle.disk_model.specs.declared.block.BlockKind.{BlockKind}
+use Rattle.disk_model.specs.declared.block.BlockKind.TheVariants.{Plain, FileRec, Index}
+use Rattle.disk_model.specs.declared.block.Change.{Change}
+use Rattle.disk_model.specs.Bodies.{BodyOf}
+use Rattle.disk_model.specs.Content.{Content}
+use Rattle.disk_model.specs.Sectors.{sectors}
+use Rattle.record_model.specs.declared.runs.Run.{Run}
+use Rattle.record_model.specs.Constants.{data_type, file_name}
+use Rattle.record_model.specs.Pairs.{cluster_limit, HasSpelling}
+use Rattle.record_model.specs.Records.{Record}
+use Rattle.record_model.specs.RecordLaws.{RecordIsBody}
+use Rattle.file_tree.specs.declared.node.Node.{Node}
+use Rattle.bit_set.proofs.Views.{length-bits_of_bytes}
+use Rattle.state_model.specs.declared.geometry.Geometry.{Geometry}
+use Rattle.state_model.specs.declared.stream.Extents.{Extents}
+use Rattle.state_model.specs.declared.stream.Stream.{Stream}
+use Rattle.state_model.specs.declared.stream.Stream.TheVariants.{Held, Placed}
+use Rattle.state_model.specs.Loads.{Used, slot_of, whole_record, is_used, extents_or, total_clusters}
+use Rattle.state_model.specs.Streams.{block_at}
+use Rattle.volume_model.specs.Volumes.{Volume, file_in, file_stream, cluster_bits, cluster_bitmap, bytes_or, log_file}
+use Rattle.volume_model.specs.Sizes.{has_hole}
+use Rattle.volume_model.specs.Owners.{uses}
+use Rattle.stream_laws.specs.Owners.{stream_kind, initialised_in}
+use Rattle.stream_laws.specs.Sharing.{StreamKey, stream_at, runs_in}
+use Rattle.stream_laws.specs.Tables.{table_key}
+use Rattle.stream_laws.proofs.Placing.{lies, lies_in_used}
+use Rattle.stream_laws.proofs.Recording.{record_read}
+use Rattle.stream_laws.proofs.Rewriting.{volume_parts}
+use Rattle.stream_laws.proofs.Sharing.{streams_apart}
+use Rattle.stream_laws.proofs.Tabling.{read_in_use, table_extents_is, table_runs}
+use Rattle.stream_runs.specs.Runs.{grown, last_cluster}
+use Rattle.space_model.specs.Choosing.{chosen}
+use Rattle.state_streams.specs.Streams.{IsPlacedIn}
+use Rattle.state_streams.proofs.Lying.{sizes_are, few_there}
+use Rattle.tree_laws.proofs.Ascending.{all_by}
+use Rattle.tree_model.specs.declared.script.Op.{Op}
+use Rattle.plan_owners.specs.Agreeing.{IsJudged, log_key}
+use Rattle.plan_owners.specs.Kinds.{cluster_of}
+use Rattle.plan_owners.proofs.ByKind.{in_grid, owned_as, inside}
+use Rattle.plan_owners.proofs.Standing.{begins}
+use Rattle.state_blocks.specs.Needing.{IsNeeded}
+use Rattle.state_blocks.proofs.Needing.{listed_judged}
+use Rattle.plan_bodies.specs.Bodies.{NewBody, content_with}
+use Rattle.plan_draft.specs.declared.touched.Touched.{Touched}
+use Rattle.plan_draft.specs.Touching.{bodies_of, IsOldOf}
+use Rattle.plan_draft.specs.Finishing.{change_start, change_end, changes_of}
+use Rattle.plan_draft.proofs.Same.{all_same}
+use Rattle.plan_model.proofs.OneRecord.{OwnRecord, own_record, slot_begins}
+use Rattle.draft_bits.specs.Filling.{first_past}
+use Rattle.draft_records.specs.Records.{record_block, is_past, has_mirror}
+use Rattle.resized_streams.specs.declared.resized.Resized.{Resized}
+use Rattle.plan_growth.proofs.Choosing.{may_be_taken}
+use Rattle.plan_growth.proofs.Growing.{total-grown}
+use Rattle.plan_edits.specs.Edits.{bitmap_key}
+use Rattle.step_model.specs.Placing.{Growth, more_of, runs_after}
+use Rattle.step_model.specs.Streams.{data_of}
+use Rattle.data_plan.specs.declared.change.DataChange.{DataChange}
+use Rattle.data_plan.specs.Changes.{data_in, growth_of, Grows, StandsBelow}
+use Rattle.file_puts.specs.declared.streams.VolumeStreams.{VolumeStreams}
+use Rattle.file_puts.specs.Puts.{first_fresh}
+use Rattle.file_puts.specs.Written.{WritesFile, HasWritten}
+use Rattle.written_values.proofs.Growths.{growth_is}
+use Rattle.plan_spares.specs.Plans.{HasOwnLists}
+use Rattle.plans_keep.specs.Keeping.{AreFinished, TouchesWell, ChangesKeep, PlansKeep}
+use Rattle.plans_keep.proofs.Keeping.{each_change}
+use Rattle.writes_keep.specs.Writes.{HasWholeSectors, IsOffLog, WriteKeeps}
+use Rattle.writes_keep.proofs.Touching.{IsWell, AreSectors, IsRecord}
+use Rattle.writes_keep.proofs.Putting.{judged_sector, grown_sector, GoesTo, AllWell, change_well}
+use Rattle.writes_keep.proofs.Behind.{IsTouched, table_kind, bitmap_kind, other_file, user_is, v_per, w_per, w_once, same_clusters, not_user, log_stays, data_after, data_kind, is_touched, q, q_file, q_user, lists_after, upper_stays}
+
+few_runs : (o : Option Stream) (runs : List Run) (most : ℕ) → ((e : Extents) → o ≡ Some (Placed e) → total_clusters e.runs ≤ most) → runs_in o ≡ runs → total_clusters runs ≤ most
+few_runs None runs most each is = subst (λ (l : List Run). total_clusters l ≤ most) is (omega arith)
+few_runs (Some (Held value)) runs most each is = subst (λ (l : List Run). total_clusters l ≤ most) is (omega arith)
+few_runs (Some (Placed e)) runs most each is = subst (λ (l : List Run). total_clusters l ≤ most) is (each e refl)
+
+goes_in : (P : Block → Type 0) (Q : Touched → Type 0) (touched : List Touched) → ((t : Touched) → Q t → P t.block) → AllByRecursion Q touched → AllByRecursion (λ (p : NewBody). P p.block) (bodies_of touched)
+goes_in P Q [] f all = tt
+goes_in P Q (t ∷ touched) f all = (f t all.0, goes_in P Q touched f all.1)
+
+is_data_name : file_name ≢ data_type
+is_data_name is = omega (arith, is)
+
+module _ (keeps : PlansKeep) (body : RecordIsBody) (c : Content) (g : Geometry) (clusters : ℕ) (v : Volume) (s : VolumeStreams) (op : Op) (n stamp : ℕ) (a : Node) (r : Record) (x : DataChange) (new : List Touched) (changes : List Change) (k : WritesFile c g clusters v s op n stamp a r x new)
+    (h : HasWritten c g clusters v op n stamp a (growth_of (cluster_bits c v) r op a) new) (done : AreFinished c new changes) (lists : HasOwnLists c v) (sectors_whole : HasWholeSectors c v) where
+  abbrev w : Volume
+  w = h.after
+
+  abbrev d : Content
+  d = content_with c h.bodies
+
+  abbrev growth : Growth
+  growth = growth_of (cluster_bits c v) r op a
+
+  abbrev runs_now : List Run
+  runs_now = runs_after (growth_of (cluster_bits c v) r op a)
+
+  eight : v.per ≡ 8
+  eight = v_per c g clusters v s op n stamp a r x new k h
+
+  other_number : (m : ℕ) → m < 16 → m ≢ n
+  other_number m low = not_user c g clusters v s op n stamp a r x new k h m (omega (arith, low))
+
+  -- ---- blocks by which the state before is judged
+
+  table_was : runs_in (stream_at v table_key) ≡ v.table.runs
+  table_was = table_runs c g clusters v (begins c g clusters v k.stands)
+
+  table_size : initialised_in (stream_at v table_key) ≡ v.table.initialised
+  table_size = of_extents (stream_at v table_key) ∙ ap (λ (e : Extents). e.initialised) (table_extents_is c g clusters v (begins c g clusters v k.stands))
+    where
+      of_extents : (o : Option Stream) → initialised_in o ≡ (extents_or o).initialised
+      of_extents None = refl
+      of_extents (Some (Held value)) = refl
+      of_extents (Some (Placed e)) = refl
+
+  lies_there : (b : Block) → record_block 8 s.table n ≡ Some b → block_at v.per v.table.runs FileRec n ≡ Some b
+  lies_there b at = ap₂ (λ (p : ℕ) (e : Extents). block_at p e.runs FileRec n) eight (sym k.streams.table) ∙ at
+
+  record_begun : (b : Block) → record_block 8 s.table n ≡ Some b → is_past s.table n ≡ false → IsJudged v b
+  unfolding lies_there
+  record_begun b at begun =
+      let below : 1024 * n < v.table.initialised = leb-false v.table.initialised (1024 * n) (ap (λ (e : Extents). leb e.initialised (1024 * n)) (sym k.streams.table) ∙ begun) in
+      record {
+        live = record {
+          owned = record { stream = table_key; number = n; lies = ap₂ (λ (l : List Run) (y : BlockKind). block_at v.per l y n) table_was table_kind ∙ lies_there b at };
+          begins = subst (λ (y : BlockKind). 512 * (sectors y * n) < initialised_in (stream_at v table_key)) (sym table_kind) (subst (λ (i : ℕ). 512 * (2 * n) < i) (sym table_size) (omega (arith, below)));
+        };
+        other = other_file table_key log_key (λ is. omega (arith, is));
+      }
+
+  no_mirror : has_mirror s.mirror n ≡ false
+  no_mirror = (let user = (user_is c g clusters v s op n stamp a r x new k h).user in ap (λ (t : Bool). t && ltb n (s.mirror.real / 1024)) (le-ltb n 4 (omega (arith, user))))
+
+  record_is : IsRecord (GoesTo s n runs_now) (IsJudged v) s.table s.mirror n
+  record_is = record { alone = no_mirror; goes = λ b at. inl at; begun = record_begun }
+
+  bits_are : AreSectors (GoesTo s n runs_now) (IsJudged v) s.bitmap.runs (first_past s.bitmap)
+  bits_are i b at = (inr (inl (i, at)), λ lt. judged_sector v bitmap_key s.bitmap i b eight k.streams.bitmap.stream bitmap_kind (other_file bitmap_key log_key (λ is. omega (arith, is))) at (omega (arith, lt)))
+
+  fresh_are : AreSectors (GoesTo s n runs_now) (IsJudged v) runs_now 0
+  fresh_are i b at = (inr (inr (i, at)), λ lt. absurd (omega (arith, lt)))
+
+  data_at : (e : Extents) → data_in r ≡ Some (Placed e) → stream_at v (data_of n) ≡ Some (Placed e)
+  data_at e placed = ap (file_stream data_type []) k.file.file ∙ placed
+
+  data_judged : (e : Extents) (i : ℕ) (b : Block) → data_in r ≡ Some (Placed e) → block_at 8 e.runs Plain i ≡ Some b → 512 * i < e.initialised → IsJudged v b
+  data_judged e i b placed at below = judged_sector v (data_of n) e i b eight (data_at e placed) (data_kind c g clusters v s op n stamp a r x new k h) (other_file (data_of n) log_key (λ is. other_number log_file (omega arith) (sym is))) at below
+
+  stays_are : (e : Extents) → data_in r ≡ Some (Placed e) → e.runs ≡ runs_now → AreSectors (GoesTo s n runs_now) (IsJudged v) runs_now (first_fresh e)
+  stays_are e placed runs i b at = (inr (inr (i, at)), λ lt. data_judged e i b placed (ap (λ (l : List Run). block_at 8 l Plain i) runs ∙ at) (omega (arith, lt)))
+
+  -- ---- data that takes clusters
+
+  same_count : clusters ≡ v.clusters
+  same_count = (volume_parts c g clusters v k.stands.loaded).count
+
+  placed_in : (e : Extents) → data_in r ≡ Some (Placed e) → IsPlacedIn v n data_type [] e
+  placed_in e placed = record { file = r; is_file = k.file.file; no_name = is_data_name; stream = placed }
+
+  high : (e : Extents) → data_in r ≡ Some (Placed e) → e.initialised ≤ total_clusters e.runs * 4096
+  high e placed =
+      let sizes = sizes_are c g clusters v n data_type [] e k.stands (placed_in e placed) in
+      let one = sizes.initialised in
+      let two = sizes.real in
+      let three : e.allocated ≡ total_clusters e.runs * (512 * 8) = sizes.allocated ∙ ap (λ (p : ℕ). total_clusters e.runs * (512 * p)) eight in
+      omega (arith, one, two, three)
+
+  length_bits : length (cluster_bits c v) ≡ v.clusters
+  unfolding cluster_bits
+  length_bits = length-bits_of_bytes (bytes_or c v.per (cluster_bitmap v)) v.clusters
+
+  after_file : file_in w n ≡ Some (q c g clusters v s op n stamp a r x new k h)
+  after_file = q_file c g clusters v s op n stamp a r x new k h
+
+  few_data : total_clusters runs_now ≤ cluster_limit
+  few_data =
+      let most : total_clusters runs_now ≤ w.clusters =
+      few_runs (file_stream data_type [] (file_in w n)) runs_now w.clusters
+      (λ e is. few_there d g clusters w n data_type [] e h.draft.stands
+      (record { file = q c g clusters v s op n stamp a r x new k h; is_file = after_file; no_name = is_data_name; stream = sym (ap (file_stream data_type []) after_file) ∙ is })
+      (ap has_hole (sym is ∙ ap (file_stream data_type []) after_file) ∙ (q_user c g clusters v s op n stamp a r x new k h).whole))
+      (data_after c g clusters v s op n stamp a r x new k h)
+      in
+      let same = same_clusters c g clusters v s op n stamp a r x new k h in
+      let count = same_count in
+      let few = k.few in
+      omega (arith, most, same, count, few)
+
+  grows_are : (z : Resized) → Grows growth r z → AreSectors (GoesTo s n runs_now) (IsJudged v) runs_now (first_fresh z.extents)
+  grows_are z is i b at = (inr (inr (i, at)), λ lt. data_judged is.e i b is.placed (sym (grown_sector is.e growth.runs i spelled more_spelled room (high is.e is.placed) (omega (arith, lt, begun))) ∙ ap (λ (l : List Run). block_at 8 l Plain i) (sym runs) ∙ at) (omega (arith, lt, begun)))
+    where
+      runs : runs_now ≡ grown is.e.runs growth.runs
+      runs = sym is.takes.runs ∙ ap (λ (e : Extents). e.runs) is.grown.extents
+
+      begun : z.extents.initialised ≡ is.e.initialised
+      begun = ap (λ (e : Extents). e.initialised) is.grown.extents
+
+      total : total_clusters runs_now ≡ total_clusters is.e.runs + total_clusters growth.runs
+      total = ap total_clusters runs ∙ total-grown is.e.runs growth.runs
+
+      room : total_clusters is.e.runs + total_clusters growth.runs ≤ cluster_limit
+      room = (let few = few_data in let sum = total in omega (arith, few, sum))
+
+      spelled : HasSpelling 0 is.e.runs
+      spelled = (subst (StandsBelow clusters) is.placed k.has.stands).spelled
+
+      chosen_is : growth.runs ≡ chosen (cluster_bits c v) (last_cluster growth.old) (more_of growth)
+      chosen_is = (growth_is (cluster_bits c v) r op a).placed
+
+      few_bits : length (cluster_bits c v) ≤ cluster_limit
+      few_bits = (let long = length_bits in let count = same_count in let few = k.few in omega (arith, long, count, few))
+
+      few_more : total_clusters (chosen (cluster_bits c v) (last_cluster growth.old) (more_of growth)) ≤ cluster_limit
+      few_more = subst (λ (l : List Run). total_clusters l ≤ cluster_limit) chosen_is (let all = room in omega (arith, all))
+
+      more_spelled : HasSpelling 0 growth.runs
+      more_spelled = subst (HasSpelling 0) (sym chosen_is) (may_be_taken (cluster_bits c v) (cluster_bits c v) (last_cluster growth.old) (more_of growth) (λ y clear. clear) few_bits few_more).spelled
+
+  -- ---- what is touched
+
+  all_well : AllWell v s n runs_now new
+  all_well = change_well body v s n runs_now record_is bits_are c op a stamp r growth refl fresh_are grows_are stays_are x k.is [] new k.put tt
+
+  each : AllByRecursion (λ (p : NewBody). GoesTo s n runs_now p.block) h.bodies
+  each = all_same (GoesTo s n runs_now) h.bodies (bodies_of new) (λ b. sym (h.same b)) (goes_in (GoesTo s n runs_now) (IsWell (GoesTo s n runs_now) (IsJudged v)) new (λ t is. is.goes) all_well)
+
+  judged_of : (b : Block) → IsNeeded c v b → IsJudged v b
+  judged_of b (inl judged) = judged
+  judged_of b (inr listed) = listed_judged c v b listed (lists listed.number listed.file listed.is_file)
+
+  own : OwnRecord c v n r
+  own = own_record c g clusters v n r k.stands k.file.file (user_is c g clusters v s op n stamp a r x new k h).own.no_list
+
+  whole_record_at : (b : Block) → record_block 8 s.table n ≡ Some b → (c b).torn ≡ false
+  unfolding slot_of
+  whole_record_at b at =
+      let read : slot_of (c b) ≡ Used r = sym (record_read c v.per v.table n b (slot_begins c v n r own.slot) (lies_there b at)) ∙ own.slot in
+      (read_in_use (c b).torn (is_used (c b).bytes) (whole_record (c b).bytes) r read).0
+
+  whole_at : (b : Block) → GoesTo s n runs_now b → IsNeeded c v b → (c b).torn ≡ false
+  whole_at b (inl its) needed = whole_record_at b its
+  whole_at b (inr (inl bits)) needed = sectors_whole b (judged_of b needed) (sym (lies 8 s.bitmap.runs Plain bits.0 b bits.1).kind_is)
+  whole_at b (inr (inr there)) needed = sectors_whole b (judged_of b needed) (sym (lies 8 runs_now Plain there.0 b there.1).kind_is)
+
+  touches_well : (touched : List Touched) → All (IsOldOf c) touched → AllWell v s n runs_now touched → AllByRecursion (TouchesWell c v) touched
+  touches_well [] olds well = tt
+  touches_well (t ∷ touched) olds well = (
+    record {
+      spelled = well.0.spelled;
+      begun = well.0.begun;
+      whole = λ needed. sym (ap (λ (y : BodyOf). y.torn) (All-head (IsOldOf c) t touched olds)) ∙ whole_at t.block well.0.goes needed;
+    },
+    touches_well touched (All-tail (IsOldOf c) t touched olds) well.1,
+  )
+
+  lists_then : HasOwnLists d w
+  lists_then = lists_after c g clusters v s op n stamp a r x new k h each lists
+
+  -- ---- off the log
+
+  off : (b : Block) → GoesTo s n runs_now b → IsOffLog v b
+  off b goes = by (is_touched c g clusters v s op n stamp a r x new k h b goes)
+    where
+      per : w.per ≡ 8
+      per = w_per c g clusters v s op n stamp a r x new k h
+
+      other : (t : StreamKey) (i : ℕ) → ((t ≡ table_key) × (i ≡ n)) ⊎ ((t ≡ bitmap_key) ⊎ (t ≡ data_of n)) → t ≢ log_key
+      other t i (inl its) is = other_file table_key log_key (λ e. omega (arith, e)) (sym its.0 ∙ is)
+      other t i (inr (inl bits)) is = other_file bitmap_key log_key (λ e. omega (arith, e)) (sym bits ∙ is)
+      other t i (inr (inr there)) is = other_file (data_of n) log_key (λ e. other_number log_file (omega arith) (sym e)) (sym there ∙ is)
+
+      some_sectors : (y : BlockKind) → 0 < sectors y
+      some_sectors Plain = omega arith
+      some_sectors FileRec = omega arith
+      some_sectors Index = omega arith
+
+      by : IsTouched w n b → IsOffLog v b
+      by touched =
+          let first : b.first < b.first + sectors b.kind = (let some = some_sectors b.kind in omega (arith, some)) in
+          let used : 1 ≤ uses (runs_in (stream_at w touched.own.stream)) (b.first / 8) = subst (λ (p : ℕ). 1 ≤ uses (runs_in (stream_at w touched.own.stream)) (b.first / p)) per (lies_in_used w.per (runs_in (stream_at w touched.own.stream)) (stream_kind touched.own.stream) touched.own.number b h.draft.stands.some touched.own.lies b.first (omega arith, first)) in
+          let apart : uses (runs_in (stream_at w touched.own.stream)) (b.first / 8) + uses (runs_in (stream_at w log_key)) (b.first / 8) ≤ 1 = streams_apart w touched.own.stream log_key (w_once c g clusters v s op n stamp a r x new k h) (other touched.own.stream touched.own.number touched.which) (b.first / 8) in
+          let same : uses (runs_in (stream_at w log_key)) (b.first / 8) ≡ uses (runs_in (stream_at v log_key)) (b.first / 8) = ap (λ (l : List Run). uses l (b.first / 8)) (log_stays c g clusters v s op n stamp a r x new k h) in
+          let low = inside d g clusters w b.kind (cluster_of b) h.draft.stands (owned_as w b per touched.own) in
+          let count = same_clusters c g clusters v s op n stamp a r x new k h in
+          record { grid = in_grid w b per touched.own; inside = omega (arith, low, count); apart = omega (arith, used, apart, same) }
+
+  -- ---- all of it
+
+  kept_of : WriteKeeps c v h.bodies (changes_of new) w
+  kept_of = record {
+    keeps = subst (λ (xs : List Change). ChangesKeep c v h.bodies xs w) done.are
+        (keeps c g clusters v w h.bodies h.gave new changes k.sized k.eight k.stands h.draft h.same done (touches_well new done.olds all_well) (log_stays c g clusters v s op n stamp a r x new k h) lists
+        (λ b listed. inr (listed_judged d w b listed (lists_then listed.number listed.file listed.is_file))));
+    lists = lists_then;
+    upper = upper_stays c g clusters v s op n stamp a r x new k h each lists;
+    log = log_stays c g clusters v s op n stamp a r x new k h;
+    off = each_change (λ (y : Change). IsOffLog v y.block) new
+        (all_by (IsWell (GoesTo s n runs_now) (IsJudged v)) (λ (t : Touched). change_start t < change_end t → IsOffLog v t.block) (λ t is lt. off t.block is.goes) new all_well);
+  }
+
+  pub kept : WriteKeeps c v h.bodies changes w
+  kept = subst (λ (xs : List Change). WriteKeeps c v h.bodies xs w) (sym done.are) kept_of

@@ -1,0 +1,5 @@
+pub mod Spelled
+pub mod Touching
+pub mod Putting
+pub mod Behind
+pub mod Keeping
