@@ -5,3 +5,4 @@ mod Rebasing
 mod Doing
 mod Stepping
 mod Calling
+mod Readying

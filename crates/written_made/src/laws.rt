@@ -1,9 +1,11 @@
 //! The laws of these definitions.
 ghost use Rattle.written_made.specs.Made.{MadeIsDone};
+ghost use Rattle.written_made.specs.Ready.{AnyFileIsReady};
 ghost use Rattle.written_made.specs.Steps.{MadeIsStep};
 
 use change_steps::{changes_are_steps, drafts_are_written};
 use made_data::made_is_counted;
+use state_files::files_have_data;
 use written_clusters::leaving_is_done;
 use written_values::values_are_done;
 
@@ -26,4 +28,13 @@ pub fn made_is_step()
     made_is_done();
     drafts_are_written();
     changes_are_steps();
+}
+
+/// Law: what [`change_any_file`](crate::change_any_file) asks of the data of a file stands in a
+/// state, but for what the reader of its record has said of the record.
+pub fn any_file_is_ready()
+    ensures { AnyFileIsReady }
+{
+    made_is_counted();
+    files_have_data();
 }

@@ -13,4 +13,4 @@ pub use changing::{change_any_file, change_without_data};
 pub use file_changes::{
     ClusterSize, Draft, FileRec, FreeBits, Node, Op, View, VolumeStreams, WriteFault,
 };
-pub use laws::{made_is_done, made_is_step};
+pub use laws::{any_file_is_ready, made_is_done, made_is_step};
