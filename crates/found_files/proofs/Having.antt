@@ -2,7 +2,7 @@
 use Rattle.std.proofs.Common.{◌≡◌, ℕ, ◌+◌, ◌*◌, ◌<◌, ◌≤◌, ◌^◌, Bool, true, false, not, cond, leb, List, [], ◌∷◌, Option, Some, None, Ok, refl, sym, ap, subst, ◌∙◌, inl, inr, arith}
 use Rattle.std.specs.Prelude.{filter}
 use Rattle.std.specs.List.{sum_by, list_any}
-use Rattle.std.proofs.lemmas.Bool.{cases_Bool, leb-true}
+use Rattle.std.proofs.lemmas.Bool.{cases_Bool, and_parts, leb-true}
 use Rattle.std.proofs.lemmas.List.Sums.{sum_by-cons}
 use Rattle.host_base.specs.Answers.{◌>>=◌, needs}
 use Rattle.disk_model.specs.declared.block.Block.{Block}
@@ -20,25 +20,28 @@ use Rattle.state_model.specs.declared.stream.Extents.{Extents}
 use Rattle.state_model.specs.declared.stream.Stream.{Stream}
 use Rattle.state_model.specs.declared.stream.Stream.TheVariants.{Held, Placed}
 use Rattle.state_model.specs.Files.{has_type}
-use Rattle.state_model.specs.Loads.{Free, Used, slot_by, slot_at, slot_of, is_used, whole_record, has_all_pairs, judged, boot_block, no_extents, record_count, most_records, table_extents, extents_in, table_of}
+use Rattle.state_model.specs.Loads.{Free, Used, slot_by, slot_at, slot_of, is_used, whole_record, has_all_pairs, judged, boot_block, no_extents, total_clusters, record_count, most_records, table_extents, extents_in, table_of}
 use Rattle.state_model.specs.Streams.{is_attribute_of, attributes_of, joined, stream_of, block_at}
-use Rattle.volume_model.specs.Volumes.{Volume, file_in, size_or}
+use Rattle.volume_model.specs.Volumes.{Volume, file_in, file_stream, bitmap_file, size_or}
 use Rattle.volume_model.specs.Nodes.{valid_or, clusters_or}
-use Rattle.volume_model.specs.Sizes.{has_hole}
+use Rattle.volume_model.specs.Sizes.{has_hole, keeps_whole, keeps_streams}
 use Rattle.stream_laws.proofs.Rewriting.{volume_parts, count_is}
 use Rattle.stream_laws.proofs.Sharing.{attributes_sum}
 use Rattle.stream_laws.proofs.Tabling.{read_in_use, inside_list}
 use Rattle.tree_model.specs.declared.script.Op.{Op}
 use Rattle.plan_owners.specs.States.{Stands}
-use Rattle.plan_owners.proofs.Standing.{some_file}
+use Rattle.plan_owners.proofs.Standing.{some_file, streams_at}
+use Rattle.plan_model.proofs.Drafting.{per_is}
 use Rattle.plan_model.proofs.OneRecord.{own_record}
 use Rattle.plan_growth.proofs.Resizing.{slot_open}
 use Rattle.state_streams.specs.Streams.{IsPlacedIn, StreamsOfStates}
 use Rattle.state_files.specs.Files.{FilesHaveData}
 use Rattle.data_plan.specs.Changes.{data_in, ShowsData, HasData}
-use Rattle.made_data.specs.Made.{made_record, has_data}
+use Rattle.made_data.specs.Made.{with_empty_data, made_record, has_data}
 use Rattle.made_data.specs.Laws.{MadeIsCounted}
+use Rattle.made_data.proofs.Having.{made_fits, written_fits}
 use Rattle.file_puts.specs.declared.streams.VolumeStreams.{VolumeStreams}
+use Rattle.file_puts.specs.Written.{AreStreamsOf}
 use Rattle.file_writes.specs.Writing.{MayWrite}
 use Rattle.written_values.proofs.Owning.{IsOwned, is_owned}
 use Rattle.change_steps.specs.Ready.{FilesAreReady}
@@ -124,6 +127,34 @@ module _ (streams : StreamsOfStates) (c : Content) (g : Geometry) (clusters : �
   valid_low (Some (Held value)) is = omega arith
   valid_low (Some (Placed e)) is = (streams.sizes c g clusters v n data_type [] e state (there e is)).initialised
 
+-- ---- the bits of the clusters
+
+negated : (t : Bool) → not t ≡ true → t ≡ false
+negated true none = absurd cc
+negated false none = refl
+
+-- the data of $Bitmap has no sparse run
+bits_whole : (c : Content) (g : Geometry) (clusters : ℕ) (v : Volume) (r : Record) → Stands c g clusters v → file_in v bitmap_file ≡ Some r → has_hole (stream_of data_type [] r.attrs) ≡ false
+unfolding keeps_streams keeps_whole
+bits_whole c g clusters v r state file =
+    let holes = (and_parts _ _ (and_parts _ _ (and_parts _ _ (streams_at c g clusters v bitmap_file r state file)).0).0).1 in
+    negated (has_hole (stream_of data_type [] r.attrs)) (and_parts _ _ (and_parts _ _ holes).0).0
+
+file_by : (o : Option Record) (e : Extents) → file_stream data_type [] o ≡ Some (Placed e) → (r : Record) × (o ≡ Some r) × (stream_of data_type [] r.attrs ≡ Some (Placed e))
+file_by None e is = absurd cc
+file_by (Some r) e is = (r, refl, is)
+
+bits_low : StreamsOfStates → (c : Content) (g : Geometry) (clusters : ℕ) (v : Volume) (s : VolumeStreams) → Stands c g clusters v → g.per_cluster ≡ 8 → clusters ≤ cluster_limit → AreStreamsOf v s → s.bitmap.initialised < 2 ^ 63
+bits_low streams c g clusters v s state eight few k =
+    let e : Extents = s.bitmap in
+    let f = file_by (file_in v bitmap_file) e k.bitmap.stream in
+    let placed : IsPlacedIn v bitmap_file data_type [] e = record { file = f.0; is_file = f.1; no_name = λ same. omega (arith, same); stream = f.2 } in
+    let sizes = streams.sizes c g clusters v bitmap_file data_type [] e state placed in
+    let total = streams.total c g clusters v bitmap_file data_type [] e state placed (ap has_hole (sym f.2) ∙ bits_whole c g clusters v f.0 state f.1) in
+    let allocated : e.allocated ≡ total_clusters e.runs * (512 * 8) = sizes.allocated ∙ ap (λ (per : ℕ). total_clusters e.runs * (512 * per)) (per_is c g clusters v eight state) in
+    let count = (volume_parts c g clusters v state.loaded).count in
+    omega (arith, sizes.initialised, sizes.real, allocated, total, count, few)
+
 -- ---- all of it
 
 module _ (ready : FilesAreReady) (counted : MadeIsCounted) (files : FilesHaveData) (streams : StreamsOfStates) (c : Content) (g : Geometry) (clusters : ℕ) (v : Volume) (s : VolumeStreams) (op : Op) (node a : Node) (r : Record) (k : IsFoundFile c g clusters v s op node a r) where
@@ -188,4 +219,6 @@ found_may_write ready counted files streams = record {
   few = few_parts;
   has = may_there ready counted files streams;
   made = may_made ready counted files streams;
+  fits = λ r fits few. written_fits (with_empty_data r) (made_fits r fits few);
+  bits = bits_low streams;
 }

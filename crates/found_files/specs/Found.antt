@@ -19,6 +19,7 @@ use Rattle.plan_changes.specs.Files.{IsChangeable}
 use Rattle.data_plan.specs.Changes.{data_in}
 use Rattle.made_data.specs.Made.{made_record, has_data}
 use Rattle.file_puts.specs.declared.streams.VolumeStreams.{VolumeStreams}
+use Rattle.file_puts.specs.Written.{AreStreamsOf}
 use Rattle.file_writes.specs.Writing.{MayWrite}
 use Rattle.change_steps.specs.Found.{HasChange, Finds}
 
@@ -38,9 +39,11 @@ pub record IsFoundFile (c : Content) (g : Geometry) (clusters : ℕ) (v : Volume
   pub few : clusters + 2 ^ 15 ≤ cluster_limit
   pub bitmap : s.bitmap.initialised < 2 ^ 63
 
--- A file of a state that has no attribute list has few parts. One that an operation was found to write or cut may be written, and where it
--- has no unnamed data, with its record as that is made.
+-- A file of a state that has no attribute list has few parts, and the bits of its clusters have few bytes. A file that an operation was found to
+-- write or cut may be written, and where it has no unnamed data, with its record as that is made, which has a spelling but for its room too.
 pub record FoundMayWrite : Type 0 where
   pub few : (c : Content) (g : Geometry) (clusters : ℕ) (v : Volume) (n : ℕ) (r : Record) → Stands c g clusters v → file_in v n ≡ Some r → has_type attribute_list r ≡ false → HasFewParts r
   pub has : (c : Content) (g : Geometry) (clusters : ℕ) (v : Volume) (s : VolumeStreams) (op : Op) (node a : Node) (r : Record) → IsFoundFile c g clusters v s op node a r → has_data r ≡ true → MayWrite clusters node.number s r op node
   pub made : (c : Content) (g : Geometry) (clusters : ℕ) (v : Volume) (s : VolumeStreams) (op : Op) (node a : Node) (r : Record) → IsFoundFile c g clusters v s op node a r → has_data r ≡ false → MayWrite clusters node.number s (made_record r) op node
+  pub fits : (r : Record) → FitsButRoom r → length r.attrs < 2 ^ 10 → FitsButRoom (made_record r)
+  pub bits : (c : Content) (g : Geometry) (clusters : ℕ) (v : Volume) (s : VolumeStreams) → Stands c g clusters v → g.per_cluster ≡ 8 → clusters ≤ cluster_limit → AreStreamsOf v s → s.bitmap.initialised < 2 ^ 63

@@ -7,7 +7,8 @@ use state_files::files_have_data;
 use state_streams::streams_of_states;
 
 /// Law: a file that an operation was found to write or cut, in a state without a change journal, is
-/// what the call that does it asks for, as it stands or with unnamed data made.
+/// what the call that does it asks for, as it stands or with unnamed data made; so
+/// [`may_write`](crate::may_write) is true of it.
 pub fn found_may_write()
     ensures { FoundMayWrite }
 {
