@@ -1,19 +1,17 @@
 -- What a store's steps make of its claims, and what its images recover to where they claim.
-use Rattle.std.proofs.Common.{◌≡◌, ℕ, ◌-◌, Bool, true, false, List, length, drop, refl, sym, ◌∙◌, ap, ap₂, subst}
-use Rattle.std.specs.Prelude.{◌&&◌, ◌||◌, not}
+use Rattle.std.proofs.Common.{◌≡◌, ℕ, Bool, true, false, List, length, refl, sym, ◌∙◌, ap, ap₂, subst}
 use mathlib.Core.Path.{fun_ext}
 use Rattle.disk_model.specs.declared.block.Block.{Block}
 use Rattle.disk_model.specs.Content.{content_of}
 use Rattle.fixup_record.specs.Spellings.{has_spelling}
-use Rattle.sector_device.specs.Disks.{Disk}
 use Rattle.log_model.specs.declared.entry.Entry.{Entry}
 use Rattle.log_model.specs.Logs.{is_shadowed, is_other, is_written_out}
-use Rattle.store_model.specs.Geometry.{SectorBytes, CanLeave, Geometry}
+use Rattle.store_model.specs.Geometry.{SectorBytes, Geometry}
 use Rattle.store_model.specs.Stores.{Window, Store, member, list_of, IsSound}
 use Rattle.store_model.specs.Volumes.{is_known, content_with, IsVolume, AreWhole, RecoversToContent}
 use Rattle.store_model.specs.Events.{after_begin, checkpoint_begun}
 use Rattle.store_model.specs.Events.Step.{begin, begin_checkpoint}
-use Rattle.store_claims.specs.Claims.{claims_in, claims_with, claims, will, ClaimWindow, claims_of, commits_behind}
+use Rattle.store_claims.specs.Claims.{claims, will, ClaimWindow, claims_of, commits_behind}
 use Rattle.store_claims.specs.Moves.{ClaimsStay}
 use Rattle.store_claims.specs.Laws.{RecoversClaimed}
 use Rattle.store_claims.specs.Windows.{StoreWindow, store_window}

@@ -254,13 +254,17 @@ module _ (f : StoreFacts) (disk : Disk) (m : Store) (opened : f.is_open ≡ true
   ]
 
   pub gives_up : (n : Store) × StandsBehind (given_up_facts f) disk n × AfterGiveUp (store_window m) (store_window n)
-  gives_up = (given_up h.geometry m, stands, record {
-    present = windows_move_law.give_up m.window;
-    is_open = refl;
-    waiting = refl;
-    others = λ k b. refl;
-    claimed = claims_move.step h.geometry m (given_up h.geometry m) (give_up (h.window.is_open ∙ opened)) h.sound;
-  })
+  gives_up = (
+    given_up h.geometry m,
+    stands,
+    record {
+      present = windows_move_law.give_up m.window;
+      is_open = refl;
+      waiting = refl;
+      others = λ k b. refl;
+      claimed = claims_move.step h.geometry m (given_up h.geometry m) (give_up (h.window.is_open ∙ opened)) h.sound;
+    },
+  )
     where
       stands : StandsBehind g disk n
       stands = record {

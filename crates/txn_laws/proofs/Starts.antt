@@ -1,5 +1,5 @@
 -- A store at its start, on a log without entries.
-use Rattle.std.proofs.Common.{◌≡◌, subst, ℕ, ◌-◌, ◌*◌, Bool, true, false, List, [], length, Option, Some, refl, sym, ap, ◌∙◌, arith}
+use Rattle.std.proofs.Common.{◌≡◌, subst, ℕ, ◌-◌, ◌*◌, true, false, List, [], length, Option, Some, refl, sym, ap, ◌∙◌, arith}
 use Rattle.std.specs.Prelude.{slice_index, IfSome}
 use Rattle.std.proofs.lemmas.List.{ext_get_or, length-replicate}
 use Rattle.disk_model.specs.declared.block.Block.{Block}
