@@ -7,7 +7,7 @@ use Rattle.disk_model.specs.declared.block.Block.{Block}
 use Rattle.disk_model.specs.declared.block.Body.{Body}
 use Rattle.sector_device.specs.Moments.{Changes}
 use Rattle.log_page.specs.declared.places.LogPlace.{LogPlace}
-use Rattle.store_model.specs.Volumes.{ContentWindow}
+use Rattle.store_claims.specs.Windows.{StoreWindow}
 use Rattle.block_pool.specs.Pools.{held}
 use Rattle.txn_model.specs.Values.{StoreFacts}
 use Rattle.txn_model.specs.Calls.{given_up_facts, is_buried, written_facts, synced_facts}
@@ -22,7 +22,7 @@ use Rattle.txn_core.specs.Seen.{Seen, StandsOn, TakesStep}
 
 -- ---- from the fields to what contracts see
 
-pub step_of : {D : Type 0} (count moment : D → ℕ) (changes : D → Changes) (After : Seen D → ContentWindow → ContentWindow → Type 0) (old seen new : Seen D) (g : StoreFacts) → old ≡ seen → facts_of new.state ≡ g
+pub step_of : {D : Type 0} (count moment : D → ℕ) (changes : D → Changes) (After : Seen D → StoreWindow → StoreWindow → Type 0) (old seen new : Seen D) (g : StoreFacts) → old ≡ seen → facts_of new.state ≡ g
     → Simulates (count old.device) (moment old.device) (changes old.device) (changes new.device) (facts_of old.state) g (After old) → TakesStep count moment changes (After seen) seen new
 step_of {D} count moment changes After old seen new g is facts step =
     subst (λ (s : Seen D). TakesStep count moment changes (After s) s new) is
@@ -33,7 +33,7 @@ facts_seen {D} after old seen new is facts = facts ∙ ap (λ (s : Seen D). afte
 
 -- ---- what is always so
 
-pub stands_after : (count later moment : ℕ) (old now : Changes) (before after : StateOf) (words left : List (Block × CheckWord)) (g : StoreFacts) (After : ContentWindow → ContentWindow → Type 0)
+pub stands_after : (count later moment : ℕ) (old now : Changes) (before after : StateOf) (words left : List (Block × CheckWord)) (g : StoreFacts) (After : StoreWindow → StoreWindow → Type 0)
     → later ≡ count → StandsOn count old before words → facts_of after ≡ g → Simulates count moment old now (facts_of before) g After → IsKept g
     → ((b : Block) → is_some (g.body b) ≡ true → is_some (held left b) ≡ true) → ((b : Block) → IfSome (held left b) IsFitWord) → StandsOn later now after left
 stands_after count later moment old now before after words left g After same stands facts step kept worded fit =

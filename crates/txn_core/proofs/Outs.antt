@@ -12,7 +12,8 @@ use Rattle.sector_device.specs.Disks.{Disk, IsSized, SeesDisk, is_within}
 use Rattle.sector_device.specs.Sectors.{IsDiskOf, sectors_of}
 use Rattle.sector_device.specs.Moments.{moment_after, Changes}
 use Rattle.log_area.specs.Calls.{IsAsked, sending_moment}
-use Rattle.store_model.specs.Volumes.{ContentWindow, sectors_from}
+use Rattle.store_model.specs.Volumes.{sectors_from}
+use Rattle.store_claims.specs.Windows.{StoreWindow}
 use Rattle.block_pool.specs.Pools.{held, with_block, without_block}
 use Rattle.block_pool.proofs.LookUps.{looks_up}
 use Rattle.txn_model.specs.Values.{StoreFacts}
@@ -32,11 +33,19 @@ use Rattle.txn_core.specs.Calls.{failed_out_facts, spelled_or_not, is_spelled, o
 
 -- ---- windows
 
-moves_same : (lost : Block → Bool) (w : ContentWindow) → MovesTo lost w w
-moves_same lost w = record { is_open = refl; waiting = omega arith; present = λ b stays. refl; others = λ k le b stays. refl }
+moves_same : (lost : Block → Bool) (w : StoreWindow) → MovesTo lost w w
+moves_same lost w = record {
+  is_open = refl;
+  waiting = omega arith;
+  present = λ b stays. refl;
+  others = λ k le b stays. refl;
+  claimed = record { claims = λ k b h. h; will = λ b h. h };
+  shown = λ b h. refl;
+  kept = λ k le b h. refl;
+}
 
-moves_after : (lost : Block → Bool) (w v : ContentWindow) → AfterWrite w v → MovesTo lost w v
-moves_after lost w v after = subst (λ (u : ContentWindow). MovesTo lost w u) (sym after.same) (moves_same lost w)
+moves_after : (lost : Block → Bool) (w v : StoreWindow) → AfterWrite w v → MovesTo lost w v
+moves_after lost w v after = subst (λ (u : StoreWindow). MovesTo lost w u) (sym after.same) (moves_same lost w)
 
 loosely : (count moment : ℕ) (old now : Changes) (f g : StoreFacts) (lost : Block → Bool) → Simulates count moment old now f g AfterWrite → Simulates count moment old now f g (MovesTo lost)
 loosely count moment old now f g lost step = record {
@@ -48,7 +57,7 @@ loosely count moment old now f g lost step = record {
 }
 
 -- nothing is said of a device that isn't known
-pub unseen : (count moment : ℕ) (old now : Changes) (f g : StoreFacts) (After : ContentWindow → ContentWindow → Type 0) → SeesDisk None old.disk → ((e : Disk) → now.disk ≡ Some e → (d : Disk) × (old.disk ≡ Some d))
+pub unseen : (count moment : ℕ) (old now : Changes) (f g : StoreFacts) (After : StoreWindow → StoreWindow → Type 0) → SeesDisk None old.disk → ((e : Disk) → now.disk ≡ Some e → (d : Disk) × (old.disk ≡ Some d))
     → g.place ≡ f.place → g.found ≡ f.found → Simulates count moment old now f g After
 unseen count moment old now f g After sees known place found = record { known = known; place = place; found = found; steps = λ w has. absurd (subst (λ (o : Option Disk). SeesDisk None o) has.1 sees); laps = λ w has t image le left. absurd (subst (λ (o : Option Disk). SeesDisk None o) has.1 sees) }
 

@@ -5,7 +5,7 @@ use Rattle.disk_model.specs.declared.block.Block.{Block}
 use Rattle.disk_model.specs.declared.block.Body.{Body}
 use Rattle.fixup_record.specs.Spellings.{has_spelling}
 use Rattle.sector_device.specs.Moments.{Changes}
-use Rattle.store_model.specs.Volumes.{ContentWindow}
+use Rattle.store_claims.specs.Windows.{StoreWindow}
 use Rattle.block_pool.specs.Pools.{with_block, without_block}
 use Rattle.txn_model.specs.Values.{StoreFacts}
 use Rattle.txn_model.specs.Calls.{written_facts, is_buried, synced_facts, written_out_facts, sent_out_facts, again_facts}
@@ -26,7 +26,7 @@ sync_facts (Ok x) f = synced_facts f
 sync_facts (Err e) f = f
 
 -- and the window: the dead bodies leave whose killers the sync made durable
-abbrev pub AfterSync : Result (Unit {0}) Failed → StoreFacts → ContentWindow → ContentWindow → Type 0
+abbrev pub AfterSync : Result (Unit {0}) Failed → StoreFacts → StoreWindow → StoreWindow → Type 0
 AfterSync (Ok x) f = MovesTo (λ b. is_buried f.log.done (f.mark b))
 AfterSync (Err e) f = AfterWrite
 

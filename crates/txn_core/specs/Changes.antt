@@ -12,7 +12,8 @@ use Rattle.block_view.specs.declared.fault.ViewFault.TheVariants.{Fault as ViewF
 use Rattle.txn_core.specs.declared.fault.ChangeFault.{ChangeFault}
 use Rattle.txn_core.specs.declared.fault.ChangeFault.TheVariants.{Fault, Memory, Unspelled}
 use Rattle.block_pool.specs.Pools.{with_block}
-use Rattle.store_model.specs.Volumes.{is_known, ContentWindow}
+use Rattle.store_model.specs.Volumes.{is_known}
+use Rattle.store_claims.specs.Windows.{StoreWindow}
 use Rattle.txn_model.specs.Values.{StoreFacts, own_of}
 use Rattle.txn_model.specs.Appending.{MayAppendAll}
 use Rattle.txn_model.specs.Calls.{change_acts, changed_facts, given_up_facts}
@@ -71,7 +72,7 @@ HasChanged (Ok u) gives f g c at new = (x : Body) × IsPresent gives f c x × (g
 HasChanged (Err e) gives f g c at new = g ≡ given_up_facts f
 
 -- and the window after either
-abbrev pub AfterChanging : Result (Unit {0}) ChangeFault → Block → ℕ → List ℕ → ContentWindow → ContentWindow → Type 0
+abbrev pub AfterChanging : Result (Unit {0}) ChangeFault → Block → ℕ → List ℕ → StoreWindow → StoreWindow → Type 0
 AfterChanging (Ok u) c at new = AfterChange c at new
 AfterChanging (Err e) c at new = AfterGiveUp
 

@@ -2,7 +2,7 @@
 use Rattle.std.specs.Prelude.{◌≡◌, ◌≤◌, ℕ, true, List, is_some, IfSome, unwrap_or}
 use Rattle.disk_model.specs.declared.block.Block.{Block}
 use Rattle.sector_device.specs.Moments.{Changes}
-use Rattle.store_model.specs.Volumes.{ContentWindow}
+use Rattle.store_claims.specs.Windows.{StoreWindow}
 use Rattle.block_pool.specs.Pools.{held}
 use Rattle.txn_state.specs.States.{StateOf, facts_of}
 use Rattle.txn_core.specs.Kept.{IsKept}
@@ -30,5 +30,5 @@ pub record StandsOn (count : ℕ) (changes : Changes) (state : StateOf) (words :
   pub machine : HasMachine changes (facts_of state)
 
 -- whatever window the store had, it has one that follows
-abbrev pub TakesStep : {D : Type 0} → (D → ℕ) → (D → ℕ) → (D → Changes) → (ContentWindow → ContentWindow → Type 0) → Seen D → Seen D → Type 0
+abbrev pub TakesStep : {D : Type 0} → (D → ℕ) → (D → ℕ) → (D → Changes) → (StoreWindow → StoreWindow → Type 0) → Seen D → Seen D → Type 0
 TakesStep count moment changes After old new = Simulates (count old.device) (moment old.device) (changes old.device) (changes new.device) (facts_of old.state) (facts_of new.state) After

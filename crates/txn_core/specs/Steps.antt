@@ -7,7 +7,7 @@ use Rattle.fixup_record.specs.Protecting.{protected_bytes}
 use Rattle.sector_device.specs.Moments.{moment_after, Changes, Syncs}
 use Rattle.log_area.specs.Areas.{is_filling, page_sector, held_page, made_page}
 use Rattle.log_area.specs.Calls.{IsSentOrNot}
-use Rattle.store_model.specs.Volumes.{ContentWindow}
+use Rattle.store_claims.specs.Windows.{StoreWindow}
 use Rattle.flush_policy.specs.declared.facts.StoreStep.{StoreStep}
 use Rattle.flush_policy.specs.declared.facts.StoreStep.TheVariants.{SealPage, WritePage, SyncDevice, WriteOut, BeginCheckpoint, WriteRestart}
 use Rattle.txn_model.specs.Values.{StoreFacts}
@@ -46,7 +46,7 @@ TurnsDevice gives changes moment BeginCheckpoint result f g words left old new =
 TurnsDevice gives changes moment WriteRestart result f g words left old new = SendsRestartPage gives changes moment false f g result old new
 
 -- and of its window
-abbrev pub AfterTurn : StoreStep → Result (Unit {0}) Failed → StoreFacts → ContentWindow → ContentWindow → Type 0
+abbrev pub AfterTurn : StoreStep → Result (Unit {0}) Failed → StoreFacts → StoreWindow → StoreWindow → Type 0
 AfterTurn SealPage result f = AfterWrite
 AfterTurn WritePage result f = AfterWrite
 AfterTurn SyncDevice result f = AfterSync result f

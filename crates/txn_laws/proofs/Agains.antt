@@ -37,6 +37,7 @@ use Rattle.txn_laws.specs.Windows.{Simulates, AfterWrite}
 use Rattle.txn_laws.specs.Laws.{SendsAgain}
 use Rattle.txn_laws.proofs.Telling.{by_device, known_before_write, sized_of}
 use Rattle.txn_laws.proofs.PageWrites.{page_is_own}
+use Rattle.txn_laws.proofs.Claiming.{after_step}
 
 module _ (f : StoreFacts) (disk : Disk) (m : Store) (b : Block) (x : Body) (kept : f.body b ≡ Some x) (dirty : (f.mark b).dirty ≡ true) (free : is_some (f.before b) ≡ false) (bare : has_spelling b.kind x.bytes ≡ false) (h : StandsBehind f disk m)
     (bytes : List ℕ) (size : length bytes ≡ 512 * sectors b.kind) (same_sectors : (n : ℕ) → is_within b.first (sectors b.kind) n ≡ true → sectors_from b.first (sectors_of bytes) n ≡ seen disk n) where
@@ -233,7 +234,7 @@ module _ {D : Type 0} (gives : D → Option (List (List ℕ))) (changes : D → 
       (λ disk m is h.
       let now = known_after_write _ _ _ _ (changes old) (changes new) disk sent.writes is in
       let stood = as_seen (gives old) (changes old).disk disk (sectors_of bytes) b.first (sectors b.kind) is sees same in
-      (now.0, now.1, n f disk m b x kept dirty free bare h bytes size stood now.0, goes_again f disk m b x kept dirty free bare h bytes size stood now.0 now.2 (sized_of (changes new) now.0 now.1 sized), record { same = refl }))
+      (now.0, now.1, n f disk m b x kept dirty free bare h bytes size stood now.0, goes_again f disk m b x kept dirty free bare h bytes size stood now.0 now.2 (sized_of (changes new) now.0 now.1 sized), after_step m (n f disk m b x kept dirty free bare h bytes size stood now.0) refl refl refl refl refl))
 
   pub is_not_written_again : (fault : Failed) → SendsAgain gives changes moment begun b bytes (Err fault) old new → Simulates count (moment old) (changes old) (changes new) f f AfterWrite
   is_not_written_again fault sent =
@@ -241,4 +242,4 @@ module _ {D : Type 0} (gives : D → Option (List (List ℕ))) (changes : D → 
       (λ disk m is h.
       let now = known_after_write _ _ _ _ (changes old) (changes new) disk sent.writes is in
       let stood = as_seen (gives old) (changes old).disk disk (sectors_of bytes) b.first (sectors b.kind) is sees same in
-      (now.0, now.1, n f disk m b x kept dirty free bare h bytes size stood now.0, on_disk f disk m b x kept dirty free bare h bytes size stood now.0 now.2 (sized_of (changes new) now.0 now.1 sized), record { same = refl }))
+      (now.0, now.1, n f disk m b x kept dirty free bare h bytes size stood now.0, on_disk f disk m b x kept dirty free bare h bytes size stood now.0 now.2 (sized_of (changes new) now.0 now.1 sized), after_step m (n f disk m b x kept dirty free bare h bytes size stood now.0) refl refl refl refl refl))

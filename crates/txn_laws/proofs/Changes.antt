@@ -27,7 +27,8 @@ use Rattle.store_model.specs.Stores.{Window, Store}
 use Rattle.store_model.specs.Events.{after_change, after_changes, AreChanges, Fills, Refills, MayChange, changed_store, Step}
 use Rattle.store_model.specs.Events.Step.{change}
 use Rattle.store_model.specs.Rings.{entries_on}
-use Rattle.store_model.specs.Volumes.{is_known, first_bytes, window_of, AreWhole}
+use Rattle.store_model.specs.Volumes.{is_known, first_bytes, AreWhole}
+use Rattle.store_claims.specs.Windows.{store_window}
 use Rattle.store_model.proofs.Told.{true≢false, all_append, or_left, or_right, or-true, or-false, ends_own, same_self, rivals_both, rivals_other, rival_apart, updates_is, rival_is}
 use Rattle.store_model.proofs.Lost.{has_update-append, updates_only, updates_some, ousted_now}
 use Rattle.store_model.proofs.Pieces.{are_updates, ends-updates, body_elsewhere, draft_changes, changes_same}
@@ -52,6 +53,7 @@ use Rattle.txn_laws.proofs.Growing.{all_dropped}
 use Rattle.txn_laws.proofs.Cutting.{IsPiece, cut_within, Has, cut_has, cut_some, are_changes, stays_after, gets_after, has_undo}
 use Rattle.txn_laws.proofs.Mountable.{placed_pieces}
 use Rattle.txn_laws.proofs.Chains.{by_all, by_some, by_page, by_killed, Chained, chain}
+use Rattle.store_claims.proofs.Moving.{claims_move}
 
 -- a disk of whole sectors is read as such
 pub seen_whole : (disk : Disk) → IsSized disk → AreWhole (seen disk)
@@ -564,18 +566,19 @@ module _ (f : StoreFacts) (disk : Disk) (m : Store) (c : Block) (at : ℕ) (new 
       let e = same_mark (λ (x : Mark). x.commit) (λ x. refl) (λ x. refl) b in
       omega (arith, e, h.by_pages.commit b k (omega (arith, lt, ap (λ (ws : List (List Entry)). length ws) same_waiting)) (ap (λ (ws : List (List Entry)). has_update (get_or ws k []) b) (sym same_waiting) ∙ has))
 
-  pub changes_well : (n : Store) × StandsBehind (changed_facts c at new present f) disk n × AfterChange c at new (window_of m.window) (window_of n.window)
+  pub changes_well : (n : Store) × StandsBehind (changed_facts c at new present f) disk n × AfterChange c at new (store_window m) (store_window n)
   changes_well = (n, stands, follows)
     where
-      follows : AfterChange c at new (window_of m.window) (window_of n.window)
+      follows : AfterChange c at new (store_window m) (store_window n)
       follows = record {
         bytes = sym body_is ∙ ap (λ (bs : List ℕ). written at new bs) now.bytes;
         torn = windows_move_law.whole h.geometry m c us may_change;
         elsewhere = λ b none. windows_move_law.present h.geometry m n step h.sound b none;
         is_open = same_open m.window us ∙ h.window.is_open ∙ opened;
         waiting = ap (λ (ws : List (List Entry)). length ws) same_waiting;
-        others = λ k le b. subst (λ (j : ℕ). (window_of n.window).before j b ≡ (window_of m.window).before k b) (let e : 0 + k ≡ k = omega arith in e)
+        others = λ k le b. subst (λ (j : ℕ). (store_window n).before j b ≡ (store_window m).before k b) (let e : 0 + k ≡ k = omega arith in e)
             (windows_move_law.members h.geometry m n step b refl k (omega (arith, le))).1;
+        claimed = claims_move.step h.geometry m n step h.sound;
       }
 
       stands : StandsBehind g disk n

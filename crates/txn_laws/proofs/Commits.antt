@@ -15,7 +15,7 @@ use Rattle.store_model.specs.Geometry.{Geometry}
 use Rattle.store_model.specs.Stores.{Window, Store, Tells}
 use Rattle.store_model.specs.Events.{after_commit}
 use Rattle.store_model.specs.Events.Step.{commit}
-use Rattle.store_model.specs.Volumes.{window_of}
+use Rattle.store_claims.specs.Windows.{store_window}
 use Rattle.store_model.proofs.Told.{true≢false, all_append, ends-commit, said_unnamed, names_more, apart}
 use Rattle.store_model.proofs.Lost.{has_update-append}
 use Rattle.store_model.proofs.Sound.{sound-step}
@@ -32,6 +32,7 @@ use Rattle.txn_laws.specs.Standing.{IsMarked, IsImaged, IsKilled, TellsEnds, Sta
 use Rattle.txn_laws.specs.Windows.{AfterCommit}
 use Rattle.txn_laws.proofs.Growing.{Grows, pages_grow, placed}
 use Rattle.txn_laws.proofs.Appended.{still_some, on_page, still_killed, stands_more, holds_more, ends_more}
+use Rattle.store_claims.proofs.Moving.{claims_move}
 
 -- a block that stands whole in a list does so with a commit behind it
 imaged_behind : (geometry : Geometry) (w : Window) (l : List Entry) (d lsn previous : ℕ) (b : Block) → Tells geometry w l d → IsImaged w l b → IsImaged (after_commit w) (l ++ commit_by lsn previous w.tx ∷ []) b
@@ -106,8 +107,8 @@ module _ (f : StoreFacts) (disk : Disk) (m : Store) (opened : f.is_open ≡ true
     | inr (last, own) ↦ absurd (true≢false (sym own))
   ]
 
-  pub commits_now : (n : Store) × StandsBehind (committed_facts f) disk n × AfterCommit (window_of m.window) (window_of n.window)
-  commits_now = (n, stands, record { present = refl; is_open = refl; waiting = refl; newest = windows_move_law.commit m.window; others = λ k b. refl })
+  pub commits_now : (n : Store) × StandsBehind (committed_facts f) disk n × AfterCommit (store_window m) (store_window n)
+  commits_now = (n, stands, record { present = refl; is_open = refl; waiting = refl; newest = windows_move_law.commit m.window; others = λ k b. refl; claimed = claims_move.step h.geometry m n (commit e.lsn f.last (h.window.is_open ∙ opened)) h.sound })
     where
       stands : StandsBehind g disk n
       stands = record {

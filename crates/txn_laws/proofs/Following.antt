@@ -5,7 +5,8 @@ use Rattle.std.proofs.lemmas.Bool.{cases_lt}
 use Rattle.disk_model.specs.declared.block.Block.{Block}
 use Rattle.log_page.specs.declared.places.LogPlace.{LogPlace}
 use Rattle.store_model.specs.Geometry.{SectorBytes}
-use Rattle.store_model.specs.Volumes.{ContentWindow, IsRecovered}
+use Rattle.store_model.specs.Volumes.{IsRecovered}
+use Rattle.store_claims.specs.Windows.{StoreWindow}
 use Rattle.disk_model.specs.declared.block.Body.{Body}
 use Rattle.disk_model.specs.Content.{Content}
 use Rattle.log_model.specs.declared.entry.Entry.{Entry}
@@ -14,28 +15,28 @@ use Rattle.txn_laws.specs.Windows.{RecoversWithin, AfterBegin, AfterCommit, Afte
 use Rattle.txn_laws.specs.Following.{Follows, RecoversSince, WindowsFollow}
 
 -- a content by its number, where the number is known otherwise
-at_number : (w : ContentWindow) (j k : ℕ) (b : Block) → j ≡ k → w.before j b ≡ w.before k b
+at_number : (w : StoreWindow) (j k : ℕ) (b : Block) → j ≡ k → w.before j b ≡ w.before k b
 at_number w j k b is = ap (λ (i : ℕ). w.before i b) is
 
-stays : (lost : Block → Bool) (old new : ContentWindow) → new.waiting ≤ old.waiting → ((k : ℕ) → k ≤ new.waiting → (b : Block) → lost b ≡ false → new.before k b ≡ old.before k b) → Follows 0 lost old new
+stays : (lost : Block → Bool) (old new : StoreWindow) → new.waiting ≤ old.waiting → ((k : ℕ) → k ≤ new.waiting → (b : Block) → lost b ≡ false → new.before k b ≡ old.before k b) → Follows 0 lost old new
 stays lost old new few same = record {
   waiting = omega (arith, few);
   others = λ k b le spared. (omega (arith, le, few), at_number new (0 + k) k b (omega arith) ∙ same k (omega (arith, le)) b spared);
 }
 
-written : (old new : ContentWindow) → AfterWrite old new → Follows 0 (λ b. false) old new
-written old new after = subst (λ (w : ContentWindow). Follows 0 (λ b. false) old w) (sym after.same) (stays (λ b. false) old old (omega arith) (λ k le b spared. refl))
+written : (old new : StoreWindow) → AfterWrite old new → Follows 0 (λ b. false) old new
+written old new after = subst (λ (w : StoreWindow). Follows 0 (λ b. false) old w) (sym after.same) (stays (λ b. false) old old (omega arith) (λ k le b spared. refl))
 
-begun : (old new : ContentWindow) → AfterBegin old new → Follows 0 (λ b. false) old new
-begun old new after = subst (λ (w : ContentWindow). Follows 0 (λ b. false) old w) (sym after.same) (stays (λ b. false) old (record old { is_open = true }) (omega arith) (λ k le b spared. refl))
+begun : (old new : StoreWindow) → AfterBegin old new → Follows 0 (λ b. false) old new
+begun old new after = subst (λ (w : StoreWindow). Follows 0 (λ b. false) old w) (sym after.same) (stays (λ b. false) old (record old { is_open = true }) (omega arith) (λ k le b spared. refl))
 
-committed : (old new : ContentWindow) → AfterCommit old new → Follows 1 (λ b. false) old new
+committed : (old new : StoreWindow) → AfterCommit old new → Follows 1 (λ b. false) old new
 committed old new after = record {
   waiting = omega (arith, after.waiting);
   others = λ k b le spared. (omega (arith, le, after.waiting), at_number new (1 + k) (suc k) b (omega arith) ∙ after.others k b);
 }
 
-one_behind : (m n : ℕ) (lost gone : Block → Bool) (old mid new : ContentWindow) → Follows m lost old mid → Follows n gone mid new → Follows (n + m) (λ b. lost b || gone b) old new
+one_behind : (m n : ℕ) (lost gone : Block → Bool) (old mid new : StoreWindow) → Follows m lost old mid → Follows n gone mid new → Follows (n + m) (λ b. lost b || gone b) old new
 one_behind m n lost gone old mid new first second = record {
   waiting = omega (arith, first.waiting, second.waiting);
   others = λ k b le spared.
@@ -44,7 +45,7 @@ one_behind m n lost gone old mid new first second = record {
       (early.0, at_number new (n + m + k) (n + (m + k)) b (omega arith) ∙ late.1 ∙ early.1);
 }
 
-recovers_since : (place : LogPlace) (own : ℕ → Bool) (commits : ℕ) (lost : Block → Bool) (old new : ContentWindow) (image : SectorBytes) → Follows commits lost old new → RecoversWithin place own new image
+recovers_since : (place : LogPlace) (own : ℕ → Bool) (commits : ℕ) (lost : Block → Bool) (old new : StoreWindow) (image : SectorBytes) → Follows commits lost old new → RecoversWithin place own new image
     → RecoversSince place own commits lost old new image
 recovers_since place own commits lost old new image follows x = record {
   restart = x.restart;

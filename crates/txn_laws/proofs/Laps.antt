@@ -18,7 +18,7 @@ use Rattle.log_area.specs.Areas.{LogAreaOf, IsLogArea, ring_size, lap_at, next_n
 use Rattle.log_area.proofs.Numbering.{next_inside}
 use Rattle.store_model.specs.Rings.{Restarts}
 use Rattle.store_model.specs.Stores.{Store}
-use Rattle.store_model.specs.Volumes.{ContentWindow}
+use Rattle.store_claims.specs.Windows.{StoreWindow}
 use Rattle.store_model.proofs.Told.{true≢false}
 use Rattle.ring_laws.specs.Numbers.{LogSession, lap_of_page}
 use Rattle.ring_laws.specs.PageBytes.{raw_page}
@@ -101,7 +101,7 @@ sent_below f disk m h (Some word) is = omega (arith, h.stands.ring.ring.next, h.
 sent_below f disk m h None is = omega (arith, h.stands.ring.ring.unbegun is, h.stands.ring.done, h.stands.ring.area.sealed_pages)
 
 -- a mount of an image begins the lap behind that at most
-pub next_lap_shown : (count : ℕ) (changes : Changes) (f : StoreFacts) (w : ContentWindow) (image : List (List ℕ)) → HasWindow changes f w → MayLeaveNow count changes image
+pub next_lap_shown : (count : ℕ) (changes : Changes) (f : StoreFacts) (w : StoreWindow) (image : List (List ℕ)) → HasWindow changes f w → MayLeaveNow count changes image
     → next_lap_in f.place (sector_of image) ≤ lap_behind f
 next_lap_shown count changes f w image has left =
     let may : MayLeave count has.0 image = subst (λ (o : Option Disk). IfSome o (λ d. MayLeave count d image)) has.1 left in

@@ -1,3 +1,4 @@
+pub mod Claiming
 pub mod Telling
 pub mod Memory
 pub mod PageWrites

@@ -16,11 +16,13 @@ use Rattle.store_model.specs.Geometry.{Geometry}
 use Rattle.store_model.specs.Stores.{Window, Store, Tells}
 use Rattle.store_model.specs.Events.{after_begin, after_give_up, given_up}
 use Rattle.store_model.specs.Events.Step.{begin, give_up}
-use Rattle.store_model.specs.Volumes.{is_known, first_bytes, window_of}
+use Rattle.store_model.specs.Volumes.{is_known, first_bytes}
+use Rattle.store_claims.specs.Windows.{store_window}
 use Rattle.store_model.proofs.Told.{true≢false, or_right}
 use Rattle.store_model.proofs.Lost.{none_covered, said_unmine, unnamed_by}
 use Rattle.store_model.proofs.Sound.{sound-step}
 use Rattle.store_model.proofs.Moving.{windows_move_law}
+use Rattle.store_claims.proofs.Moving.{claims_move}
 use Rattle.ring_laws.proofs.StoreEvents.{log_kept}
 use Rattle.ring_laws.specs.StoreLogs.{HoldsLog}
 use Rattle.area_laws.proofs.Joined.{seals}
@@ -29,11 +31,12 @@ use Rattle.txn_model.specs.Values.{StoreFacts, own_of}
 use Rattle.txn_model.specs.Calls.{begun_facts, given_up_facts, sealed_facts}
 use Rattle.txn_laws.specs.Standing.{HasBytes, IsMarked, IsImaged, IsKilled, StandsBehind, session_of, numbers_of}
 use Rattle.txn_laws.specs.Windows.{AfterBegin, AfterGiveUp, AfterWrite}
+use Rattle.txn_laws.proofs.Claiming.{after_beginning}
 
 -- ---- a begin
 
-pub begins : (f : StoreFacts) (disk : Disk) (m : Store) → f.is_open ≡ false → StandsBehind f disk m → (n : Store) × StandsBehind (begun_facts f) disk n × AfterBegin (window_of m.window) (window_of n.window)
-begins f disk m closed h = (record m { window = after_begin m.window }, stands, record { same = refl })
+pub begins : (f : StoreFacts) (disk : Disk) (m : Store) → f.is_open ≡ false → StandsBehind f disk m → (n : Store) × StandsBehind (begun_facts f) disk n × AfterBegin (store_window m) (store_window n)
+begins f disk m closed h = (record m { window = after_begin m.window }, stands, after_beginning h.geometry m h.sound (h.window.is_open ∙ closed))
   where
     stands : StandsBehind (begun_facts f) disk (record m { window = after_begin m.window })
     stands = record {
@@ -125,7 +128,7 @@ sealed_behind f disk m h = record {
   };
 }
 
-pub seals_page : (f : StoreFacts) (disk : Disk) (m : Store) → StandsBehind f disk m → (n : Store) × StandsBehind (sealed_facts f) disk n × AfterWrite (window_of m.window) (window_of n.window)
+pub seals_page : (f : StoreFacts) (disk : Disk) (m : Store) → StandsBehind f disk m → (n : Store) × StandsBehind (sealed_facts f) disk n × AfterWrite (store_window m) (store_window n)
 seals_page f disk m h = (m, sealed_behind f disk m h, record { same = refl })
 
 -- ---- a give-up
@@ -250,8 +253,18 @@ module _ (f : StoreFacts) (disk : Disk) (m : Store) (opened : f.is_open ≡ true
         )
   ]
 
-  pub gives_up : (n : Store) × StandsBehind (given_up_facts f) disk n × AfterGiveUp (window_of m.window) (window_of n.window)
-  gives_up = (given_up h.geometry m, stands, record { present = windows_move_law.give_up m.window; is_open = refl; waiting = refl; others = λ k b. refl })
+  pub gives_up : (n : Store) × StandsBehind (given_up_facts f) disk n × AfterGiveUp (store_window m) (store_window n)
+  gives_up = (
+    given_up h.geometry m,
+    stands,
+    record {
+      present = windows_move_law.give_up m.window;
+      is_open = refl;
+      waiting = refl;
+      others = λ k b. refl;
+      claimed = claims_move.step h.geometry m (given_up h.geometry m) (give_up (h.window.is_open ∙ opened)) h.sound;
+    },
+  )
     where
       stands : StandsBehind g disk n
       stands = record {

@@ -359,6 +359,7 @@ mounted_shows changes f list content left disk start h none = record {
   has = start.has;
   closed = start.closed;
   none = start.none;
+  claimed = start.claimed;
   present = λ b known claimed.
       (let y = h.stands b known claimed (none b known) in
       (ap (λ (body : Body). body.bytes) (start.present b) ∙ y.bytes, λ torn. y.torn (sym (ap (λ (body : Body). body.torn) (start.present b)) ∙ torn)));

@@ -46,6 +46,7 @@ use Rattle.txn_laws.specs.Windows.{Simulates, AfterWrite}
 use Rattle.txn_laws.specs.Laws.{MayEndCheckpoint, SendsNaming}
 use Rattle.txn_laws.proofs.PageWrites.{page_is_own, sends_later}
 use Rattle.txn_laws.proofs.Telling.{by_device, known_before_write, sized_of, some_is}
+use Rattle.txn_laws.proofs.Claiming.{after_step}
 
 same_page : (a b : Restart) → ◌≡◌ {A = Option Restart} (Some a) (Some b) → a ≡ b
 same_page a b e = cc
@@ -308,7 +309,7 @@ module _ {D : Type 0} (gives : D → Option (List (List ℕ))) (changes : D → 
       let now : put sector (sectors_of bytes) disk ≡ all.disk = some_is (put sector (sectors_of bytes) disk) all.disk (sym there ∙ all.known) in
       let same = subst (λ (d : Disk). m.disk ≡ disk_without (own_of f) d) now
       (same_disk f disk m h page may.may (page_to_send f.log (front_lsn f.log page) clean) word (put sector (sectors_of bytes) disk) (whole_between disk (put sector (sectors_of bytes) disk) (λ i. refl))) in
-      (all.disk, all.known, n f disk m h page may.may, named_behind f disk m h page may.may clean may all.places all.told all.disk all.said all.others all.stands same (sized_of (changes new) all.disk all.known sized), record { same = refl }))
+      (all.disk, all.known, n f disk m h page may.may, named_behind f disk m h page may.may clean may all.places all.told all.disk all.said all.others all.stands same (sized_of (changes new) all.disk all.known sized), after_step m (n f disk m h page may.may) refl refl refl refl refl))
 
   pub fails_to_name : (fault : Failed) → SendsNaming gives changes moment f.log page clean word (Err fault) old new → Simulates count (moment old) (changes old) (changes new) f (naming_facts page clean word f) AfterWrite
   fails_to_name fault sent =
@@ -320,4 +321,4 @@ module _ {D : Type 0} (gives : D → Option (List (List ℕ))) (changes : D → 
       let torn = torn_known sector (sectors_of bytes) disk (changes new).disk (subst (λ (o : Option Disk). IsTornDisk sector (sectors_of bytes) o (changes new).disk) is sent.sends.writes.err) in
       let now : torn.0 ≡ all.disk = some_is torn.0 all.disk (sym torn.1 ∙ all.known) in
       let same = subst (λ (d : Disk). m.disk ≡ disk_without (own_of f) d) now (same_disk f disk m h page may.may (page_to_send f.log (front_lsn f.log page) clean) word torn.0 torn.2) in
-      (all.disk, all.known, x f disk m h page may.may, naming_behind f disk m h page may.may clean may word all.places all.told all.disk all.said all.others all.stands same (sized_of (changes new) all.disk all.known sized), record { same = refl }))
+      (all.disk, all.known, x f disk m h page may.may, naming_behind f disk m h page may.may clean may word all.places all.told all.disk all.said all.others all.stands same (sized_of (changes new) all.disk all.known sized), after_step m (x f disk m h page may.may) refl refl refl refl refl))

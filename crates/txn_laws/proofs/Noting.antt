@@ -8,7 +8,7 @@ use Rattle.log_area.specs.Areas.{LogAreaOf, is_filling, used_pages, sealed_area}
 use Rattle.store_model.specs.Stores.{Store}
 use Rattle.store_model.specs.Events.{checkpoint_begun}
 use Rattle.store_model.specs.Events.Step.{begin_checkpoint}
-use Rattle.store_model.specs.Volumes.{window_of}
+use Rattle.store_claims.specs.Windows.{store_window}
 use Rattle.store_model.proofs.Told.{true≢false, or-true}
 use Rattle.store_model.proofs.Sound.{sound-step}
 use Rattle.ring_laws.proofs.StoreEvents.{log_noted}
@@ -19,6 +19,7 @@ use Rattle.txn_laws.specs.Standing.{IsMarked, StandsBehind, session_of, numbers_
 use Rattle.txn_laws.specs.Windows.{AfterWrite}
 use Rattle.txn_laws.proofs.Memory.{sealed_behind}
 use Rattle.txn_laws.proofs.Syncs.{and_left}
+use Rattle.txn_laws.proofs.Claiming.{after_noting}
 
 not_filling : (a : LogAreaOf) → is_filling (sealed_area a) ≡ false
 not_filling a = elim (cases_Bool (is_filling a)) [
@@ -26,8 +27,8 @@ not_filling a = elim (cases_Bool (is_filling a)) [
   | inr empty ↦ ap (λ (b : Bool). is_filling (cond b (record a { free = 64; sealed = a.sealed + 1 }) a)) empty ∙ empty
 ]
 
-pub notes : (f : StoreFacts) (disk : Disk) (m : Store) → f.is_open ≡ false → f.noted ≡ None → StandsBehind f disk m → (n : Store) × StandsBehind (noted_facts f) disk n × AfterWrite (window_of m.window) (window_of n.window)
-notes f disk m closed unnoted h = (checkpoint_begun m, stands, record { same = refl })
+pub notes : (f : StoreFacts) (disk : Disk) (m : Store) → f.is_open ≡ false → f.noted ≡ None → StandsBehind f disk m → (n : Store) × StandsBehind (noted_facts f) disk n × AfterWrite (store_window m) (store_window n)
+notes f disk m closed unnoted h = (checkpoint_begun m, stands, after_noting it.geometry m it.sound early (it.window.is_open ∙ closed))
   where
     it : StandsBehind (sealed_facts f) disk m
     it = sealed_behind f disk m h

@@ -42,6 +42,7 @@ use Rattle.txn_model.specs.Calls.{written_facts, sent_facts}
 use Rattle.txn_laws.specs.Standing.{StandsBehind, session_of, numbers_of}
 use Rattle.txn_laws.specs.Windows.{Simulates, AfterWrite}
 use Rattle.txn_laws.proofs.Telling.{by_device, known_before_write, sized_of, some_is}
+use Rattle.txn_laws.proofs.Claiming.{after_step}
 
 -- ---- the log's sectors are own ones
 
@@ -239,7 +240,7 @@ module _ {D : Type 0} (gives : D → Option (List (List ℕ))) (changes : D → 
       let all = writes gives changes moment (session_of f h.lap) f.log h.ring h.restarts h.pages h.fields disk word old new known h.stands lt sent in
       let now : ring.now ≡ all.disk = some_is ring.now all.disk (sym ring.known ∙ all.known) in
       let same = subst (λ (e : Disk). m.disk ≡ disk_without (own_of f) e) now (same_disk f disk m h lt ring.now word ring.between) in
-      (all.disk, all.known, n f disk m h lt, written_behind f disk m h lt all.places all.disk all.stands same (sized_of (changes new) all.disk all.known sized), record { same = refl }))
+      (all.disk, all.known, n f disk m h lt, written_behind f disk m h lt all.places all.disk all.stands same (sized_of (changes new) all.disk all.known sized), after_step m (n f disk m h lt) refl refl refl refl refl))
 
   pub page_goes_badly : (fault : Failed) → SendsNext gives changes moment f.log word (Err fault) old new → Simulates count (moment old) (changes old) (changes new) f (sent_facts word f) AfterWrite
   page_goes_badly fault sent =
@@ -251,4 +252,4 @@ module _ {D : Type 0} (gives : D → Option (List (List ℕ))) (changes : D → 
       let all = sends gives changes moment fault (session_of f h.lap) f.log h.ring h.restarts h.pages h.fields disk word old new known h.stands lt sent in
       let now : ring.now ≡ all.disk = some_is ring.now all.disk (sym ring.known ∙ all.known) in
       let same = subst (λ (e : Disk). m.disk ≡ disk_without (own_of f) e) now (same_disk f disk m h lt ring.now word ring.between) in
-      (all.disk, all.known, x f disk m h lt, sent_behind f disk m h lt word all.places all.disk all.stands same (sized_of (changes new) all.disk all.known sized), record { same = refl }))
+      (all.disk, all.known, x f disk m h lt, sent_behind f disk m h lt word all.places all.disk all.stands same (sized_of (changes new) all.disk all.known sized), after_step m (x f disk m h lt) refl refl refl refl refl))

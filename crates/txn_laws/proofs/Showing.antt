@@ -12,7 +12,8 @@ use Rattle.log_page.specs.LiveLogs.{said_lsn}
 use Rattle.log_area.specs.Areas.{lap_at}
 use Rattle.store_model.specs.Geometry.{SectorBytes}
 use Rattle.store_model.specs.Stores.{Store}
-use Rattle.store_model.specs.Volumes.{is_known, ContentWindow, window_of}
+use Rattle.store_model.specs.Volumes.{is_known}
+use Rattle.store_claims.specs.Windows.{StoreWindow, store_window}
 use Rattle.ring_laws.specs.Numbers.{IsInRing, lap_of_page}
 use Rattle.ring_laws.specs.PageBytes.{raw_page}
 use Rattle.ring_laws.proofs.RingFacts.{laps_climb}
@@ -23,19 +24,19 @@ use Rattle.txn_laws.specs.Windows.{HasWindow, IsShown}
 use Rattle.txn_laws.proofs.Changes.{is_present}
 use Rattle.txn_laws.proofs.Laps.{sent_below}
 
-shown_of : (f : StoreFacts) (disk : Disk) (m : Store) → StandsBehind f disk m → (b : Block) → is_known (own_of f) b ≡ true → IsShown (window_of m.window) b (unwrap_or (f.body b) (content_of (seen disk) b))
+shown_of : (f : StoreFacts) (disk : Disk) (m : Store) → StandsBehind f disk m → (b : Block) → is_known (own_of f) b ≡ true → IsShown (store_window m) b (unwrap_or (f.body b) (content_of (seen disk) b))
 shown_of f disk m h b known = let x = is_present f disk m h b (unwrap_or (f.body b) (content_of (seen disk) b)) known refl in record { bytes = x.bytes; torn = x.torn }
 
-pub present_shown : (changes : Changes) (f : StoreFacts) (w : ContentWindow) (gives : Option (List (List ℕ))) → HasWindow changes f w → SeesDisk gives changes.disk → (b : Block) → is_known (own_of f) b ≡ true
+pub present_shown : (changes : Changes) (f : StoreFacts) (w : StoreWindow) (gives : Option (List (List ℕ))) → HasWindow changes f w → SeesDisk gives changes.disk → (b : Block) → is_known (own_of f) b ≡ true
     → IfSome gives (λ disk. IsShown w b (unwrap_or (f.body b) (content_of (sector_of disk) b)))
 present_shown changes f w None has sees b known = tt
 present_shown changes f w (Some d) has sees b known =
     let same : sector_of d ≡ seen has.0 = fun_ext (subst (λ (o : Option Disk). SeesDisk (Some d) o) has.1 sees) in
     subst (λ (at : SectorBytes). IsShown w b (unwrap_or (f.body b) (content_of at b))) (sym same)
-    (subst (λ (v : ContentWindow). IsShown v b (unwrap_or (f.body b) (content_of (seen has.0) b))) has.4 (shown_of f has.0 has.2 has.3 b known))
+    (subst (λ (v : StoreWindow). IsShown v b (unwrap_or (f.body b) (content_of (seen has.0) b))) has.4 (shown_of f has.0 has.2 has.3 b known))
 
 -- no image says a lap above that of the page that is filled
-pub laps_shown : (count : ℕ) (changes : Changes) (f : StoreFacts) (w : ContentWindow) (image : List (List ℕ)) → HasWindow changes f w → MayLeaveNow count changes image
+pub laps_shown : (count : ℕ) (changes : Changes) (f : StoreFacts) (w : StoreWindow) (image : List (List ℕ)) → HasWindow changes f w → MayLeaveNow count changes image
     → (k lsn : ℕ) → IsInRing f.place k → said_lsn (raw_page f.place (sector_of image) k) ≡ Some lsn → lap_of f.place.pages lsn ≤ lap_at f.log f.log.sealed
 laps_shown count changes f w image has left k lsn inside said =
     let may : MayLeave count has.0 image = subst (λ (o : Option Disk). IfSome o (λ d. MayLeave count d image)) has.1 left in

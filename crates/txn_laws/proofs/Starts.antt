@@ -1,5 +1,5 @@
 -- A store at its start, on a log without entries.
-use Rattle.std.proofs.Common.{◌≡◌, subst, ℕ, ◌-◌, ◌*◌, false, List, [], length, Option, Some, refl, sym, ap, ◌∙◌, arith}
+use Rattle.std.proofs.Common.{◌≡◌, subst, ℕ, ◌-◌, ◌*◌, true, false, List, [], length, Option, Some, refl, sym, ap, ◌∙◌, arith}
 use Rattle.std.specs.Prelude.{slice_index, IfSome}
 use Rattle.std.proofs.lemmas.List.{ext_get_or, length-replicate}
 use Rattle.disk_model.specs.declared.block.Block.{Block}
@@ -13,7 +13,8 @@ use Rattle.log_page.specs.Restarts.{FitsRestart}
 use Rattle.log_area.specs.Areas.{LogAreaOf, sent_word, ring_size as area_size}
 use Rattle.store_model.specs.Stores.{Store}
 use Rattle.store_model.specs.Rings.{Ring, Restarts}
-use Rattle.store_model.specs.Volumes.{first_bytes, window_of, mounted_on, BearsContent}
+use Rattle.store_model.specs.Volumes.{first_bytes, bytes_in, mounted_on, BearsContent}
+use Rattle.store_claims.specs.Windows.{store_window}
 use Rattle.store_model.proofs.Told.{true≢false}
 use Rattle.store_model.proofs.Devices.{settled_bears}
 use Rattle.store_model.proofs.Volumes.{volume_geometry, is_volume, length-first_bytes, first_at, content_size}
@@ -29,6 +30,8 @@ use Rattle.txn_model.specs.Calls.{first_facts}
 use Rattle.txn_laws.specs.Standing.{StandsBehind}
 use Rattle.txn_laws.specs.Windows.{HasStart}
 use Rattle.txn_laws.proofs.Changes.{seen_whole}
+use Rattle.store_claims.specs.Claims.{claims, will}
+use Rattle.store_claims.proofs.Moving.{claims_move}
 
 module _ (place : LogPlace) (log : LogAreaOf) (found : List Block) (lap : ℕ) (r : Ring) (q : Restarts) (fields : RestartFields) (disk : Disk) (own : Restart)
     (stands : Stands (record { place = place; lap = lap }) log r q [] fields disk) (idle : q.begun ≡ false) (said : fields q.sure ≡ Some own) (names : own.oldest ≡ lsn_of_page (record { place = place; lap = lap }) r.oldest)
@@ -45,7 +48,7 @@ module _ (place : LogPlace) (log : LogAreaOf) (found : List Block) (lap : ℕ) (
   bears : BearsContent (own_of f) (disk_without (own_of f) disk) (content_of (seen disk))
   bears = without_bears (own_of f) disk (content_of (seen disk)) (settled_bears (own_of f) disk settled)
 
-  same_content : (b : Block) → (window_of m.window).present b ≡ content_of (seen disk) b
+  same_content : (b : Block) → (store_window m).present b ≡ content_of (seen disk) b
   same_content b = ap (λ (bytes : List ℕ). record { bytes = bytes; torn = (content_of (seen disk) b).torn }) bytes
     where
       size : length (content_of (seen disk) b).bytes ≡ 512 * sectors b.kind
@@ -100,5 +103,8 @@ module _ (place : LogPlace) (log : LogAreaOf) (found : List Block) (lap : ℕ) (
     };
   }
 
+  all_claimed : (k : ℕ) (b : Block) → (claims m k b ≡ true) × (will m b ≡ true)
+  all_claimed = claims_move.start 1 (bytes_in (content_of (seen disk))) (λ b. (content_of (seen disk) b).torn) (disk_without (own_of (first_facts place log found)) disk)
+
   pub starts_window : (changes : Changes) → changes.disk ≡ Some disk → HasStart changes (first_facts place log found) (content_of (seen disk))
-  starts_window changes is = record { window = window_of m.window; has = (disk, is, m, behind, refl); closed = refl; none = refl; present = same_content }
+  starts_window changes is = record { window = store_window m; has = (disk, is, m, behind, refl); closed = refl; none = refl; present = same_content; claimed = record { claims = λ k b. (all_claimed k b).0; will = λ b. (all_claimed 0 b).1 } }

@@ -16,7 +16,8 @@ use Rattle.store_model.specs.Stores.{Store}
 use Rattle.store_model.specs.Events.{Loses, MayBury, synced_store, buried, freed, Step}
 use Rattle.store_model.specs.Events.Step.{sync, sync_frees}
 use Rattle.store_model.specs.Rings.{Ring, entries_on, synced_places}
-use Rattle.store_model.specs.Volumes.{first_bytes, window_of}
+use Rattle.store_model.specs.Volumes.{first_bytes}
+use Rattle.store_claims.specs.Windows.{store_window}
 use Rattle.store_model.proofs.Told.{true≢false, all_drop}
 use Rattle.store_model.proofs.Lost.{has_drop, loses_at, loses_rest}
 use Rattle.store_model.proofs.Ends.{commits-drop_le}
@@ -40,6 +41,8 @@ use Rattle.txn_laws.specs.Laws.{SyncsNow}
 use Rattle.txn_laws.proofs.Telling.{by_device, known_before_sync, sized_of}
 use Rattle.sector_device.specs.Moments.{Changes}
 use Rattle.std.specs.Option.{option_map}
+use Rattle.store_claims.proofs.Moving.{claims_move}
+use Rattle.store_claims.proofs.Staying.{claimed_stays}
 
 pub and_left : (a b : Bool) → (a && b) ≡ true → a ≡ true
 and_left true b is = refl
@@ -310,16 +313,20 @@ module _ (f : StoreFacts) (disk : Disk) (m : Store) (h : StandsBehind f disk m) 
         (subst (λ (o : ℕ). Stands s (synced_area f.log) (record h.ring { oldest = o; synced = h.ring.done; places = synced_places h.ring.places }) (restart_synced h.restarts) (drop (freed_to f.log - f.log.oldest) h.pages) h.fields (settled disk)) oldest_is
         (syncs_all s f.log h.ring h.restarts h.pages h.fields disk h.stands))
 
-    syncs_well : IsSized (settled disk) → (n : Store) × StandsBehind (synced_facts f) (settled disk) n × MovesTo (λ b. is_buried f.log.done (f.mark b)) (window_of m.window) (window_of n.window)
+    syncs_well : IsSized (settled disk) → (n : Store) × StandsBehind (synced_facts f) (settled disk) n × MovesTo (λ b. is_buried f.log.done (f.mark b)) (store_window m) (store_window n)
     syncs_well sized = (n, stands, moves)
       where
-        moves : MovesTo (λ b. is_buried f.log.done (f.mark b)) (window_of m.window) (window_of n.window)
+        moves : MovesTo (λ b. is_buried f.log.done (f.mark b)) (store_window m) (store_window n)
         moves = record {
           is_open = refl;
           waiting = omega (arith, kept_waiting, few);
           present = λ b none. ap₂ (λ (bytes : BodyBytes) (t : Bool). record { bytes = first_bytes (512 * sectors b.kind) bytes; torn = t }) (same_body b (stays b none)) (same_torn b (stays b none));
-          others = λ k le b none. subst (λ (j : ℕ). (window_of n.window).before j b ≡ (window_of m.window).before k b) (let e : 0 + k ≡ k = omega arith in e)
+          others = λ k le b none. subst (λ (j : ℕ). (store_window n).before j b ≡ (store_window m).before k b) (let e : 0 + k ≡ k = omega arith in e)
               (windows_move_law.members h.geometry m n step b (stays b none) k (omega (arith, le))).1;
+          claimed = claims_move.step h.geometry m n step h.sound;
+          shown = λ b will. claimed_stays.present h.geometry m n step h.sound b will refl;
+          kept = λ k le b claims. subst (λ (j : ℕ). (store_window n).before j b ≡ (store_window m).before k b) (let e : 0 + k ≡ k = omega arith in e)
+              (claimed_stays.members h.geometry m n step h.sound k b claims (omega (arith, le))).1;
         }
 
         stands : StandsBehind g (settled disk) n
@@ -472,16 +479,20 @@ module _ (f : StoreFacts) (disk : Disk) (m : Store) (h : StandsBehind f disk m) 
           | inr x ↦ absurd (true≢false (sym x.0 ∙ (h.sound.paid renamed b).0))
         ]
 
-    frees_well : IsSized (settled disk) → (n : Store) × StandsBehind (synced_facts f) (settled disk) n × MovesTo (λ b. is_buried f.log.done (f.mark b)) (window_of m.window) (window_of n.window)
+    frees_well : IsSized (settled disk) → (n : Store) × StandsBehind (synced_facts f) (settled disk) n × MovesTo (λ b. is_buried f.log.done (f.mark b)) (store_window m) (store_window n)
     frees_well sized = (e, stands, moves)
       where
-        moves : MovesTo (λ b. is_buried f.log.done (f.mark b)) (window_of m.window) (window_of e.window)
+        moves : MovesTo (λ b. is_buried f.log.done (f.mark b)) (store_window m) (store_window e)
         moves = record {
           is_open = refl;
           waiting = omega (arith, kept_waiting, few);
           present = λ b none. ap₂ (λ (bytes : BodyBytes) (t : Bool). record { bytes = first_bytes (512 * sectors b.kind) bytes; torn = t }) (same_body b (stays b none)) (same_torn b (stays b none));
-          others = λ k le b none. subst (λ (j : ℕ). (window_of e.window).before j b ≡ (window_of m.window).before k b) (let e : 0 + k ≡ k = omega arith in e)
+          others = λ k le b none. subst (λ (j : ℕ). (store_window e).before j b ≡ (store_window m).before k b) (let e : 0 + k ≡ k = omega arith in e)
               (windows_move_law.members h.geometry m e free_step b (stays b none) k (omega (arith, le))).1;
+          claimed = claims_move.step h.geometry m e free_step h.sound;
+          shown = λ b will. claimed_stays.present h.geometry m e free_step h.sound b will refl;
+          kept = λ k le b claims. subst (λ (j : ℕ). (store_window e).before j b ≡ (store_window m).before k b) (let e : 0 + k ≡ k = omega arith in e)
+              (claimed_stays.members h.geometry m e free_step h.sound k b claims (omega (arith, le))).1;
         }
 
         stands : StandsBehind g (settled disk) e
@@ -541,10 +552,10 @@ module _ (f : StoreFacts) (disk : Disk) (m : Store) (h : StandsBehind f disk m) 
 
   -- ---- either
 
-  pub any_syncs : IsSized (settled disk) → (n : Store) × StandsBehind (synced_facts f) (settled disk) n × MovesTo (λ b. is_buried f.log.done (f.mark b)) (window_of m.window) (window_of n.window)
+  pub any_syncs : IsSized (settled disk) → (n : Store) × StandsBehind (synced_facts f) (settled disk) n × MovesTo (λ b. is_buried f.log.done (f.mark b)) (store_window m) (store_window n)
   any_syncs sized = by_named f.log.named refl
     where
-      by_named : (o : Option ℕ) → f.log.named ≡ o → (n : Store) × StandsBehind (synced_facts f) (settled disk) n × MovesTo (λ b. is_buried f.log.done (f.mark b)) (window_of m.window) (window_of n.window)
+      by_named : (o : Option ℕ) → f.log.named ≡ o → (n : Store) × StandsBehind (synced_facts f) (settled disk) n × MovesTo (λ b. is_buried f.log.done (f.mark b)) (store_window m) (store_window n)
       by_named None is = syncs_well is sized
       by_named (Some p) is = frees_well p is sized
 

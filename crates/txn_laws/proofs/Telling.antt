@@ -24,13 +24,16 @@ use Rattle.ring_laws.specs.StoreDisks.{sectors_without}
 use Rattle.ring_laws.specs.StoreLogs.{LogNumbers, IsOfLog}
 use Rattle.ring_laws.proofs.SeenDisks.{without_left}
 use Rattle.ring_laws.proofs.StoreImages.{log_is_left}
-use Rattle.store_model.specs.Volumes.{ContentWindow, window_of, AreWhole}
+use Rattle.store_model.specs.Volumes.{AreWhole}
+use Rattle.store_claims.specs.Windows.{StoreWindow, store_window}
 use Rattle.ring_laws.proofs.StoreRecovers.{image_recovers}
 use Rattle.txn_model.specs.Values.{StoreFacts, own_of, is_own}
 use Rattle.txn_laws.specs.Standing.{AreOwnPages, ArePlaced, StandsBehind, session_of, numbers_of}
 use Rattle.txn_laws.proofs.Mountable.{none_misplaced}
 use Rattle.txn_laws.proofs.Laps.{next_lap_shown}
 use Rattle.txn_laws.specs.Windows.{HasMachine, HasWindow, RecoversWithin, lap_behind, next_lap_in, During, LapsDuring, Simulates, AfterWrite}
+use Rattle.store_claims.specs.Claims.{commits_behind}
+use Rattle.txn_laws.proofs.Claiming.{ClaimedImage, claimed, claimed_image}
 
 some_inj : {A : Type 0} (a b : A) → Some a ≡ Some b → a ≡ b
 some_inj a b e = cc
@@ -51,7 +54,7 @@ own_chosen q fields own restart list l same_q same_fields of_log =
       | inr begun ↦ subst (λ (o : Option Restart). IfSome o FitsRestart) begun.1 (here.next begun.0)
     ]
 
-behind_recovers : (f : StoreFacts) (disk : Disk) (m : Store) → StandsBehind f disk m → (image : SectorBytes) → CanLeave disk image → AreWhole image → RecoversWithin f.place (own_of f) (window_of m.window) image
+behind_recovers : (f : StoreFacts) (disk : Disk) (m : Store) → StandsBehind f disk m → (image : SectorBytes) → CanLeave disk image → AreWhole image → RecoversWithin f.place (own_of f) (store_window m) image
 behind_recovers f disk m h image left whole =
     let x = image_recovers (own_of f) h.geometry h.volume (session_of f h.lap) (numbers_of f h.ring h.pages h.restarts h.fields h.noted) m disk h.sound h.holds h.same image left whole in
     let y =
@@ -60,6 +63,8 @@ behind_recovers f disk m h image left whole =
     let one : x.restart ≡ y.restart = same_restart x.restart y.restart (sym x.chosen ∙ y.chosen) in
     let same : x.list ≡ list_of m y.left = ap (λ (r : Reading). r.entries) (sym x.reads ∙ ap (λ (r : Restart). live_log f.place.pages (raw_page f.place image) r.oldest) one ∙ y.reads) in
     let placed : ArePlaced f.place.clusters x.list = subst (ArePlaced f.place.clusters) (sym same) (list_placed f.place.clusters m y.left h.placed) in
+    let mine = claimed_image (own_of f) h.geometry h.volume (session_of f h.lap) (numbers_of f h.ring h.pages h.restarts h.fields h.noted) m h.sound image whole y in
+    let kept = subst (λ (es : List Entry). ClaimedImage (own_of f) m es image (commits_behind m y.left)) (sym same) mine in
     let page : FitsRestart x.restart = own_chosen h.restarts h.fields h.own_pages x.restart x.list (numbers_of f h.ring h.pages h.restarts h.fields h.noted) refl refl x.of_log in
     record {
       restart = x.restart;
@@ -67,80 +72,81 @@ behind_recovers f disk m h image left whole =
       own_page = page;
       list = x.list;
       reads = x.reads;
-      back = x.back;
-      within = x.within;
-      recovers = x.recovers;
+      back = commits_behind m y.left;
+      within = (claimed (own_of f) h.geometry h.volume (session_of f h.lap) (numbers_of f h.ring h.pages h.restarts h.fields h.noted) m h.sound image whole y).recoverable.within;
+      recovers = kept.recovers;
+      clear = kept.clear;
       updates = x.updates;
       placed = none_misplaced f.place.clusters x.list placed;
       no_partial = x.no_partial;
       known = x.known;
-      spelled = x.spelled;
+      spelled = λ b out other. kept.spelled b (x.known b out) out other;
     }
 
-pub at_return : (count : ℕ) (changes : Changes) (f : StoreFacts) (w : ContentWindow) (image : List (List ℕ)) → HasWindow changes f w → MayLeaveNow count changes image → RecoversWithin f.place (own_of f) w (sector_of image)
+pub at_return : (count : ℕ) (changes : Changes) (f : StoreFacts) (w : StoreWindow) (image : List (List ℕ)) → HasWindow changes f w → MayLeaveNow count changes image → RecoversWithin f.place (own_of f) w (sector_of image)
 at_return count changes f w image has left =
     let may : MayLeave count has.0 image = subst (λ (o : Option Disk). IfSome o (λ d. MayLeave count d image)) has.1 left in
-    subst (λ (v : ContentWindow). RecoversWithin f.place (own_of f) v (sector_of image)) has.4
+    subst (λ (v : StoreWindow). RecoversWithin f.place (own_of f) v (sector_of image)) has.4
     (behind_recovers f has.0 has.2 has.3 (sector_of image) may.each (image_is_disk count has.0 image has.3.sized may).whole)
 
-pub waits : (changes : Changes) (f : StoreFacts) (w : ContentWindow) → HasWindow changes f w → f.durable + w.waiting ≡ f.commits
-waits changes f w has = subst (λ (v : ContentWindow). f.durable + v.waiting ≡ f.commits) has.4 has.3.window.waiting
+pub waits : (changes : Changes) (f : StoreFacts) (w : StoreWindow) → HasWindow changes f w → f.durable + w.waiting ≡ f.commits
+waits changes f w has = subst (λ (v : StoreWindow). f.durable + v.waiting ≡ f.commits) has.4 has.3.window.waiting
 
-pub is_open_of : (changes : Changes) (f : StoreFacts) (w : ContentWindow) → HasWindow changes f w → w.is_open ≡ f.is_open
-is_open_of changes f w has = subst (λ (v : ContentWindow). v.is_open ≡ f.is_open) has.4 has.3.window.is_open
+pub is_open_of : (changes : Changes) (f : StoreFacts) (w : StoreWindow) → HasWindow changes f w → w.is_open ≡ f.is_open
+is_open_of changes f w has = subst (λ (v : StoreWindow). v.is_open ≡ f.is_open) has.4 has.3.window.is_open
 
-pub machine_of : (changes : Changes) (f : StoreFacts) (w : ContentWindow) → HasWindow changes f w → HasMachine changes f
+pub machine_of : (changes : Changes) (f : StoreFacts) (w : StoreWindow) → HasWindow changes f w → HasMachine changes f
 machine_of changes f w has disk is = (has.2, subst (λ (d : Disk). StandsBehind f d has.2) (some_inj has.0 disk (sym has.1 ∙ is)) has.3)
 
-pub keeps : (count moment : ℕ) (old now : Changes) (f g : StoreFacts) (After : ContentWindow → ContentWindow → Type 0) → Simulates count moment old now f g After → HasMachine old f → HasMachine now g
+pub keeps : (count moment : ℕ) (old now : Changes) (f g : StoreFacts) (After : StoreWindow → StoreWindow → Type 0) → Simulates count moment old now f g After → HasMachine old f → HasMachine now g
 keeps count moment old now f g After step has e is =
     let d = step.known e is in
     let m = has d.0 d.1 in
-    let next = step.steps (window_of m.0.window) (d.0, d.1, m.0, m.1, refl) in
+    let next = step.steps (store_window m.0) (d.0, d.1, m.0, m.1, refl) in
     machine_of now g next.0 next.1 e is
 
 -- ---- simulations
 
 -- a call in memory
-pub in_memory : (count moment : ℕ) (changes : Changes) (f g : StoreFacts) (After : ContentWindow → ContentWindow → Type 0) → g.place ≡ f.place → g.found ≡ f.found
-    → ((disk : Disk) (m : Store) → changes.disk ≡ Some disk → StandsBehind f disk m → (n : Store) × StandsBehind g disk n × After (window_of m.window) (window_of n.window)) → Simulates count moment changes changes f g After
+pub in_memory : (count moment : ℕ) (changes : Changes) (f g : StoreFacts) (After : StoreWindow → StoreWindow → Type 0) → g.place ≡ f.place → g.found ≡ f.found
+    → ((disk : Disk) (m : Store) → changes.disk ≡ Some disk → StandsBehind f disk m → (n : Store) × StandsBehind g disk n × After (store_window m) (store_window n)) → Simulates count moment changes changes f g After
 in_memory count moment changes f g After place found step = record {
   known = λ e is. (e, is);
   place = place;
   found = found;
   steps = λ w has. let next = step has.0 has.2 has.1 has.3 in (
-    window_of next.0.window,
+    store_window next.0,
     (has.0, has.1, next.0, next.1, refl),
-    subst (λ (u : ContentWindow). After u (window_of next.0.window)) has.4 next.2,
+    subst (λ (u : StoreWindow). After u (store_window next.0)) has.4 next.2,
     λ t image le left. inl left,
   );
   laps = λ w has t image le left. inl left;
 }
 
-here : (f g : StoreFacts) (w : ContentWindow) (image : SectorBytes) → g.place ≡ f.place → g.found ≡ f.found → RecoversWithin g.place (own_of g) w image → RecoversWithin f.place (own_of f) w image
+here : (f g : StoreFacts) (w : StoreWindow) (image : SectorBytes) → g.place ≡ f.place → g.found ≡ f.found → RecoversWithin g.place (own_of g) w image → RecoversWithin f.place (own_of f) w image
 here f g w image place found x =
     subst (λ (bs : List Block). RecoversWithin f.place (is_own f.place bs) w image) found (subst (λ (p : LogPlace). RecoversWithin p (is_own p g.found) w image) place x)
 
 -- a call that makes one call of the device, which begins at this moment or later
-pub by_device : (count moment begun : ℕ) (old now : Changes) (f g : StoreFacts) (After : ContentWindow → ContentWindow → Type 0) → g.place ≡ f.place → g.found ≡ f.found
+pub by_device : (count moment begun : ℕ) (old now : Changes) (f g : StoreFacts) (After : StoreWindow → StoreWindow → Type 0) → g.place ≡ f.place → g.found ≡ f.found
     → ((e : Disk) → now.disk ≡ Some e → (d : Disk) × (old.disk ≡ Some d)) → moment ≤ begun → Remembers begun old now
-    → ((disk : Disk) (m : Store) → old.disk ≡ Some disk → StandsBehind f disk m → (e : Disk) × (now.disk ≡ Some e) × (n : Store) × StandsBehind g e n × After (window_of m.window) (window_of n.window))
+    → ((disk : Disk) (m : Store) → old.disk ≡ Some disk → StandsBehind f disk m → (e : Disk) × (now.disk ≡ Some e) × (n : Store) × StandsBehind g e n × After (store_window m) (store_window n))
     → Simulates count moment old now f g After
 by_device count moment begun old now f g After place found known later remembers step = record {
   known = known;
   place = place;
   found = found;
   steps = λ w has. let next = step has.0 has.2 has.1 has.3 in
-      let has' : HasWindow now g (window_of next.2.window) = (next.0, next.1, next.2, next.3, refl) in (
-        window_of next.2.window,
+      let has' : HasWindow now g (store_window next.2) = (next.0, next.1, next.2, next.3, refl) in (
+        store_window next.2,
         has',
-        subst (λ (u : ContentWindow). After u (window_of next.2.window)) has.4 next.4,
-        λ t image le left. during t image (omega (arith, le, later)) (window_of next.2.window) has' left w,
+        subst (λ (u : StoreWindow). After u (store_window next.2)) has.4 next.4,
+        λ t image le left. during t image (omega (arith, le, later)) (store_window next.2) has' left w,
       );
-  laps = λ w has t image le left. let next = step has.0 has.2 has.1 has.3 in laps t image (omega (arith, le, later)) (window_of next.2.window) (next.0, next.1, next.2, next.3, refl) left;
+  laps = λ w has t image le left. let next = step has.0 has.2 has.1 has.3 in laps t image (omega (arith, le, later)) (store_window next.2) (next.0, next.1, next.2, next.3, refl) left;
 }
   where
-    laps : (t : ℕ) (image : List (List ℕ)) → t ≤ begun → (v : ContentWindow) → HasWindow now g v → LeftSince count now t image → LeftSince count old t image ⊎ (next_lap_in f.place (sector_of image) ≤ max (lap_behind f) (lap_behind g))
+    laps : (t : ℕ) (image : List (List ℕ)) → t ≤ begun → (v : StoreWindow) → HasWindow now g v → LeftSince count now t image → LeftSince count old t image ⊎ (next_lap_in f.place (sector_of image) ≤ max (lap_behind f) (lap_behind g))
     laps t image le v has left =
         elim (one_call_more count begun t old now image remembers le left) [
           | inl before ↦ inl before
@@ -149,7 +155,7 @@ by_device count moment begun old now f g After place found known later remembers
               inr (omega (arith, low))
         ]
 
-    during : (t : ℕ) (image : List (List ℕ)) → t ≤ begun → (v : ContentWindow) → HasWindow now g v → LeftSince count now t image → (w : ContentWindow)
+    during : (t : ℕ) (image : List (List ℕ)) → t ≤ begun → (v : StoreWindow) → HasWindow now g v → LeftSince count now t image → (w : StoreWindow)
         → LeftSince count old t image ⊎ (RecoversWithin f.place (own_of f) w (sector_of image) ⊎ RecoversWithin f.place (own_of f) v (sector_of image))
     during t image le v has left w =
         elim (one_call_more count begun t old now image remembers le left) [
@@ -158,7 +164,7 @@ by_device count moment begun old now f g After place found known later remembers
         ]
 
 -- a call that reads, and changes nothing
-pub by_read : (count moment : ℕ) (old now : Changes) (f : StoreFacts) (After : ContentWindow → ContentWindow → Type 0) → ((w : ContentWindow) → After w w) → now ≡ old → Simulates count moment old now f f After
+pub by_read : (count moment : ℕ) (old now : Changes) (f : StoreFacts) (After : StoreWindow → StoreWindow → Type 0) → ((w : StoreWindow) → After w w) → now ≡ old → Simulates count moment old now f f After
 by_read count moment old now f After same is =
     subst (λ (c : Changes). Simulates count moment old c f f After) (sym is)
     (record { known = λ e h. (e, h); place = refl; found = refl; steps = λ w has. (w, has, same w, λ t image le left. inl left); laps = λ w has t image le left. inl left })
@@ -191,7 +197,7 @@ some_is a b e = some_inj a b e
 
 -- ---- a call behind one that reads
 
-joined : (count early late : ℕ) (old mid now : Changes) (f : StoreFacts) (w v : ContentWindow) (t : ℕ) (image : List (List ℕ)) → t ≤ early → early ≤ late
+joined : (count early late : ℕ) (old mid now : Changes) (f : StoreFacts) (w v : StoreWindow) (t : ℕ) (image : List (List ℕ)) → t ≤ early → early ≤ late
     → During count early old mid f w w → During count late mid now f w v → LeftSince count now t image → LeftSince count old t image ⊎ (RecoversWithin f.place (own_of f) w (sector_of image) ⊎ RecoversWithin f.place (own_of f) v (sector_of image))
 joined count early late old mid now f w v t image le later first second left =
     elim (second t image (omega (arith, le, later)) left) [
@@ -217,7 +223,7 @@ joined_laps count early late old mid now f g t image first second le later left 
       | inr low ↦ inr low
     ]
 
-pub after_reading : (count early late : ℕ) (old mid now : Changes) (f g : StoreFacts) (After : ContentWindow → ContentWindow → Type 0) → early ≤ late → Simulates count early old mid f f AfterWrite → Simulates count late mid now f g After
+pub after_reading : (count early late : ℕ) (old mid now : Changes) (f g : StoreFacts) (After : StoreWindow → StoreWindow → Type 0) → early ≤ late → Simulates count early old mid f f AfterWrite → Simulates count late mid now f g After
     → Simulates count early old now f g After
 after_reading count early late old mid now f g After later read then = record {
   known = λ e is. let d = then.known e is in read.known d.0 d.1;
@@ -226,12 +232,12 @@ after_reading count early late old mid now f g After later read then = record {
   steps = λ w has.
       let one = read.steps w has in
       let same : one.0 ≡ w = one.2.same in
-      let two = then.steps w (subst (λ (v : ContentWindow). HasWindow mid f v) same one.1) in
-      (two.0, two.1, two.2, λ t image le left. joined count early late old mid now f w two.0 t image le later (subst (λ (v : ContentWindow). During count early old mid f w v) same one.3) two.3 left);
+      let two = then.steps w (subst (λ (v : StoreWindow). HasWindow mid f v) same one.1) in
+      (two.0, two.1, two.2, λ t image le left. joined count early late old mid now f w two.0 t image le later (subst (λ (v : StoreWindow). During count early old mid f w v) same one.3) two.3 left);
   laps = λ w has t image le left.
       let one = read.steps w has in
       let same : one.0 ≡ w = one.2.same in
-      joined_laps count early late old mid now f g t image (read.laps w has) (then.laps w (subst (λ (v : ContentWindow). HasWindow mid f v) same one.1)) le later left;
+      joined_laps count early late old mid now f g t image (read.laps w has) (then.laps w (subst (λ (v : StoreWindow). HasWindow mid f v) same one.1)) le later left;
 }
 
 -- ---- a sync that failed

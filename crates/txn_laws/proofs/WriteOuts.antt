@@ -28,7 +28,8 @@ use Rattle.store_model.specs.Stores.{Window, Store, is_held}
 use Rattle.store_model.specs.Events.{reread, MayWriteOut, Spells, written_out, Step, put_in_part}
 use Rattle.store_model.specs.Events.Step.{write_out, write_out_fails}
 use Rattle.store_model.specs.Rings.{entries_on}
-use Rattle.store_model.specs.Volumes.{is_known, first_bytes, sectors_from, window_of, is_free}
+use Rattle.store_model.specs.Volumes.{is_known, first_bytes, sectors_from, is_free}
+use Rattle.store_claims.specs.Windows.{store_window}
 use Rattle.store_model.proofs.Told.{true≢false, or_left, or_right, same_self, rival_apart, rivals_both, rivals_other, or-true, or-false}
 use Rattle.store_model.proofs.Known.{is_in}
 use Rattle.store_model.proofs.Lost.{has_none}
@@ -53,6 +54,10 @@ use Rattle.txn_laws.specs.Windows.{Simulates, MovesTo}
 use Rattle.txn_laws.proofs.Telling.{by_device, known_before_write, sized_of}
 use Rattle.txn_laws.proofs.PageWrites.{page_is_own}
 use Rattle.txn_laws.proofs.Syncs.{and_left, and_right, is_below}
+use Rattle.store_claims.specs.Claims.{claims_of}
+use Rattle.store_claims.proofs.Moving.{claims_move}
+use Rattle.store_claims.proofs.Staying.{claimed_stays}
+use Rattle.txn_laws.proofs.Claiming.{stay_same}
 
 not_is : (v : Bool) → not v ≡ true → v ≡ false
 not_is true is = absurd (true≢false (sym is))
@@ -445,16 +450,20 @@ module _ (f : StoreFacts) (disk : Disk) (m : Store) (b : Block) (x : Body) (kept
   step check small now is = write_out b (sectors_from b.first (new check)) (disk_without (own_of f) now) may (spells_new check small) (puts check now is)
 
   pub goes_out : (check : ℕ) → check < 2 ^ 16 → (now : Disk) → now ≡ put b.first (sectors_of (spelled b.kind check x.bytes)) disk → IsSized now
-      → (n : Store) × StandsBehind (written_out_facts b f) now n × MovesTo (are_rivals b) (window_of m.window) (window_of n.window)
+      → (n : Store) × StandsBehind (written_out_facts b f) now n × MovesTo (are_rivals b) (store_window m) (store_window n)
   goes_out check small now is sized = (n now, stands, moves)
     where
-      moves : MovesTo (are_rivals b) (window_of m.window) (window_of (n now).window)
+      moves : MovesTo (are_rivals b) (store_window m) (store_window (n now))
       moves = record {
         is_open = refl;
         waiting = omega arith;
         present = λ c none. ap₂ (λ (bytes : BodyBytes) (t : Bool). record { bytes = first_bytes (512 * sectors c.kind) bytes; torn = t }) (same_body (disk_without (own_of f) now) c none) (same_torn (disk_without (own_of f) now) c none);
-        others = λ k le c none. subst (λ (j : ℕ). (window_of (n now).window).before j c ≡ (window_of m.window).before k c) (let e : 0 + k ≡ k = omega arith in e)
+        others = λ k le c none. subst (λ (j : ℕ). (store_window (n now)).before j c ≡ (store_window m).before k c) (let e : 0 + k ≡ k = omega arith in e)
             (windows_move_law.members h.geometry m (n now) (step check small now is) c none k (omega (arith, le))).1;
+        claimed = stay_same (claims_of m) (claims_of (n now)) (claims_move.step h.geometry m (n now) (step check small now is) h.sound);
+        shown = λ c will. claimed_stays.present h.geometry m (n now) (step check small now is) h.sound c will refl;
+        kept = λ k le c claims. subst (λ (j : ℕ). (store_window (n now)).before j c ≡ (store_window m).before k c) (let e : 0 + k ≡ k = omega arith in e)
+            (claimed_stays.members h.geometry m (n now) (step check small now is) h.sound k c claims (omega (arith, le))).1;
       }
 
       stands : StandsBehind g now (n now)
@@ -634,16 +643,20 @@ module _ (f : StoreFacts) (disk : Disk) (m : Store) (b : Block) (x : Body) (kept
   failed_step check now part = write_out_fails b (sectors_from b.first (new check)) (disk_without (own_of f) now) may (failed_puts check now part)
 
   pub goes_badly : (check : ℕ) → (now : Disk) → IsBetween disk (put b.first (sectors_of (spelled b.kind check x.bytes)) disk) now → IsSized now
-      → (n : Store) × StandsBehind (sent_out_facts b f) now n × MovesTo (are_rivals b) (window_of m.window) (window_of n.window)
+      → (n : Store) × StandsBehind (sent_out_facts b f) now n × MovesTo (are_rivals b) (store_window m) (store_window n)
   goes_badly check now part sized = (nf now, stands, moves)
     where
-      moves : MovesTo (are_rivals b) (window_of m.window) (window_of (nf now).window)
+      moves : MovesTo (are_rivals b) (store_window m) (store_window (nf now))
       moves = record {
         is_open = refl;
         waiting = omega arith;
         present = λ c none. ap₂ (λ (bytes : BodyBytes) (t : Bool). record { bytes = first_bytes (512 * sectors c.kind) bytes; torn = t }) (same_body (disk_without (own_of f) now) c none) (same_torn (disk_without (own_of f) now) c none);
-        others = λ k le c none. subst (λ (j : ℕ). (window_of (nf now).window).before j c ≡ (window_of m.window).before k c) (let e : 0 + k ≡ k = omega arith in e)
+        others = λ k le c none. subst (λ (j : ℕ). (store_window (nf now)).before j c ≡ (store_window m).before k c) (let e : 0 + k ≡ k = omega arith in e)
             (windows_move_law.members h.geometry m (nf now) (failed_step check now part) c none k (omega (arith, le))).1;
+        claimed = stay_same (claims_of m) (claims_of (nf now)) (claims_move.step h.geometry m (nf now) (failed_step check now part) h.sound);
+        shown = λ c will. claimed_stays.present h.geometry m (nf now) (failed_step check now part) h.sound c will refl;
+        kept = λ k le c claims. subst (λ (j : ℕ). (store_window (nf now)).before j c ≡ (store_window m).before k c) (let e : 0 + k ≡ k = omega arith in e)
+            (claimed_stays.members h.geometry m (nf now) (failed_step check now part) h.sound k c claims (omega (arith, le))).1;
       }
 
       stands : StandsBehind gf now (nf now)

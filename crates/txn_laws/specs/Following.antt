@@ -8,18 +8,19 @@ use Rattle.log_page.specs.declared.restart.Restart.{Restart}
 use Rattle.log_page.specs.LiveLogs.{live_log}
 use Rattle.log_reading.specs.Fronts.{chosen_in}
 use Rattle.store_model.specs.Geometry.{SectorBytes}
-use Rattle.store_model.specs.Volumes.{is_known, ContentWindow, IsRecovered, RecoversToContent}
+use Rattle.store_model.specs.Volumes.{is_known, IsRecovered, RecoversToContent}
+use Rattle.store_claims.specs.Windows.{StoreWindow}
 use Rattle.ring_laws.specs.PageBytes.{raw_page}
 use Rattle.txn_laws.specs.Windows.{RecoversWithin, AfterBegin, AfterChange, AfterCommit, AfterGiveUp, AfterWrite, MovesTo}
 
 -- So many commits came, and some blocks' bodies were dropped: of each other block, each content that is left is one of before, or newer.
-pub record Follows (commits : ℕ) (lost : Block → Bool) (old new : ContentWindow) : Type 0 where
+pub record Follows (commits : ℕ) (lost : Block → Bool) (old new : StoreWindow) : Type 0 where
   pub waiting : new.waiting ≤ commits + old.waiting
   pub others : (k : ℕ) (b : Block) → commits + k ≤ new.waiting → lost b ≡ false → (k ≤ old.waiting) × (new.before (commits + k) b ≡ old.before k b)
 
 -- The image recovers to the content after a commit since an earlier moment, whose window was the old one; or, on the blocks that were spared since, to a content of
 -- that window, and so to one no older than what was known durable then.
-pub record RecoversSince (place : LogPlace) (own : ℕ → Bool) (commits : ℕ) (lost : Block → Bool) (old new : ContentWindow) (image : SectorBytes) : Type 0 where
+pub record RecoversSince (place : LogPlace) (own : ℕ → Bool) (commits : ℕ) (lost : Block → Bool) (old new : StoreWindow) (image : SectorBytes) : Type 0 where
   pub restart : Restart
   pub chosen : chosen_in (raw_page place image 0) (raw_page place image 1) ≡ Some restart
   pub list : List Entry
@@ -29,14 +30,14 @@ pub record RecoversSince (place : LogPlace) (own : ℕ → Bool) (commits : ℕ)
 
 pub record WindowsFollow : Type 0 where
   -- what each call does to the window
-  pub write : (old new : ContentWindow) → AfterWrite old new → Follows 0 (λ b. false) old new
-  pub begin : (old new : ContentWindow) → AfterBegin old new → Follows 0 (λ b. false) old new
-  pub change : (c : Block) (at : ℕ) (put : List ℕ) (old new : ContentWindow) → AfterChange c at put old new → Follows 0 (λ b. false) old new
-  pub commit : (old new : ContentWindow) → AfterCommit old new → Follows 1 (λ b. false) old new
-  pub give_up : (old new : ContentWindow) → AfterGiveUp old new → Follows 0 (λ b. false) old new
-  pub move : (lost : Block → Bool) (old new : ContentWindow) → MovesTo lost old new → Follows 0 lost old new
+  pub write : (old new : StoreWindow) → AfterWrite old new → Follows 0 (λ b. false) old new
+  pub begin : (old new : StoreWindow) → AfterBegin old new → Follows 0 (λ b. false) old new
+  pub change : (c : Block) (at : ℕ) (put : List ℕ) (old new : StoreWindow) → AfterChange c at put old new → Follows 0 (λ b. false) old new
+  pub commit : (old new : StoreWindow) → AfterCommit old new → Follows 1 (λ b. false) old new
+  pub give_up : (old new : StoreWindow) → AfterGiveUp old new → Follows 0 (λ b. false) old new
+  pub move : (lost : Block → Bool) (old new : StoreWindow) → MovesTo lost old new → Follows 0 lost old new
   -- one call behind another
-  pub joined : (m n : ℕ) (lost gone : Block → Bool) (old mid new : ContentWindow) → Follows m lost old mid → Follows n gone mid new → Follows (n + m) (λ b. lost b || gone b) old new
+  pub joined : (m n : ℕ) (lost gone : Block → Bool) (old mid new : StoreWindow) → Follows m lost old mid → Follows n gone mid new → Follows (n + m) (λ b. lost b || gone b) old new
   -- an image that recovers to a content of the window that followed
-  pub since : (place : LogPlace) (own : ℕ → Bool) (commits : ℕ) (lost : Block → Bool) (old new : ContentWindow) (image : SectorBytes) → Follows commits lost old new → RecoversWithin place own new image
+  pub since : (place : LogPlace) (own : ℕ → Bool) (commits : ℕ) (lost : Block → Bool) (old new : StoreWindow) (image : SectorBytes) → Follows commits lost old new → RecoversWithin place own new image
       → RecoversSince place own commits lost old new image

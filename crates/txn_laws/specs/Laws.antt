@@ -12,7 +12,8 @@ use Rattle.sector_device.specs.Sectors.{sectors_of}
 use Rattle.sector_device.specs.Moments.{Changes, Syncs, MayLeaveNow}
 use Rattle.log_model.specs.declared.entry.Act.TheVariants.{Commit}
 use Rattle.log_area.specs.Calls.{IsAsked, Sends}
-use Rattle.store_model.specs.Volumes.{is_known, sectors_from, ContentWindow}
+use Rattle.store_model.specs.Volumes.{is_known, sectors_from}
+use Rattle.store_claims.specs.Windows.{StoreWindow}
 use Rattle.log_page.specs.declared.places.LogPlace.{LogPlace}
 use Rattle.log_page.specs.declared.restart.Restart.{Restart}
 use Rattle.log_area.specs.Areas.{LogAreaOf, lap_at, next_number, number_lsn, new_area, named_area, synced_area, IsOldest}
@@ -43,21 +44,21 @@ use Rattle.txn_laws.specs.Windows.{HasMachine, HasWindow, HasStart, IsShown, Rec
 -- What a window says.
 pub record WindowsTell : Type 0 where
   -- at a return: whatever a crash may leave recovers to a content of the window
-  pub at_return : (count : ℕ) (changes : Changes) (f : StoreFacts) (w : ContentWindow) (image : List (List ℕ)) → HasWindow changes f w → MayLeaveNow count changes image → RecoversWithin f.place (own_of f) w (sector_of image)
+  pub at_return : (count : ℕ) (changes : Changes) (f : StoreFacts) (w : StoreWindow) (image : List (List ℕ)) → HasWindow changes f w → MayLeaveNow count changes image → RecoversWithin f.place (own_of f) w (sector_of image)
   -- and says no lap above that of the page that is filled
-  pub laps : (count : ℕ) (changes : Changes) (f : StoreFacts) (w : ContentWindow) (image : List (List ℕ)) → HasWindow changes f w → MayLeaveNow count changes image
+  pub laps : (count : ℕ) (changes : Changes) (f : StoreFacts) (w : StoreWindow) (image : List (List ℕ)) → HasWindow changes f w → MayLeaveNow count changes image
       → (k lsn : ℕ) → IsInRing f.place k → said_lsn (raw_page f.place (sector_of image) k) ≡ Some lsn → lap_of f.place.pages lsn ≤ lap_at f.log f.log.sealed
   -- and a mount of it begins at most one lap above that of the place where the least entry would go next
-  pub next_lap : (count : ℕ) (changes : Changes) (f : StoreFacts) (w : ContentWindow) (image : List (List ℕ)) → HasWindow changes f w → MayLeaveNow count changes image
+  pub next_lap : (count : ℕ) (changes : Changes) (f : StoreFacts) (w : StoreWindow) (image : List (List ℕ)) → HasWindow changes f w → MayLeaveNow count changes image
       → next_lap_in f.place (sector_of image) ≤ lap_behind f
   -- the present body of a known block is the one that is kept, or what a read gives
-  pub present : (changes : Changes) (f : StoreFacts) (w : ContentWindow) (gives : Option (List (List ℕ))) → HasWindow changes f w → SeesDisk gives changes.disk → (b : Block) → is_known (own_of f) b ≡ true
+  pub present : (changes : Changes) (f : StoreFacts) (w : StoreWindow) (gives : Option (List (List ℕ))) → HasWindow changes f w → SeesDisk gives changes.disk → (b : Block) → is_known (own_of f) b ≡ true
       → IfSome gives (λ disk. IsShown w b (unwrap_or (f.body b) (content_of (sector_of disk) b)))
   -- as many commits wait as aren't known durable
-  pub waiting : (changes : Changes) (f : StoreFacts) (w : ContentWindow) → HasWindow changes f w → f.durable + w.waiting ≡ f.commits
-  pub is_open : (changes : Changes) (f : StoreFacts) (w : ContentWindow) → HasWindow changes f w → w.is_open ≡ f.is_open
+  pub waiting : (changes : Changes) (f : StoreFacts) (w : StoreWindow) → HasWindow changes f w → f.durable + w.waiting ≡ f.commits
+  pub is_open : (changes : Changes) (f : StoreFacts) (w : StoreWindow) → HasWindow changes f w → w.is_open ≡ f.is_open
   -- and a machine stands behind the store
-  pub machine : (changes : Changes) (f : StoreFacts) (w : ContentWindow) → HasWindow changes f w → HasMachine changes f
+  pub machine : (changes : Changes) (f : StoreFacts) (w : StoreWindow) → HasWindow changes f w → HasMachine changes f
 
 -- A store begins on a settled device whose log stands without entries, where the last durable restart page is of this host and names the ring's oldest page, and no other one was begun.
 pub record StoresStart : Type 0 where

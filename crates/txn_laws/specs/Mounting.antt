@@ -13,11 +13,12 @@ use Rattle.log_page.specs.declared.places.LogPlace.{LogPlace}
 use Rattle.store_model.specs.Logs.{has_update}
 use Rattle.store_model.specs.Geometry.{SectorBytes, Geometry, CanLeave}
 use Rattle.store_model.specs.Recovery.{Begins}
-use Rattle.store_model.specs.Volumes.{is_known, bytes_in, IsVolume, AreWhole, ContentWindow, RecoversToContent}
+use Rattle.store_model.specs.Volumes.{is_known, bytes_in, IsVolume, AreWhole, RecoversToContent}
+use Rattle.store_claims.specs.Windows.{StoreWindow}
 use Rattle.ring_laws.specs.PageBytes.{raw_page, IsStill, AreAlike}
 use Rattle.ring_laws.specs.StoreDisks.{disk_without}
 use Rattle.txn_model.specs.Values.{StoreFacts, is_own, own_of}
-use Rattle.txn_laws.specs.Windows.{HasStart, HasWindow}
+use Rattle.txn_laws.specs.Windows.{HasStart, HasWindow, ClaimsAll}
 use Rattle.sector_device.specs.Moments.{Changes}
 
 -- these sectors have the block as it is in the content, torn at most where it is torn there
@@ -49,13 +50,14 @@ pub record MayPutBack (own : ℕ → Bool) (list : List Entry) (content : Conten
 abbrev pub put_back : Content → Block → ℕ → Disk → Disk
 put_back content b check disk = put b.first (sectors_of (spelled b.kind check (content b).bytes)) disk
 
--- The store has a window with no transaction open and no commit that isn't durable, whose present content is this one on the known blocks that the list
--- doesn't shadow, torn at most where that is.
+-- The store has a window with no transaction open and no commit that isn't durable, which claims each block, and whose present content is this one on the known
+-- blocks that the list doesn't shadow, torn at most where that is.
 pub record HasMounted (changes : Changes) (f : StoreFacts) (list : List Entry) (content : Content) : Type 0 where
-  pub window : ContentWindow
+  pub window : StoreWindow
   pub has : HasWindow changes f window
   pub closed : window.is_open ≡ false
   pub none : window.waiting ≡ 0
+  pub claimed : ClaimsAll window.claimed
   pub present : (b : Block) → is_known (own_of f) b ≡ true → is_shadowed list b ≡ false → ((window.present b).bytes ≡ (content b).bytes) × ((window.present b).torn ≡ true → (content b).torn ≡ true)
 
 -- Recovery of a device.

@@ -9,7 +9,7 @@ use Rattle.fixup_record.specs.Spellings.{has_spelling}
 use Rattle.sector_device.specs.Disks.{Disk}
 use Rattle.sector_device.specs.Moments.{Changes, LeftSince}
 use Rattle.log_model.specs.declared.entry.Entry.{Entry}
-use Rattle.log_model.specs.Logs.{is_other, is_written_out, first_misplaced, first_partial}
+use Rattle.log_model.specs.Logs.{is_shadowed, is_other, is_written_out, first_misplaced, first_partial}
 use Rattle.log_page.specs.declared.places.LogPlace.{LogPlace}
 use Rattle.log_page.specs.declared.restart.Restart.{Restart}
 use Rattle.log_page.specs.LiveLogs.{live_log, next_lap}
@@ -19,7 +19,10 @@ use Rattle.log_reading.specs.Fronts.{chosen_in}
 use Rattle.store_model.specs.Logs.{has_update}
 use Rattle.store_model.specs.Geometry.{SectorBytes}
 use Rattle.store_model.specs.Stores.{Store}
-use Rattle.store_model.specs.Volumes.{is_known, ContentWindow, window_of, RecoversToContent}
+use Rattle.store_model.specs.Volumes.{is_known, RecoversToContent}
+use Rattle.store_claims.specs.Claims.{ClaimWindow}
+use Rattle.store_claims.specs.Windows.{StoreWindow, store_window}
+use Rattle.store_claims.specs.Moves.{Keeps, ClaimsStay, ClaimsAfterChange, ClaimsAfterCommit, ClaimsAfterGiveUp}
 use Rattle.ring_laws.specs.PageBytes.{raw_page}
 use Rattle.txn_model.specs.Values.{StoreFacts, own_of}
 use Rattle.txn_laws.specs.Standing.{StandsBehind}
@@ -29,25 +32,32 @@ abbrev pub HasMachine : Changes → StoreFacts → Type 0
 HasMachine changes f = (disk : Disk) → changes.disk ≡ Some disk → (m : Store) × StandsBehind f disk m
 
 -- the disk is known, and this is the window of a machine that stands behind the store
-abbrev pub HasWindow : Changes → StoreFacts → ContentWindow → Type 0
-HasWindow changes f w = (disk : Disk) × (changes.disk ≡ Some disk) × (m : Store) × StandsBehind f disk m × (window_of m.window ≡ w)
+abbrev pub HasWindow : Changes → StoreFacts → StoreWindow → Type 0
+HasWindow changes f w = (disk : Disk) × (changes.disk ≡ Some disk) × (m : Store) × StandsBehind f disk m × (store_window m ≡ w)
 
 -- This is the block's present body, torn at most where the content is.
-pub record IsShown (w : ContentWindow) (b : Block) (body : Body) : Type 0 where
+pub record IsShown (w : StoreWindow) (b : Block) (body : Body) : Type 0 where
   pub bytes : body.bytes ≡ (w.present b).bytes
   pub torn : body.torn ≡ true → (w.present b).torn ≡ true
 
--- The store has a window whose present content is this one, with no transaction open and no commit that isn't durable.
+-- each block is claimed
+pub record ClaimsAll (c : ClaimWindow) : Type 0 where
+  pub claims : (k : ℕ) (b : Block) → c.claims k b ≡ true
+  pub will : (b : Block) → c.will b ≡ true
+
+-- The store has a window whose present content is this one, with no transaction open and no commit that isn't durable, which claims each block.
 pub record HasStart (changes : Changes) (f : StoreFacts) (content : Content) : Type 0 where
-  pub window : ContentWindow
+  pub window : StoreWindow
   pub has : HasWindow changes f window
   pub closed : window.is_open ≡ false
   pub none : window.waiting ≡ 0
   pub present : (b : Block) → window.present b ≡ content b
+  pub claimed : ClaimsAll window.claimed
 
 -- Recovery of the image chooses a restart page of this host, reads a list of entries from its oldest place on, and no entry of another shape; each entry updates bytes of a known block of the volume; it refuses
--- the list for no block that is covered in part, and for no body that has no spelling; and it leaves the known blocks that the list doesn't shadow as they are so many commits back.
-pub record RecoversWithin (place : LogPlace) (own : ℕ → Bool) (w : ContentWindow) (image : SectorBytes) : Type 0 where
+-- the list for no block that is covered in part, and for no body that has no spelling; and it leaves the known blocks that the list doesn't shadow as they are so many commits back,
+-- and so all that are claimed there.
+pub record RecoversWithin (place : LogPlace) (own : ℕ → Bool) (w : StoreWindow) (image : SectorBytes) : Type 0 where
   pub restart : Restart
   pub chosen : chosen_in (raw_page place image 0) (raw_page place image 1) ≡ Some restart
   pub own_page : FitsRestart restart
@@ -56,6 +66,7 @@ pub record RecoversWithin (place : LogPlace) (own : ℕ → Bool) (w : ContentWi
   pub back : ℕ
   pub within : back ≤ w.waiting
   pub recovers : RecoversToContent own list image (w.before back)
+  pub clear : (b : Block) → w.claimed.claims back b ≡ true → is_shadowed list b ≡ false
   pub updates : (b : Block) → has_update list b ≡ true → is_known own b ≡ true
   pub placed : first_misplaced list place.clusters ≡ None
   pub no_partial : first_partial (content_of image) list ≡ None
@@ -71,7 +82,7 @@ abbrev pub next_lap_in : LogPlace → SectorBytes → ℕ
 next_lap_in place at = next_lap place.pages (raw_page place at) (chosen_in (raw_page place at 0) (raw_page place at 1))
 
 -- during a call: an image that counts as left since t counted so before, or recovers to a content of the window before or after
-abbrev pub During : (count moment : ℕ) → Changes → Changes → StoreFacts → ContentWindow → ContentWindow → Type 0
+abbrev pub During : (count moment : ℕ) → Changes → Changes → StoreFacts → StoreWindow → StoreWindow → Type 0
 During count moment old now f w v = (t : ℕ) (image : List (List ℕ)) → t ≤ moment → LeftSince count now t image
     → LeftSince count old t image ⊎ (RecoversWithin f.place (own_of f) w (sector_of image) ⊎ RecoversWithin f.place (own_of f) v (sector_of image))
 
@@ -81,49 +92,57 @@ LapsDuring count moment old now f g = (t : ℕ) (image : List (List ℕ)) → t 
     → LeftSince count old t image ⊎ (next_lap_in f.place (sector_of image) ≤ max (lap_behind f) (lap_behind g))
 
 -- Whatever window the store had, it has one that follows; its device wasn't known only now; and its log lies where it did.
-pub record Simulates (count moment : ℕ) (old now : Changes) (f g : StoreFacts) (After : ContentWindow → ContentWindow → Type 0) : Type 0 where
+pub record Simulates (count moment : ℕ) (old now : Changes) (f g : StoreFacts) (After : StoreWindow → StoreWindow → Type 0) : Type 0 where
   pub known : (e : Disk) → now.disk ≡ Some e → (d : Disk) × (old.disk ≡ Some d)
   pub place : g.place ≡ f.place
   pub found : g.found ≡ f.found
-  pub steps : (w : ContentWindow) → HasWindow old f w → (v : ContentWindow) × HasWindow now g v × After w v × During count moment old now f w v
-  pub laps : (w : ContentWindow) → HasWindow old f w → LapsDuring count moment old now f g
+  pub steps : (w : StoreWindow) → HasWindow old f w → (v : StoreWindow) × HasWindow now g v × After w v × During count moment old now f w v
+  pub laps : (w : StoreWindow) → HasWindow old f w → LapsDuring count moment old now f g
 
 -- ---- the windows after each call
 
 -- nothing changes
-pub record AfterWrite (old new : ContentWindow) : Type 0 where
+pub record AfterWrite (old new : StoreWindow) : Type 0 where
   pub same : new ≡ old
 
-pub record AfterBegin (old new : ContentWindow) : Type 0 where
+-- what is claimed of the newest content will be of the present one
+pub record AfterBegin (old new : StoreWindow) : Type 0 where
   pub same : new ≡ record old { is_open = true }
+  pub will : Keeps (old.claimed.claims 0) new.claimed.will
 
 -- the contents of before stay, each one more commit back, and the newest one is the present one
-pub record AfterCommit (old new : ContentWindow) : Type 0 where
+pub record AfterCommit (old new : StoreWindow) : Type 0 where
   pub present : new.present ≡ old.present
   pub is_open : new.is_open ≡ false
   pub waiting : new.waiting ≡ suc old.waiting
   pub newest : (b : Block) → new.before 0 b ≡ old.present b
   pub others : (k : ℕ) (b : Block) → new.before (suc k) b ≡ old.before k b
+  pub claimed : ClaimsAfterCommit old.claimed new.claimed
 
 -- the present content is the newest one again
-pub record AfterGiveUp (old new : ContentWindow) : Type 0 where
+pub record AfterGiveUp (old new : StoreWindow) : Type 0 where
   pub present : (b : Block) → new.present b ≡ old.before 0 b
   pub is_open : new.is_open ≡ false
   pub waiting : new.waiting ≡ old.waiting
   pub others : (k : ℕ) (b : Block) → new.before k b ≡ old.before k b
+  pub claimed : ClaimsAfterGiveUp old.claimed new.claimed
 
 -- the present content has these bytes over the block's, which isn't torn, and the contents that a crash may bring back stay
-pub record AfterChange (c : Block) (at : ℕ) (put : List ℕ) (old new : ContentWindow) : Type 0 where
+pub record AfterChange (c : Block) (at : ℕ) (put : List ℕ) (old new : StoreWindow) : Type 0 where
   pub bytes : (new.present c).bytes ≡ written at put (old.present c).bytes
   pub torn : (new.present c).torn ≡ false
   pub elsewhere : (b : Block) → same_block b c ≡ false → new.present b ≡ old.present b
   pub is_open : new.is_open ≡ true
   pub waiting : new.waiting ≡ old.waiting
   pub others : (k : ℕ) → k ≤ new.waiting → (b : Block) → new.before k b ≡ old.before k b
+  pub claimed : ClaimsAfterChange c old.claimed new.claimed
 
--- The contents that are left stay, but for the blocks whose bodies were dropped.
-pub record MovesTo (lost : Block → Bool) (old new : ContentWindow) : Type 0 where
+-- The contents that are left stay, but for the blocks whose bodies were dropped, none of which was claimed there.
+pub record MovesTo (lost : Block → Bool) (old new : StoreWindow) : Type 0 where
   pub is_open : new.is_open ≡ old.is_open
   pub waiting : new.waiting ≤ old.waiting
   pub present : (b : Block) → lost b ≡ false → new.present b ≡ old.present b
   pub others : (k : ℕ) → k ≤ new.waiting → (b : Block) → lost b ≡ false → new.before k b ≡ old.before k b
+  pub claimed : ClaimsStay old.claimed new.claimed
+  pub shown : (b : Block) → old.claimed.will b ≡ true → new.present b ≡ old.present b
+  pub kept : (k : ℕ) → k ≤ new.waiting → (b : Block) → old.claimed.claims k b ≡ true → new.before k b ≡ old.before k b
