@@ -10,7 +10,8 @@ use Rattle.disk_model.specs.Content.{content_of}
 use Rattle.sector_device.specs.Disks.{Disk, SeesDisk}
 use Rattle.sector_device.specs.Moments.{Changes}
 use Rattle.log_page.specs.declared.places.LogPlace.{LogPlace}
-use Rattle.store_model.specs.Volumes.{is_known, ContentWindow}
+use Rattle.store_model.specs.Volumes.{is_known}
+use Rattle.store_claims.specs.Windows.{StoreWindow}
 use Rattle.store_model.proofs.Told.{true≢false, rivals_both}
 use Rattle.flush_policy.specs.declared.facts.StoreStep.{StoreStep}
 use Rattle.flush_policy.specs.declared.facts.StoreStep.TheVariants.{SealPage, WritePage, SyncDevice, WriteOut, BeginCheckpoint, WriteRestart}
@@ -28,11 +29,11 @@ use Rattle.turn_laws.proofs.Framing.{ready_dirty, body_stays}
 -- ---- windows
 
 -- the window has the present body of before
-shows_same : (step : StoreStep) (result : Result (Unit {0}) Failed) (f : StoreFacts) (w v : ContentWindow) (b : Block) → AfterTurn step result f w v → MayTurn f step → (f.mark b).dead ≡ false → ((c : Block) → are_rivals b c ≡ true → (f.mark c).dirty ≡ false) → v.present b ≡ w.present b
-shows_same SealPage result f w v b after may alive alone = ap (λ (x : ContentWindow). x.present b) after.same
-shows_same WritePage result f w v b after may alive alone = ap (λ (x : ContentWindow). x.present b) after.same
+shows_same : (step : StoreStep) (result : Result (Unit {0}) Failed) (f : StoreFacts) (w v : StoreWindow) (b : Block) → AfterTurn step result f w v → MayTurn f step → (f.mark b).dead ≡ false → ((c : Block) → are_rivals b c ≡ true → (f.mark c).dirty ≡ false) → v.present b ≡ w.present b
+shows_same SealPage result f w v b after may alive alone = ap (λ (x : StoreWindow). x.present b) after.same
+shows_same WritePage result f w v b after may alive alone = ap (λ (x : StoreWindow). x.present b) after.same
 shows_same SyncDevice (Ok x) f w v b after may alive alone = after.present b (ap (λ (t : Bool). t && nat_le (f.mark b).killed f.log.done) alive)
-shows_same SyncDevice (Err e) f w v b after may alive alone = ap (λ (x : ContentWindow). x.present b) after.same
+shows_same SyncDevice (Err e) f w v b after may alive alone = ap (λ (x : StoreWindow). x.present b) after.same
 shows_same (WriteOut c) result f w v b after may alive alone = after.present b no_rivals
   where
     no_rivals : are_rivals c b ≡ false
@@ -40,8 +41,8 @@ shows_same (WriteOut c) result f w v b after may alive alone = after.present b n
       | inl rivals ↦ absurd (true≢false (sym (ready_dirty f c may) ∙ alone c (rivals_both b c ∙ rivals)))
       | inr apart ↦ apart
     ]
-shows_same BeginCheckpoint result f w v b after may alive alone = ap (λ (x : ContentWindow). x.present b) after.same
-shows_same WriteRestart result f w v b after may alive alone = ap (λ (x : ContentWindow). x.present b) after.same
+shows_same BeginCheckpoint result f w v b after may alive alone = ap (λ (x : StoreWindow). x.present b) after.same
+shows_same WriteRestart result f w v b after may alive alone = ap (λ (x : StoreWindow). x.present b) after.same
 
 -- what a device gives is known where its disk is
 given_by : (o : Option (List (List ℕ))) (p : Option Disk) (e : Disk) → p ≡ Some e → SeesDisk o p → (now : List (List ℕ)) × (o ≡ Some now)
@@ -52,7 +53,7 @@ known_by : (o : Option (List (List ℕ))) (p : Option Disk) (now : List (List �
 known_by o (Some e) now is sees = (e, refl)
 known_by o None now is sees = absurd (subst (λ (q : Option (List (List ℕ))). SeesDisk q None) is sees)
 
-pub stays_unknown : {D : Type 0} (gives : D → Option (List (List ℕ))) (count moment : D → ℕ) (changes : D → Changes) (After : ContentWindow → ContentWindow → Type 0) (old new : Seen D) → SeesDisk (gives old.device) (changes old.device).disk → SeesDisk (gives new.device) (changes new.device).disk
+pub stays_unknown : {D : Type 0} (gives : D → Option (List (List ℕ))) (count moment : D → ℕ) (changes : D → Changes) (After : StoreWindow → StoreWindow → Type 0) (old new : Seen D) → SeesDisk (gives old.device) (changes old.device).disk → SeesDisk (gives new.device) (changes new.device).disk
     → TakesStep count moment changes After old new → gives old.device ≡ None → gives new.device ≡ None
 stays_unknown {D} gives count moment changes After old new saw sees takes none = by (gives new.device) refl
   where
@@ -70,7 +71,7 @@ stays_unknown {D} gives count moment changes After old new saw sees takes none =
 -- ---- the present body
 
 -- of a body that is kept, by the windows
-module _ (f g : StoreFacts) (w v : ContentWindow) (disk now : List (List ℕ)) (b : Block) (old : IsShown w b (present_on disk f b)) (new : IsShown v b (present_on now g b)) (same : v.present b ≡ w.present b) (spared : IsSpared f w disk b) (kept : is_some (f.body b) ≡ true) where
+module _ (f g : StoreFacts) (w v : StoreWindow) (disk now : List (List ℕ)) (b : Block) (old : IsShown w b (present_on disk f b)) (new : IsShown v b (present_on now g b)) (same : v.present b ≡ w.present b) (spared : IsSpared f w disk b) (kept : is_some (f.body b) ≡ true) where
   untorn : (v.present b).torn ≡ false
   untorn = false_from_ne_true (v.present b).torn (λ torn. true≢false (sym (spared.shown (ap (λ (x : Body). x.torn) (sym same) ∙ torn)) ∙ spared.whole kept))
 
@@ -87,12 +88,12 @@ module _ (f g : StoreFacts) (w v : ContentWindow) (disk now : List (List ℕ)) (
   kept_shown torn = absurd (true≢false (sym torn ∙ untorn))
 
 -- of a block that was spared
-record Behind (f g : StoreFacts) (v : ContentWindow) (disk now : List (List ℕ)) (b : Block) : Type 0 where
+record Behind (f g : StoreFacts) (v : StoreWindow) (disk now : List (List ℕ)) (b : Block) : Type 0 where
   body : KeepsBody (present_on disk f b) (present_on now g b)
   whole : is_some (g.body b) ≡ true → (present_on now g b).torn ≡ false
   shown : (v.present b).torn ≡ true → (present_on now g b).torn ≡ true
 
-module _ {D : Type 0} (gives : D → Option (List (List ℕ))) (count moment : D → ℕ) (changes : D → Changes) (step : StoreStep) (result : Result (Unit {0}) Failed) (old new : Seen D) (w v : ContentWindow) (disk now : List (List ℕ)) (k : IsStore (facts_of old.state)) (saw : SeesDisk (gives old.device) (changes old.device).disk) (sees : SeesDisk (gives new.device) (changes new.device).disk)
+module _ {D : Type 0} (gives : D → Option (List (List ℕ))) (count moment : D → ℕ) (changes : D → Changes) (step : StoreStep) (result : Result (Unit {0}) Failed) (old new : Seen D) (w v : StoreWindow) (disk now : List (List ℕ)) (k : IsStore (facts_of old.state)) (saw : SeesDisk (gives old.device) (changes old.device).disk) (sees : SeesDisk (gives new.device) (changes new.device).disk)
     (was : gives old.device ≡ Some disk) (is : gives new.device ≡ Some now) (has : HasWindow (changes old.device) (facts_of old.state) w) (gets : HasWindow (changes new.device) (facts_of new.state) v) (may : MayTurn (facts_of old.state) step) (turned : HasTurned step result (facts_of old.state) (facts_of new.state))
     (sent : TurnsDevice gives changes moment step result (facts_of old.state) (facts_of new.state) old.words new.words old.device new.device) (takes : TakesStep count moment changes (AfterTurn step result (facts_of old.state)) old new) (after : AfterTurn step result (facts_of old.state) w v) (b : Block)
     (spared : IsSpared (facts_of old.state) w disk b) where
@@ -153,7 +154,7 @@ module _ {D : Type 0} (gives : D → Option (List (List ℕ))) (count moment : D
   body_kept : KeepsBody (present_on disk f b) (present_on now g b)
   body_kept = behind.body
 
-pub turn_spares : {D : Type 0} (gives : D → Option (List (List ℕ))) (count moment : D → ℕ) (changes : D → Changes) (step : StoreStep) (result : Result (Unit {0}) Failed) (old new : Seen D) (w : ContentWindow) (disk : List (List ℕ)) → IsStore (facts_of old.state) → SeesDisk (gives old.device) (changes old.device).disk
+pub turn_spares : {D : Type 0} (gives : D → Option (List (List ℕ))) (count moment : D → ℕ) (changes : D → Changes) (step : StoreStep) (result : Result (Unit {0}) Failed) (old new : Seen D) (w : StoreWindow) (disk : List (List ℕ)) → IsStore (facts_of old.state) → SeesDisk (gives old.device) (changes old.device).disk
     → SeesDisk (gives new.device) (changes new.device).disk → gives old.device ≡ Some disk → HasWindow (changes old.device) (facts_of old.state) w → MayTurn (facts_of old.state) step → HasTurned step result (facts_of old.state) (facts_of new.state)
     → TurnsDevice gives changes moment step result (facts_of old.state) (facts_of new.state) old.words new.words old.device new.device → TakesStep count moment changes (AfterTurn step result (facts_of old.state)) old new → StepSpares gives changes (AfterTurn step result (facts_of old.state)) w disk old new
 turn_spares {D} gives count moment changes step result old new w disk k saw sees was has may turned sent takes =

@@ -19,7 +19,7 @@ use Rattle.log_area.specs.Calls.{IsSent}
 use Rattle.log_area.proofs.Numbering.{lsn_room}
 use Rattle.store_model.specs.Rings.{Ring, Restarts, entries_on, synced_places}
 use Rattle.store_model.specs.Stores.{Store}
-use Rattle.store_model.specs.Volumes.{ContentWindow}
+use Rattle.store_claims.specs.Windows.{StoreWindow}
 use Rattle.ring_laws.specs.Numbers.{LogSession, lsn_of_page}
 use Rattle.ring_laws.specs.PageBytes.{raw_page}
 use Rattle.ring_laws.specs.RestartPages.{restart_written, restart_synced}
@@ -162,7 +162,7 @@ module _ {D : Type 0} (gives : D → Option (List (List ℕ))) (changes : D → 
       subst (λ (r : Restart). IsSent gives changes moment None (restart_sector f.log) (protected_bytes (restart_spelling r)) ends.word (written_ok tt) old ends.mid) (made_page f.log (front_lsn f.log f.log.sealed) true unsent)
       (subst (λ (o : Option ℕ). IsSent gives changes moment o (restart_sector f.log) (protected_bytes (restart_spelling (page_to_send f.log (front_lsn f.log f.log.sealed) true))) ends.word (written_ok tt) old ends.mid) (ap sent_word unsent) sends)
 
-  pub clean_leaves : IsDrained f → HasNext f.log → SeesDisk (gives old) (changes old).disk → (w : ContentWindow) → HasWindow (changes old) f w → (count : ℕ) (image : List (List ℕ)) → MayLeaveNow count (changes new) image → IsLeftClean f.place (sector_of image)
+  pub clean_leaves : IsDrained f → HasNext f.log → SeesDisk (gives old) (changes old).disk → (w : StoreWindow) → HasWindow (changes old) f w → (count : ℕ) (image : List (List ℕ)) → MayLeaveNow count (changes new) image → IsLeftClean f.place (sector_of image)
   clean_leaves d next sees w has count image left =
       left_clean gives changes moment f ends.word old ends.mid new d noted unsent next sees sends ends.syncs has.0 has.1 has.2 has.3 count image left
 

@@ -5,7 +5,7 @@ use Rattle.disk_model.specs.Sectors.{sector_of}
 use Rattle.sector_device.specs.Moments.{Changes, LeftSince}
 use Rattle.log_page.specs.declared.places.LogPlace.{LogPlace}
 use Rattle.store_model.specs.Geometry.{SectorBytes}
-use Rattle.store_model.specs.Volumes.{ContentWindow}
+use Rattle.store_claims.specs.Windows.{StoreWindow}
 use Rattle.store_model.proofs.Told.{true≢false}
 use Rattle.txn_model.specs.Values.{StoreFacts, own_of, is_own}
 use Rattle.txn_state.specs.States.{facts_of}
@@ -15,16 +15,16 @@ use Rattle.txn_close.specs.Passing.{IsSpared, Spares, LeavesWithin, Passes, Fewe
 
 -- ---- windows
 
-spares_same : (f : StoreFacts) (w : ContentWindow) → Spares f w w
+spares_same : (f : StoreFacts) (w : StoreWindow) → Spares f w w
 spares_same f w = record { waiting = omega arith; others = λ k le b spared. refl }
 
-spares_joined : (f : StoreFacts) (old mid new : ContentWindow) → Spares f old mid → Spares f mid new → Spares f old new
+spares_joined : (f : StoreFacts) (old mid new : StoreWindow) → Spares f old mid → Spares f mid new → Spares f old new
 spares_joined f old mid new one two = record {
   waiting = (let a = one.waiting in let b = two.waiting in omega (arith, a, b));
   others = λ k le b spared. two.others k le b spared ∙ one.others k (let few = two.waiting in omega (arith, le, few)) b spared;
 }
 
-wider : (base next : StoreFacts) (w v : ContentWindow) → ((b : Block) → IsSpared base b → IsSpared next b) → Spares next w v → Spares base w v
+wider : (base next : StoreFacts) (w v : StoreWindow) → ((b : Block) → IsSpared base b → IsSpared next b) → Spares next w v → Spares base w v
 wider base next w v spared s = record { waiting = s.waiting; others = λ k le b is. s.others k le b (spared b is) }
 
 -- ---- blocks that are spared
@@ -47,14 +47,14 @@ spared_on f g fewer b spared = record {
 
 -- ---- passes
 
-pub here : (f g : StoreFacts) (w : ContentWindow) (image : SectorBytes) → g.place ≡ f.place → g.found ≡ f.found → RecoversWithin g.place (own_of g) w image → RecoversWithin f.place (own_of f) w image
+pub here : (f g : StoreFacts) (w : StoreWindow) (image : SectorBytes) → g.place ≡ f.place → g.found ≡ f.found → RecoversWithin g.place (own_of g) w image → RecoversWithin f.place (own_of f) w image
 here f g w image place found x =
     subst (λ (bs : List Block). RecoversWithin f.place (is_own f.place bs) w image) found (subst (λ (p : LogPlace). RecoversWithin p (is_own p g.found) w image) place x)
 
 pub passes_none : (base : StoreFacts) (count moment : ℕ) (c : Changes) (f : StoreFacts) → Passes base count moment c c f f
 passes_none base count moment c f = record { known = λ e is. (e, is); place = refl; found = refl; steps = λ w has. (w, has, spares_same base w, λ t image le left. inl left) }
 
-pub passes_step : (base : StoreFacts) (count moment : ℕ) (old now : Changes) (f g : StoreFacts) (After : ContentWindow → ContentWindow → Type 0) → ((w v : ContentWindow) → After w v → Spares base w v)
+pub passes_step : (base : StoreFacts) (count moment : ℕ) (old now : Changes) (f g : StoreFacts) (After : StoreWindow → StoreWindow → Type 0) → ((w v : StoreWindow) → After w v → Spares base w v)
     → Simulates count moment old now f g After → Passes base count moment old now f g
 passes_step base count moment old now f g After spares s = record {
   known = s.known;
@@ -63,8 +63,8 @@ passes_step base count moment old now f g After spares s = record {
   steps = λ w has. let x = s.steps w has in (x.0, x.1, spares w x.0 x.2, λ t image le left. by w x.0 image t (spares w x.0 x.2) (x.3 t image le left));
 }
   where
-    by : (w v : ContentWindow) (image : List (List ℕ)) (t : ℕ) → Spares base w v → LeftSince count old t image ⊎ (RecoversWithin f.place (own_of f) w (sector_of image) ⊎ RecoversWithin f.place (own_of f) v (sector_of image))
-        → LeftSince count old t image ⊎ ((u : ContentWindow) × Spares base w u × RecoversWithin f.place (own_of f) u (sector_of image))
+    by : (w v : StoreWindow) (image : List (List ℕ)) (t : ℕ) → Spares base w v → LeftSince count old t image ⊎ (RecoversWithin f.place (own_of f) w (sector_of image) ⊎ RecoversWithin f.place (own_of f) v (sector_of image))
+        → LeftSince count old t image ⊎ ((u : StoreWindow) × Spares base w u × RecoversWithin f.place (own_of f) u (sector_of image))
     by w v image t follows (inl before) = inl before
     by w v image t follows (inr (inl recovers)) = inr (w, spares_same base w, recovers)
     by w v image t follows (inr (inr recovers)) = inr (v, follows, recovers)
@@ -81,8 +81,8 @@ passes_joined base next count early late old mid now f g h later spared one two 
       (y.0, y.1, spares_joined base w x.0 y.0 x.2 (wider base next x.0 y.0 spared y.2), λ t image le left. by w x.0 t image le x.2 x.3 y.3 left);
 }
   where
-    by : (w u : ContentWindow) (t : ℕ) (image : List (List ℕ)) → t ≤ early → Spares base w u → LeavesWithin base count early old mid f w → LeavesWithin next count late mid now g u → LeftSince count now t image
-        → LeftSince count old t image ⊎ ((v : ContentWindow) × Spares base w v × RecoversWithin f.place (own_of f) v (sector_of image))
+    by : (w u : StoreWindow) (t : ℕ) (image : List (List ℕ)) → t ≤ early → Spares base w u → LeavesWithin base count early old mid f w → LeavesWithin next count late mid now g u → LeftSince count now t image
+        → LeftSince count old t image ⊎ ((v : StoreWindow) × Spares base w v × RecoversWithin f.place (own_of f) v (sector_of image))
     by w u t image le follows first second left =
         elim (second t image (omega (arith, le, later)) left) [
           | inl between ↦ first t image le between
@@ -95,8 +95,8 @@ pub goes_none : {D : Type 0} (count moment : D → ℕ) (changes : D → Changes
 goes_none count moment changes base s fewer =
     record { later = omega arith; sectors = refl; fewer = fewer; passes = passes_none base (count s.device) (moment s.device) (changes s.device) (facts_of s.state) }
 
-pub goes_step : {D : Type 0} (count moment : D → ℕ) (changes : D → Changes) (base : StoreFacts) (After : ContentWindow → ContentWindow → Type 0) (old new : Seen D) → moment old.device ≤ moment new.device → count new.device ≡ count old.device
-    → Fewer base (facts_of new.state) → ((w v : ContentWindow) → After w v → Spares base w v) → TakesStep count moment changes After old new → Goes count moment changes base old new
+pub goes_step : {D : Type 0} (count moment : D → ℕ) (changes : D → Changes) (base : StoreFacts) (After : StoreWindow → StoreWindow → Type 0) (old new : Seen D) → moment old.device ≤ moment new.device → count new.device ≡ count old.device
+    → Fewer base (facts_of new.state) → ((w v : StoreWindow) → After w v → Spares base w v) → TakesStep count moment changes After old new → Goes count moment changes base old new
 goes_step count moment changes base After old new later sectors fewer spares step = record {
   later = later;
   sectors = sectors;

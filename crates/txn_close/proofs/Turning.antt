@@ -8,7 +8,7 @@ use Rattle.disk_model.specs.declared.block.Body.{Body}
 use Rattle.disk_model.specs.Sectors.{same_block, are_rivals}
 use Rattle.sector_device.specs.Moments.{moment_after, Changes}
 use Rattle.log_area.specs.Calls.{sending_moment, IsSentOrNot}
-use Rattle.store_model.specs.Volumes.{ContentWindow}
+use Rattle.store_claims.specs.Windows.{StoreWindow}
 use Rattle.store_model.proofs.Told.{true≢false}
 use Rattle.flush_policy.specs.declared.facts.StoreStep.{StoreStep}
 use Rattle.flush_policy.specs.declared.facts.StoreStep.TheVariants.{SealPage, WritePage, SyncDevice, WriteOut, BeginCheckpoint, WriteRestart}
@@ -96,10 +96,10 @@ fewer_turned WriteRestart (Err e) f g turned = at_facts f g _ turned (record { d
 
 -- ---- windows
 
-pub spares_written : (base : StoreFacts) (w v : ContentWindow) → AfterWrite w v → Spares base w v
-spares_written base w v after = subst (λ (u : ContentWindow). Spares base w u) (sym after.same) (record { waiting = omega arith; others = λ k le b spared. refl })
+pub spares_written : (base : StoreFacts) (w v : StoreWindow) → AfterWrite w v → Spares base w v
+spares_written base w v after = subst (λ (u : StoreWindow). Spares base w u) (sym after.same) (record { waiting = omega arith; others = λ k le b spared. refl })
 
-spares_moved : (base : StoreFacts) (lost : Block → Bool) (w v : ContentWindow) → ((b : Block) → IsSpared base b → lost b ≡ false) → MovesTo lost w v → Spares base w v
+spares_moved : (base : StoreFacts) (lost : Block → Bool) (w v : StoreWindow) → ((b : Block) → IsSpared base b → lost b ≡ false) → MovesTo lost w v → Spares base w v
 spares_moved base lost w v none moved = record { waiting = moved.waiting; others = λ k le b spared. moved.others k le b (none b spared) }
 
 not_buried : (done : ℕ) (m : Mark) → m.dead ≡ false → is_buried done m ≡ false
@@ -112,7 +112,7 @@ dead_not base f fewer b spared = by (f.mark b).dead refl
     by true is = absurd (true≢false (sym (fewer.dead b is) ∙ spared.alive))
     by false is = refl
 
-pub spares_synced : (base f : StoreFacts) (result : Result (Unit {0}) Failed) → Fewer base f → (w v : ContentWindow) → AfterSync result f w v → Spares base w v
+pub spares_synced : (base f : StoreFacts) (result : Result (Unit {0}) Failed) → Fewer base f → (w v : StoreWindow) → AfterSync result f w v → Spares base w v
 spares_synced base f (Ok tt) fewer w v moved = spares_moved base _ w v (λ b spared. not_buried f.log.done (f.mark b) (dead_not base f fewer b spared)) moved
 spares_synced base f (Err e) fewer w v after = spares_written base w v after
 
@@ -123,7 +123,7 @@ no_rival base f c fewer ready b spared = by (are_rivals c b) refl
     by true is = absurd (true≢false (sym (fewer.dirty c (ready_dirty f c ready)) ∙ spared.alone c is))
     by false is = refl
 
-pub spares_turned : (base f : StoreFacts) (step : StoreStep) (result : Result (Unit {0}) Failed) → Fewer base f → MayTurn f step → (w v : ContentWindow) → AfterTurn step result f w v → Spares base w v
+pub spares_turned : (base f : StoreFacts) (step : StoreStep) (result : Result (Unit {0}) Failed) → Fewer base f → MayTurn f step → (w v : StoreWindow) → AfterTurn step result f w v → Spares base w v
 spares_turned base f SealPage result fewer may w v after = spares_written base w v after
 spares_turned base f WritePage result fewer may w v after = spares_written base w v after
 spares_turned base f SyncDevice result fewer may w v after = spares_synced base f result fewer w v after
@@ -191,7 +191,7 @@ module _ {D : Type 0} (gives : D → Option (List (List ℕ))) (changes : D → 
 pub fewer_at : (f g h : StoreFacts) → g ≡ h → Fewer f h → Fewer f g
 fewer_at f g h is fewer = at_facts f g h is fewer
 
-pub spares_given_up : (base : StoreFacts) (w v : ContentWindow) → AfterGiveUp w v → Spares base w v
+pub spares_given_up : (base : StoreFacts) (w v : StoreWindow) → AfterGiveUp w v → Spares base w v
 spares_given_up base w v after = record { waiting = (let e = after.waiting in omega (arith, e)); others = λ k le b spared. after.others k b }
 
 module _ {D : Type 0} (gives : D → Option (List (List ℕ))) (count moment : D → ℕ) (changes : D → Changes) (old new : Seen D) where
@@ -201,7 +201,7 @@ module _ {D : Type 0} (gives : D → Option (List (List ℕ))) (count moment : D
   abbrev g : StoreFacts
   g = facts_of new.state
 
-  pub goes_in_memory : (base : StoreFacts) (After : ContentWindow → ContentWindow → Type 0) → new.device ≡ old.device → Fewer base g → ((w v : ContentWindow) → After w v → Spares base w v) → TakesStep count moment changes After old new → Goes count moment changes base old new
+  pub goes_in_memory : (base : StoreFacts) (After : StoreWindow → StoreWindow → Type 0) → new.device ≡ old.device → Fewer base g → ((w v : StoreWindow) → After w v → Spares base w v) → TakesStep count moment changes After old new → Goes count moment changes base old new
   goes_in_memory base After same fewer spares step = goes_step count moment changes base After old new (let e = ap moment same in omega (arith, e)) (ap count same) fewer spares step
 
   pub goes_turned : (step : StoreStep) (result : Result (Unit {0}) Failed) → ((c : Block) → (f.mark c).dirty ≡ true → is_some (f.body c) ≡ true) → MayTurn f step → HasTurned step result f g

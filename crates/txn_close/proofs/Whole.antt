@@ -12,7 +12,8 @@ use Rattle.log_page.specs.declared.restart.Restart.{Restart}
 use Rattle.log_page.specs.RecordPages.{Reading}
 use Rattle.log_page.specs.LiveLogs.{live_log}
 use Rattle.store_model.specs.Geometry.{SectorBytes}
-use Rattle.store_model.specs.Volumes.{ContentWindow, IsRecovered}
+use Rattle.store_model.specs.Volumes.{IsRecovered}
+use Rattle.store_claims.specs.Windows.{StoreWindow}
 use Rattle.ring_laws.specs.PageBytes.{raw_page}
 use Rattle.txn_model.specs.Values.{StoreFacts, own_of}
 use Rattle.txn_state.specs.States.{facts_of}
@@ -35,7 +36,7 @@ same_restart a b e = cc
 as_content : (c e : Content) (list : List Entry) (at : SectorBytes) (b : Block) → c b ≡ e b → IsRecovered list at c b → IsRecovered list at e b
 as_content c e list at b same is = record { bytes = is.bytes ∙ ap (λ (x : Body). x.bytes) same; torn = λ t. ap (λ (x : Body). x.torn) (sym same) ∙ is.torn t }
 
-module _ (base f : StoreFacts) (w v : ContentWindow) (image : SectorBytes) (spares : Spares base w v) (none : v.waiting ≡ 0) (within : RecoversWithin f.place (own_of f) v image) (clean : IsLeftClean f.place image) where
+module _ (base f : StoreFacts) (w v : StoreWindow) (image : SectorBytes) (spares : Spares base w v) (none : v.waiting ≡ 0) (within : RecoversWithin f.place (own_of f) v image) (clean : IsLeftClean f.place image) where
   same : within.restart ≡ clean.restart
   same = same_restart within.restart clean.restart (sym within.chosen ∙ clean.chosen)
 

@@ -14,7 +14,8 @@ use Rattle.log_reading.specs.Fronts.{chosen_in}
 use Rattle.log_area.specs.Areas.{LogAreaOf, restart_sector, naming_page, named_area, synced_area}
 use Rattle.log_area.specs.Calls.{IsSent}
 use Rattle.store_model.specs.Geometry.{SectorBytes}
-use Rattle.store_model.specs.Volumes.{is_known, ContentWindow, IsRecovered}
+use Rattle.store_model.specs.Volumes.{is_known, IsRecovered}
+use Rattle.store_claims.specs.Windows.{StoreWindow}
 use Rattle.ring_laws.specs.PageBytes.{raw_page}
 use Rattle.txn_model.specs.Values.{StoreFacts, own_of}
 use Rattle.txn_model.specs.Calls.{front_lsn}
@@ -64,7 +65,7 @@ pub record IsLeftClean (place : LogPlace) (image : SectorBytes) : Type 0 where
 -- where the store had a window, each image that a crash may leave of the device now is of a clean log
 abbrev pub LeavesClean : {D : Type 0} → (D → ℕ) → (D → Changes) → Seen D → D → Type 0
 LeavesClean count changes old device =
-    (w : ContentWindow) → HasWindow (changes old.device) (facts_of old.state) w → (image : List (List ℕ)) → MayLeaveNow (count device) (changes device) image → IsLeftClean (facts_of old.state).place (sector_of image)
+    (w : StoreWindow) → HasWindow (changes old.device) (facts_of old.state) w → (image : List (List ℕ)) → MayLeaveNow (count device) (changes device) image → IsLeftClean (facts_of old.state).place (sector_of image)
 
 -- The log of a drained store was marked clean, which gave the device back: this was the store just before.
 pub record MarksClean {D : Type 0} (gives : D → Option (List (List ℕ))) (count moment : D → ℕ) (changes : D → Changes) (store : Seen D) (result : Result (Unit {0}) CloseFault) (device : D) : Type 0 where
@@ -77,13 +78,13 @@ pub record MarksClean {D : Type 0} (gives : D → Option (List (List ℕ))) (cou
   pub goes : Goes count moment changes (facts_of store.state) store last
 
 -- The image is of a clean log, and recovery of it, by no entries, leaves each known block that was spared as it is after all commits of this window.
-pub record IsLeftWhole (base f : StoreFacts) (w : ContentWindow) (image : SectorBytes) : Type 0 where
+pub record IsLeftWhole (base f : StoreFacts) (w : StoreWindow) (image : SectorBytes) : Type 0 where
   pub clean : IsLeftClean f.place image
   pub newest : (b : Block) → IsSpared base b → is_known (own_of f) b ≡ true → IsRecovered [] image (w.before 0) b
 
 abbrev pub LeavesWhole : {D : Type 0} → (D → ℕ) → (D → Changes) → StoreFacts → Seen D → D → Type 0
 LeavesWhole count changes base old device =
-    (w : ContentWindow) → HasWindow (changes old.device) (facts_of old.state) w → (image : List (List ℕ)) → MayLeaveNow (count device) (changes device) image → IsLeftWhole base (facts_of old.state) w (sector_of image)
+    (w : StoreWindow) → HasWindow (changes old.device) (facts_of old.state) w → (image : List (List ℕ)) → MayLeaveNow (count device) (changes device) image → IsLeftWhole base (facts_of old.state) w (sector_of image)
 
 -- A store was closed, which gave the device back: this was the store just before.
 pub record Closes {D : Type 0} (gives : D → Option (List (List ℕ))) (count moment : D → ℕ) (changes : D → Changes) (store : Seen D) (result : Result (Unit {0}) CloseFault) (device : D) : Type 0 where

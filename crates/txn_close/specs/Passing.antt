@@ -4,7 +4,7 @@ use Rattle.disk_model.specs.declared.block.Block.{Block}
 use Rattle.disk_model.specs.Sectors.{sector_of, are_rivals}
 use Rattle.sector_device.specs.Disks.{Disk}
 use Rattle.sector_device.specs.Moments.{Changes, LeftSince}
-use Rattle.store_model.specs.Volumes.{ContentWindow}
+use Rattle.store_claims.specs.Windows.{StoreWindow}
 use Rattle.txn_model.specs.Values.{StoreFacts, own_of}
 use Rattle.txn_state.specs.States.{facts_of}
 use Rattle.txn_laws.specs.Windows.{HasWindow, RecoversWithin}
@@ -16,21 +16,21 @@ pub record IsSpared (f : StoreFacts) (b : Block) : Type 0 where
   pub alone : (c : Block) → are_rivals c b ≡ true → (f.mark c).dirty ≡ false
 
 -- The contents that a crash may bring back are some of those of before, on the blocks that are spared.
-pub record Spares (f : StoreFacts) (old new : ContentWindow) : Type 0 where
+pub record Spares (f : StoreFacts) (old new : StoreWindow) : Type 0 where
   pub waiting : new.waiting ≤ old.waiting
   pub others : (k : ℕ) → k ≤ new.waiting → (b : Block) → IsSpared f b → new.before k b ≡ old.before k b
 
 -- whatever counts as left since a moment no later than the first call counted so before, or recovers to a content of a window that follows
-abbrev pub LeavesWithin : StoreFacts → (count moment : ℕ) → Changes → Changes → StoreFacts → ContentWindow → Type 0
+abbrev pub LeavesWithin : StoreFacts → (count moment : ℕ) → Changes → Changes → StoreFacts → StoreWindow → Type 0
 LeavesWithin base count moment old now f w = (t : ℕ) (image : List (List ℕ)) → t ≤ moment → LeftSince count now t image
-    → LeftSince count old t image ⊎ ((v : ContentWindow) × Spares base w v × RecoversWithin f.place (own_of f) v (sector_of image))
+    → LeftSince count old t image ⊎ ((v : StoreWindow) × Spares base w v × RecoversWithin f.place (own_of f) v (sector_of image))
 
 -- Whatever window the store had, it has one that follows, as what a crash inside the calls leaves has; its device wasn't known only now; and its log lies where it did.
 pub record Passes (base : StoreFacts) (count moment : ℕ) (old now : Changes) (f g : StoreFacts) : Type 0 where
   pub known : (e : Disk) → now.disk ≡ Some e → (d : Disk) × (old.disk ≡ Some d)
   pub place : g.place ≡ f.place
   pub found : g.found ≡ f.found
-  pub steps : (w : ContentWindow) → HasWindow old f w → (v : ContentWindow) × HasWindow now g v × Spares base w v × LeavesWithin base count moment old now f w
+  pub steps : (w : StoreWindow) → HasWindow old f w → (v : StoreWindow) × HasWindow now g v × Spares base w v × LeavesWithin base count moment old now f w
 
 -- no block is dirty or dead that wasn't
 pub record Fewer (f g : StoreFacts) : Type 0 where
