@@ -1,13 +1,12 @@
 -- The least LSN that is said of a live block is that of the first entry by which the log shadows one.
-use Rattle.std.proofs.Common.{◌≡◌, ℕ, suc, ◌<◌, ◌≤◌, Bool, true, false, ◌&&◌, cond, List, [], ◌∷◌, find, option_map, Option, Some, None, refl, sym, ap, ◌∙◌, subst, inl, inr, arith}
-use Rattle.std.proofs.lemmas.Bool.{and_parts, and_from}
+use Rattle.std.proofs.Common.{◌≡◌, ℕ, suc, ◌≤◌, Bool, true, false, ◌&&◌, cond, List, [], ◌∷◌, find, option_map, Option, Some, None, refl, sym, ap, ◌∙◌, inl, inr, arith}
+use Rattle.std.proofs.lemmas.Bool.{and_from}
 use Rattle.disk_model.specs.declared.block.Block.{Block}
 use Rattle.volume_model.specs.Volumes.{Volume}
 use Rattle.stream_laws.specs.Owners.{IsLive}
 use Rattle.log_model.specs.declared.entry.Entry.{Entry}
 use Rattle.log_model.specs.Logs.{updates_rival, is_in_grid, is_shadowed, first_rival}
 use Rattle.log_recovery.specs.Recovering.{shadow_lsn}
-use Rattle.volume_shadows.specs.Live.{least_live}
 use Rattle.volume_shadows.proofs.Listing.{least_is_of, least_below}
 use Rattle.mount_laws.specs.Firsts.{Rise, ShadowsLive, IsFirst, LeastIsFirst}
 

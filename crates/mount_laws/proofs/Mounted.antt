@@ -1,5 +1,5 @@
 -- The log of a mounted volume may be written as it lies.
-use Rattle.std.proofs.Common.{◌≡◌, ℕ, ◌*◌, ◌/◌, ◌^◌, ◌<◌, ◌≤◌, Bool, true, false, cond, not, Option, Some, None, Result, Ok, Err, find, refl, sym, ap, subst, arith}
+use Rattle.std.proofs.Common.{◌≡◌, ℕ, ◌*◌, ◌/◌, ◌^◌, ◌<◌, ◌≤◌, Bool, true, false, cond, not, Option, Some, None, Result, Ok, Err, find, refl, sym, ap, subst, ◌∙◌, arith}
 use Rattle.std.specs.Prelude.{is_some}
 use Rattle.std.specs.List.{range_with_len}
 use Rattle.std.proofs.lemmas.Bool.{leb-true}
@@ -27,9 +27,11 @@ use Rattle.image_open.specs.Volumes.{data_of}
 use Rattle.image_open.specs.Writing.{OpenedToWrite, opened_to_write_in}
 use Rattle.image_read.specs.Errors.{broken_refusal}
 use Rattle.image_read.specs.Checks.{volume_on, has_version, tree_on}
-use Rattle.volume_mount.specs.Mounts.{Said, is_there, begun_sectors, or_all, front_sectors, lying_pages, lies_whole, pages_needed, whole_pages, has_pages, has_no_journal, unshadowed, placed, ruled, settled, paged, unjournaled, tried, loaded_on, MountedVolume, content_behind, mounted_as, mounted_by, mounted_in}
-use Rattle.mount_laws.specs.Laws.{MountedOnRing}
-use Rattle.mount_laws.proofs.Opened.{OpenedParts, opened_parts, IsWhole, lies_in_ring}
+use Rattle.volume_mount.specs.Mounts.{Said, unless_said, is_there, begun_sectors, or_all, front_sectors, lying_pages, lies_whole, pages_needed, whole_pages, has_pages, has_no_journal, unshadowed, placed, ruled, settled, paged, unjournaled, tried, loaded_on, MountedVolume, content_behind, mounted_as, mounted_by, mounted_in}
+use Rattle.volume_shadows.specs.Live.{least_live}
+use Rattle.mount_laws.specs.Laws.{MountedOnRing, LiesByRecord, MountedByRecord}
+use Rattle.mount_laws.proofs.Opened.{OpenedParts, opened_parts, IsWhole, its_place, lies_in_ring}
+use Rattle.mount_laws.proofs.Records.{parts, more, own_attrs}
 use Rattle.mount_laws.proofs.Rings.{alike_ring}
 
 unrefused : {A F : Type 0} (kind : F → Refusal) (read : Result A F) (x : A) → refused_as kind read ≡ Ok x → read ≡ Ok x
@@ -62,6 +64,10 @@ within_pages per clusters device (Some (Placed e)) = omega arith
 file_there : (o : Option Record) (pages front : ℕ) → 4 < pages → pages ≤ (cond (is_some o) (front / 8) 0) → (f : Record) × (o ≡ Some f) × (pages ≤ front / 8)
 file_there None pages front some le = absurd (omega (arith, some, le))
 file_there (Some f) pages front some le = (f, refl, le)
+
+same_unless : (o : Option ℕ) (r v : Volume) → unless_said o r ≡ Ok v → r ≡ v
+same_unless None r v is = cc
+same_unless (Some lsn) r v is = absurd cc
 
 module _ (c : Content) (sectors : ℕ) (o : OpenedToWrite) (v : Volume) (small : o.place.pages < 2 ^ 52) (p : OpenedParts c sectors o) where
   abbrev after : Content
@@ -107,17 +113,45 @@ module _ (c : Content) (sectors : ℕ) (o : OpenedToWrite) (v : Volume) (small :
   unit_is : {F : Type 0} (r : Result (Unit {0}) F) (x : Unit {0}) → r ≡ Ok x → r ≡ Ok tt
   unit_is r tt is = is
 
-  pub tried_ring : (w : Volume) → volume_on after o.geometry o.total ≡ Ok w → tried said o.place after w ≡ Ok v → IsRingPlace o.place
-  unfolding volume_on tried unjournaled paged settled placed
-  tried_ring w loaded is =
+  -- a volume that passes the tests stands, its log has all its sectors, and file 2 is there
+  record IsTried (w : Volume) : Type 0 where
+    same : w ≡ v
+    state : Stands after o.geometry o.total w
+    its : (IsWhole o.place) × ((f : Record) × (file_in w log_file ≡ Some f))
+
+  tried_parts : (w : Volume) → volume_on after o.geometry o.total ≡ Ok w → tried said o.place after w ≡ Ok v → IsTried w
+  unfolding volume_on tried unjournaled paged settled placed unshadowed
+  tried_parts w loaded is =
       let version = steps_from_ok (has_version w) (λ _. unjournaled said (upper_of after w) o.place after w) v is in
       let journal = steps_from_ok (has_no_journal (upper_of after w) w) (λ _. paged said o.place after w) v version.2 in
       let pages = steps_from_ok (has_pages o.place) (λ _. settled said o.place after w) v journal.2 in
       let rules = steps_from_ok (ruled after w) (placed said o.place) v pages.2 in
       let lying = steps_from_ok (lies_whole o.place rules.0) (λ _. unshadowed said rules.0) v rules.2 in
       let kept = unbroken w rules.0 rules.1 in
-      let its = whole w (as_pages (unit_is (has_pages o.place) pages.0 pages.1)) (subst (λ (x : Volume). o.place.pages ≤ lying_pages o.place x) (sym kept.1) (as_lying rules.0 (unit_is (lies_whole o.place rules.0) lying.0 lying.1))) in
-      lies_in_ring c sectors o p w (stands w (unrefused map_refusal (volume_of after o.geometry o.total) w loaded) kept.0) its.1.0 its.1.1 its.0
+      record {
+        same = kept.1 ∙ same_unless (least_live said rules.0) rules.0 v lying.2;
+        state = stands w (unrefused map_refusal (volume_of after o.geometry o.total) w loaded) kept.0;
+        its = whole w (as_pages (unit_is (has_pages o.place) pages.0 pages.1)) (subst (λ (x : Volume). o.place.pages ≤ lying_pages o.place x) (sym kept.1) (as_lying rules.0 (unit_is (lies_whole o.place rules.0) lying.0 lying.1)));
+      }
+
+  pub tried_ring : (w : Volume) → volume_on after o.geometry o.total ≡ Ok w → tried said o.place after w ≡ Ok v → IsRingPlace o.place
+  tried_ring w loaded is = (let t = tried_parts w loaded is in lies_in_ring c sectors o p w t.state t.its.1.0 t.its.1.1 t.its.0)
+
+  pub tried_record : (w : Volume) → volume_on after o.geometry o.total ≡ Ok w → tried said o.place after w ≡ Ok v → LiesByRecord sectors after o.geometry o.total o.place v
+  tried_record w loaded is =
+      let t = tried_parts w loaded is in
+      subst (LiesByRecord sectors after o.geometry o.total o.place) t.same
+      (record {
+        eight = p.eight;
+        stands = t.state;
+        file = t.its.1.0;
+        is_file = t.its.1.1;
+        base = (parts after o.geometry o.total w t.state t.its.1.0 t.its.1.1).base;
+        more = more after o.geometry o.total w t.state t.its.1.0 t.its.1.1;
+        attrs = own_attrs after o.geometry o.total w t.state t.its.1.0 t.its.1.1;
+        lies = its_place c sectors o p w t.state t.its.1.0 t.its.1.1 t.its.0;
+        there = t.its.0.there;
+      })
 
 opened_of_mounted : (c : Content) (o : OpenedToWrite) (v : Volume) → (mounted_as c o v).opened ≡ o
 opened_of_mounted c o v = refl
@@ -134,3 +168,15 @@ on_ring c sectors m place is alike small =
     let lies : LieAlike place o.place = subst (λ (x : OpenedToWrite). LieAlike place x.place) (sym opened) alike in
     let pages : o.place.pages < 2 ^ 52 = subst (λ (n : ℕ). n < 2 ^ 52) lies.pages small in
     alike_ring place o.place lies (tried_ring c sectors o second.0 pages (opened_parts c sectors o first.1) third.0 third.1 third.2)
+
+pub by_record : MountedByRecord
+unfolding mounted_in mounted_by loaded_on
+by_record c sectors m is small =
+    let first = steps_from_ok (opened_to_write_in c sectors) (mounted_by c) m is in
+    let o = first.0 in
+    let second = steps_from_ok (loaded_on (shadow_lsn o.state.log) o.place (content_behind c o) o.geometry o.total) (λ v. Ok (mounted_as c o v)) m first.2 in
+    let third = steps_from_ok (volume_on (content_behind c o) o.geometry o.total) (tried (shadow_lsn o.state.log) o.place (content_behind c o)) second.0 second.1 in
+    let made : mounted_as c o second.0 ≡ m = cc in
+    let opened : o ≡ m.opened = ap (λ (x : MountedVolume). x.opened) made in
+    let pages : o.place.pages < 2 ^ 52 = subst (λ (x : OpenedToWrite). x.place.pages < 2 ^ 52) (sym opened) small in
+    subst (λ (x : MountedVolume). LiesByRecord sectors x.content x.opened.geometry x.opened.total x.opened.place x.volume) made (tried_record c sectors o second.0 pages (opened_parts c sectors o first.1) third.0 third.1 third.2)

@@ -134,7 +134,7 @@ module _ (c : Content) (sectors : ℕ) (o : OpenedToWrite) (p : OpenedParts c se
   abbrev rec : Content
   rec = recovered c o.state.log
 
-  abbrev base : Record
+  abbrev pub base : Record
   base = (parts rec o.geometry o.total v stands f is).base
 
   judged_record : judged 2 (slot_of (c (boot_block o.geometry 2))) ≡ Ok p.file
@@ -147,7 +147,7 @@ module _ (c : Content) (sectors : ℕ) (o : OpenedToWrite) (p : OpenedParts c se
   its_file : p.file ≡ Some base
   its_file = judged_used (slot_of (c (boot_block o.geometry 2))) base p.file (sym (ap slot_of same_record) ∙ its_slot rec o.geometry o.total v stands f is) judged_record
 
-  its_place : o.place ≡ place_of_log 8 o.total sectors (data_stream base)
+  pub its_place : o.place ≡ place_of_log 8 o.total sectors (data_stream base)
   its_place = p.place ∙ ap (λ (x : ℕ). place_of_log x o.total sectors (data_of p.file)) p.eight ∙ ap (λ (r : Option Record). place_of_log 8 o.total sectors (data_of r)) its_file
 
   by_stream : (s : Option Stream) → data_stream base ≡ s → o.place ≡ place_of_log 8 o.total sectors s → IsRingPlace o.place

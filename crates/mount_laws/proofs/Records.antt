@@ -47,10 +47,10 @@ module _ (c : Content) (g : Geometry) (clusters : ℕ) (v : Volume) (s : Stands 
   abbrev pub parts : FileParts c v log_file f
   parts = file_parts c g clusters v log_file f s.loaded (some_file v log_file f is)
 
-  abbrev more : List Attr
+  abbrev pub more : List Attr
   more = flat_map (λ m. named_attrs (entries_of c v.per parts.base).entries log_file parts.base m (slots c v m)) (range_with_len 0 (record_count v.table))
 
-  own_attrs : f.attrs ≡ parts.base.attrs ++ more
+  pub own_attrs : f.attrs ≡ parts.base.attrs ++ more
   unfolding all_attrs
   own_attrs = ap (λ (r : Record). r.attrs) parts.whole
 

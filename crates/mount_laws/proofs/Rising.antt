@@ -1,12 +1,10 @@
 -- The entries of a log stand by rising LSNs.
-use Rattle.std.proofs.Common.{◌≡◌, ℕ, zero, suc, ◌+◌, ◌-◌, ◌*◌, ◌/◌, ◌%◌, ◌^◌, ◌<◌, ◌≤◌, Bool, true, false, cond, eqb, min, max, List, [], ◌∷◌, ◌++◌, length, get_or, drop, take, Option, Some, None, Result, Ok, Err, refl, sym, ap, ◌∙◌, subst, inl, inr, arith}
+use Rattle.std.proofs.Common.{◌≡◌, ℕ, suc, ◌+◌, ◌-◌, ◌*◌, ◌^◌, ◌<◌, ◌≤◌, Bool, true, false, cond, eqb, min, List, [], ◌∷◌, ◌++◌, length, get_or, take, Option, Some, None, Ok, refl, sym, ap, ◌∙◌, subst, inl, inr, arith}
 use Rattle.std.specs.Prelude.{⊤}
-use Rattle.std.specs.List.{flat_map}
 use Rattle.std.proofs.lemmas.Bool.{cases_Bool, and_parts, leb-true, ltb-true}
 use Rattle.std.specs.Option.{option_or}
 use Rattle.std.proofs.lemmas.List.{length-drop, length-take}
 use Rattle.host_base.specs.Answers.{◌>>=◌, needs}
-use Rattle.disk_model.specs.declared.block.Block.{Block}
 use Rattle.disk_model.specs.declared.block.BlockKind.TheVariants.{Plain}
 use Rattle.disk_model.specs.Bytes.{zeros}
 use Rattle.disk_model.specs.Sectors.{zero_sector}
@@ -21,17 +19,16 @@ use Rattle.log_model.specs.Entries.{entry_size}
 use Rattle.log_model.specs.Logs.{first_misplaced, first_partial}
 use Rattle.log_page.specs.declared.places.LogPlace.{LogPlace}
 use Rattle.log_page.specs.declared.restart.Restart.{Restart}
-use Rattle.log_page.specs.Places.{page_bytes, first_page, entries_at, lap_of, page_of, page_lsn, is_in_ring}
+use Rattle.log_page.specs.Places.{page_bytes, first_page, lap_of, page_of, is_in_ring}
 use Rattle.log_page.specs.Restarts.{is_clean}
 use Rattle.log_page.specs.RecordPages.{Reading, no_reading, free_at, lsn_of, bytes_from}
 use Rattle.log_page.specs.LiveLogs.{live_log, start_in_page}
 use Rattle.log_page.proofs.Readings.{size_some}
-use Rattle.log_reading.specs.declared.fault.LogRefusal.{LogRefusal}
 use Rattle.log_reading.specs.declared.fault.LogRefusal.TheVariants.{ForeignLog}
 use Rattle.log_reading.specs.declared.front.RestartFront.{RestartFront}
 use Rattle.log_reading.specs.Fronts.{front_in}
 use Rattle.log_reading.specs.LogPages.{sector_bytes, log_sector, log_bytes, page_in, initialised_bytes}
-use Rattle.log_laws.specs.Tables.{reading, Stand, kth_page, kth_lsn, kth_start, page_behind, lap_behind, AreWhole, IsLiveLog, entries_of}
+use Rattle.log_laws.specs.Tables.{reading, Stand, kth_page, kth_lsn, kth_start, IsLiveLog, entries_of}
 use Rattle.log_laws.proofs.Behind.{lsns_rise}
 use Rattle.log_laws.proofs.Logs.{read_table, outside}
 use Rattle.log_recovery.specs.LogStates.{LogState, FoundLog, all_or_refused, own_entries, entries_by, live_entries_in, whole_entries, lap_in, log_in, recovery_in}

@@ -1,11 +1,35 @@
 -- What is known of the log of a mounted volume.
-use Rattle.std.specs.Prelude.{◌≡◌, ℕ, ◌^◌, ◌<◌, Ok}
+use Rattle.std.specs.Prelude.{◌≡◌, ℕ, ◌*◌, ◌^◌, ◌<◌, true, List, ◌++◌, is_some, Some, Ok}
 use Rattle.disk_model.specs.Content.{Content}
+use Rattle.record_model.specs.declared.attribute.Attr.{Attr}
+use Rattle.record_model.specs.Records.{Record}
+use Rattle.state_model.specs.declared.geometry.Geometry.{Geometry}
+use Rattle.state_model.specs.Loads.{data_stream}
+use Rattle.volume_model.specs.Volumes.{Volume, file_in, log_file}
+use Rattle.plan_owners.specs.States.{Stands}
 use Rattle.log_page.specs.declared.places.LogPlace.{LogPlace}
+use Rattle.log_reading.specs.LogPages.{log_sector}
 use Rattle.log_reading.specs.Rings.{IsRingPlace}
-use Rattle.image_open.specs.LogPlaces.{LieAlike}
+use Rattle.image_open.specs.LogPlaces.{place_of_log, LieAlike}
 use Rattle.volume_mount.specs.Mounts.{MountedVolume, mounted_in}
 
 -- each page of the log of a mounted volume lies in one cluster of it, all of it is initialised, and no sector is that of two places in it
 abbrev pub MountedOnRing : Type 0
 MountedOnRing = (c : Content) (sectors : ℕ) (m : MountedVolume) (place : LogPlace) → mounted_in c sectors ≡ Ok m → LieAlike place m.opened.place → place.pages < 2 ^ 52 → IsRingPlace place
+
+-- The content is a state with this volume, in clusters of eight sectors. The log lies where the volume's record 2 says by itself, without what an attribute list of it names, and each of its
+-- sectors is there.
+pub record LiesByRecord (sectors : ℕ) (c : Content) (g : Geometry) (total : ℕ) (place : LogPlace) (v : Volume) : Type 0 where
+  pub eight : g.per_cluster ≡ 8
+  pub stands : Stands c g total v
+  pub file : Record
+  pub is_file : file_in v log_file ≡ Some file
+  pub base : Record
+  pub more : List Attr
+  pub attrs : file.attrs ≡ base.attrs ++ more
+  pub lies : place ≡ place_of_log 8 total sectors (data_stream base)
+  pub there : (n : ℕ) → n < 8 * place.pages → is_some (log_sector place n) ≡ true
+
+-- so does that of a mounted volume
+abbrev pub MountedByRecord : Type 0
+MountedByRecord = (c : Content) (sectors : ℕ) (m : MountedVolume) → mounted_in c sectors ≡ Ok m → m.opened.place.pages < 2 ^ 52 → LiesByRecord sectors m.content m.opened.geometry m.opened.total m.opened.place m.volume

@@ -1,10 +1,16 @@
 ghost use Rattle.mount_laws.specs.Firsts.{EntriesRise, LeastIsFirst};
-ghost use Rattle.mount_laws.specs.Laws.{MountedOnRing};
+ghost use Rattle.mount_laws.specs.Laws.{MountedByRecord, MountedOnRing};
 
 /// Law: each page of the log of a mounted volume lies in one cluster of the volume and is initialised,
 /// and no two places of the log lie in one sector: so a session may write it as it lies.
 pub fn mounted_on_ring()
     ensures { MountedOnRing }
+{}
+
+/// Law: a mounted volume is a state, in clusters of eight sectors, and its log lies where its record 2
+/// says by itself.
+pub fn mounted_by_record()
+    ensures { MountedByRecord }
 {}
 
 /// Law: the entries of a log that isn't refused stand by rising LSNs.

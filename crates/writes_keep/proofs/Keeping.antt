@@ -10,7 +10,7 @@ use Rattle.disk_model.specs.declared.block.BlockKind.TheVariants.{Plain, FileRec
 use Rattle.disk_model.specs.declared.block.Change.{Change}
 use Rattle.disk_model.specs.Bodies.{BodyOf}
 use Rattle.disk_model.specs.Content.{Content}
-use Rattle.disk_model.specs.Sectors.{sectors}
+use Rattle.disk_model.specs.Sectors.{sectors, overlap}
 use Rattle.record_model.specs.declared.runs.Run.{Run}
 use Rattle.record_model.specs.Constants.{data_type, file_name}
 use Rattle.record_model.specs.Pairs.{cluster_limit, HasSpelling}
@@ -22,7 +22,7 @@ use Rattle.state_model.specs.declared.geometry.Geometry.{Geometry}
 use Rattle.state_model.specs.declared.stream.Extents.{Extents}
 use Rattle.state_model.specs.declared.stream.Stream.{Stream}
 use Rattle.state_model.specs.declared.stream.Stream.TheVariants.{Held, Placed}
-use Rattle.state_model.specs.Loads.{Used, slot_of, whole_record, is_used, extents_or, total_clusters}
+use Rattle.state_model.specs.Loads.{boot_block, Used, slot_of, whole_record, is_used, extents_or, total_clusters}
 use Rattle.state_model.specs.Streams.{block_at}
 use Rattle.volume_model.specs.Volumes.{Volume, file_in, file_stream, cluster_bits, cluster_bitmap, bytes_or, log_file}
 use Rattle.volume_model.specs.Sizes.{has_hole}
@@ -73,6 +73,7 @@ use Rattle.plans_keep.proofs.Keeping.{each_change}
 use Rattle.writes_keep.specs.Writes.{HasWholeSectors, IsOffLog, WriteKeeps}
 use Rattle.writes_keep.proofs.Touching.{IsWell, AreSectors, IsRecord}
 use Rattle.writes_keep.proofs.Putting.{judged_sector, grown_sector, GoesTo, AllWell, change_well}
+use Rattle.writes_keep.proofs.Second.{off_second}
 use Rattle.writes_keep.proofs.Behind.{IsTouched, table_kind, bitmap_kind, other_file, user_is, v_per, w_per, w_once, same_clusters, not_user, log_stays, data_after, data_kind, is_touched, q, q_file, q_user, lists_after, upper_stays}
 
 few_runs : (o : Option Stream) (runs : List Run) (most : ℕ) → ((e : Extents) → o ≡ Some (Placed e) → total_clusters e.runs ≤ most) → runs_in o ≡ runs → total_clusters runs ≤ most
@@ -293,7 +294,7 @@ module _ (keeps : PlansKeep) (body : RecordIsBody) (c : Content) (g : Geometry) 
 
   -- ---- all of it
 
-  kept_of : WriteKeeps c v h.bodies (changes_of new) w
+  kept_of : WriteKeeps c g v h.bodies (changes_of new) w
   kept_of = record {
     keeps = subst (λ (xs : List Change). ChangesKeep c v h.bodies xs w) done.are
         (keeps c g clusters v w h.bodies h.gave new changes k.sized k.eight k.stands h.draft h.same done (touches_well new done.olds all_well) (log_stays c g clusters v s op n stamp a r x new k h) lists
@@ -303,7 +304,9 @@ module _ (keeps : PlansKeep) (body : RecordIsBody) (c : Content) (g : Geometry) 
     log = log_stays c g clusters v s op n stamp a r x new k h;
     off = each_change (λ (y : Change). IsOffLog v y.block) new
         (all_by (IsWell (GoesTo s n runs_now) (IsJudged v)) (λ (t : Touched). change_start t < change_end t → IsOffLog v t.block) (λ t is lt. off t.block is.goes) new all_well);
+    second = each_change (λ (y : Change). overlap y.block (boot_block g 2) ≡ false) new
+        (all_by (IsWell (GoesTo s n runs_now) (IsJudged v)) (λ (t : Touched). change_start t < change_end t → overlap t.block (boot_block g 2) ≡ false) (λ t is lt. off_second d g clusters w h.draft.stands n (user_is c g clusters v s op n stamp a r x new k h).user t.block (is_touched c g clusters v s op n stamp a r x new k h t.block is.goes)) new all_well);
   }
 
-  pub kept : WriteKeeps c v h.bodies changes w
-  kept = subst (λ (xs : List Change). WriteKeeps c v h.bodies xs w) (sym done.are) kept_of
+  pub kept : WriteKeeps c g v h.bodies changes w
+  kept = subst (λ (xs : List Change). WriteKeeps c g v h.bodies xs w) (sym done.are) kept_of

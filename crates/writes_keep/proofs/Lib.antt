@@ -2,4 +2,5 @@ pub mod Spelled
 pub mod Touching
 pub mod Putting
 pub mod Behind
+pub mod Second
 pub mod Keeping

@@ -5,10 +5,12 @@ use Rattle.disk_model.specs.declared.block.Block.{Block}
 use Rattle.disk_model.specs.declared.block.BlockKind.TheVariants.{Plain}
 use Rattle.disk_model.specs.declared.block.Change.{Change}
 use Rattle.disk_model.specs.Content.{Content}
+use Rattle.disk_model.specs.Sectors.{overlap}
 use Rattle.record_model.specs.Records.{Record}
 use Rattle.file_tree.specs.declared.node.Node.{Node}
 use Rattle.log_model.specs.Logs.{is_in_grid}
 use Rattle.state_model.specs.declared.geometry.Geometry.{Geometry}
+use Rattle.state_model.specs.Loads.{boot_block}
 use Rattle.volume_model.specs.Volumes.{Volume, cluster_bits, upper_of}
 use Rattle.volume_model.specs.Owners.{uses}
 use Rattle.stream_laws.specs.Sharing.{stream_at, runs_in}
@@ -35,15 +37,16 @@ pub record IsOffLog (v : Volume) (b : Block) : Type 0 where
   pub apart : uses (runs_in (stream_at v log_key)) (cluster_of b) ≡ 0
 
 -- The changes lead on as a volume asks. Behind them too no attribute list has a part in another record; the table of upper-case units is the same; and the log keeps its clusters,
--- in none of which a block is changed.
-pub record WriteKeeps (c : Content) (v : Volume) (bodies : List NewBody) (changes : List Change) (w : Volume) : Type 0 where
+-- in none of which a block is changed, nor is record 2 where the boot sector says.
+pub record WriteKeeps (c : Content) (g : Geometry) (v : Volume) (bodies : List NewBody) (changes : List Change) (w : Volume) : Type 0 where
   pub keeps : ChangesKeep c v bodies changes w
   pub lists : HasOwnLists (content_with c bodies) w
   pub upper : upper_of (content_with c bodies) w ≡ upper_of c v
   pub log : runs_in (stream_at w log_key) ≡ runs_in (stream_at v log_key)
   pub off : AllByRecursion (λ x. IsOffLog v x.block) changes
+  pub second : AllByRecursion (λ x. overlap x.block (boot_block g 2) ≡ false) changes
 
 -- So do those of a draft that has put what comes of a file's data, where no attribute list has a part in another record, and no sector by which the state is judged is torn.
 abbrev pub WritesKeep : Type 0
 WritesKeep = (c : Content) (g : Geometry) (clusters : ℕ) (v : Volume) (s : VolumeStreams) (op : Op) (n stamp : ℕ) (a : Node) (r : Record) (change : DataChange) (new : List Touched) (changes : List Change) → WritesFile c g clusters v s op n stamp a r change new
-    → (h : HasWritten c g clusters v op n stamp a (growth_of (cluster_bits c v) r op a) new) → AreFinished c new changes → HasOwnLists c v → HasWholeSectors c v → WriteKeeps c v h.bodies changes h.after
+    → (h : HasWritten c g clusters v op n stamp a (growth_of (cluster_bits c v) r op a) new) → AreFinished c new changes → HasOwnLists c v → HasWholeSectors c v → WriteKeeps c g v h.bodies changes h.after

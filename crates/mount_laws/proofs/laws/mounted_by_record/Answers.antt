@@ -1,0 +1,5 @@
+use Rattle.mount_laws.proofs.Mounted.{by_record}
+use Rattle.mount_laws.proofs.laws.mounted_by_record.Goals as goal
+
+pub returns : goal.returns
+returns c = by_record
