@@ -32,7 +32,7 @@ use Rattle.plan_model.proofs.Drafting.{per_is}
 use Rattle.plan_spares.specs.Plans.{HasOwnLists}
 use Rattle.state_blocks.specs.Needing.{IsNeeded}
 use Rattle.state_blocks.proofs.Needing.{listed_judged}
-use Rattle.store_model.specs.Volumes.{is_known, is_free, ContentWindow}
+use Rattle.store_model.specs.Volumes.{is_known, is_free}
 use Rattle.txn_model.specs.Values.{is_own}
 use Rattle.txn_model.specs.Calls.{first_facts}
 use Rattle.txn_laws.specs.Windows.{HasStart}
