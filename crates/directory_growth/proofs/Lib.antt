@@ -1,0 +1,4 @@
+pub mod Placing
+pub mod Coming
+pub mod Step
+pub mod Answering
