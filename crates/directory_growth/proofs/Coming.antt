@@ -226,3 +226,18 @@ placed_places bits c n size least wanted e begins is wants = record {
   few = omega arith;
   same = omega (arith, wants);
 }
+
+-- whether it stands in the record says which
+comes_either : (bits : List Bool) (c : Record) (n size clusters : ℕ) (value : List ℕ) (t : Bool) → 0 < size → stream_of bitmap_type names_index c.attrs ≡ Some (Held value) → nat_le (used_after (value_attr size (own_attr bitmap_type names_index c) ∷ []) c) 1024 ≡ t
+    → (comes bits c [] (wanted_in n bitmap_type size clusters)).growth.stands ≡ t
+comes_either bits c n size clusters value true some is fits = ap (λ (x : Comes). x.growth.stands) (comes_held bits c n size clusters value true some is fits)
+comes_either bits c n size clusters value false some is fits = ap (λ (x : Comes). x.growth.stands) (comes_held bits c n size clusters value false some is fits)
+
+pub comes_by_value : (bits : List Bool) (c : Record) (n size clusters : ℕ) (value : List ℕ) → 0 < size → stream_of bitmap_type names_index c.attrs ≡ Some (Held value) → (comes bits c [] (wanted_in n bitmap_type size clusters)).growth.stands ≡ true → comes bits c [] (wanted_in n bitmap_type size clusters) ≡ as_value c (wanted_in n bitmap_type size clusters)
+comes_by_value bits c n size clusters value some is stays =
+    comes_held bits c n size clusters value true some is (sym (comes_either bits c n size clusters value (nat_le (used_after (value_attr size (own_attr bitmap_type names_index c) ∷ []) c) 1024) some is refl) ∙ stays)
+
+pub comes_by_growth : (bits : List Bool) (c : Record) (n size clusters : ℕ) (value : List ℕ) → 0 < size → stream_of bitmap_type names_index c.attrs ≡ Some (Held value) → (comes bits c [] (wanted_in n bitmap_type size clusters)).growth.stands ≡ false
+    → comes bits c [] (wanted_in n bitmap_type size clusters) ≡ placed_by c (wanted_in n bitmap_type size clusters) (placed_among bits [] (wanted_in n bitmap_type size clusters))
+comes_by_growth bits c n size clusters value some is leaves =
+    comes_held bits c n size clusters value false some is (sym (comes_either bits c n size clusters value (nat_le (used_after (value_attr size (own_attr bitmap_type names_index c) ∷ []) c) 1024) some is refl) ∙ leaves)

@@ -2,3 +2,4 @@ pub mod Placing
 pub mod Coming
 pub mod Step
 pub mod Answering
+pub mod Room

@@ -137,7 +137,7 @@ blocks_apart kind bits n r e size begins differ = by (clusters_then e size == to
 pub root_stays : (other : ℕ) (root : ℕ) (r : Record) → other ≢ index_root → attributes_of other names_index (valued_record index_root names_index (zeros root) r).attrs ≡ attributes_of other names_index r.attrs
 root_stays other root r differ = values_put.others index_root other names_index names_index (zeros root) r (inl differ)
 
-own_info : (r : Record) (t : Tree) → has_type standard_information r ≡ true → own_comes r t ≡ root_comes r t ∷ []
+pub own_info : (r : Record) (t : Tree) → has_type standard_information r ≡ true → own_comes r t ≡ root_comes r t ∷ []
 own_info r t has = ap (λ (b : Bool). root_comes r t ∷ cond b [] (value_attr 72 (new_attr standard_information []) ∷ [])) has
 
 -- what comes beside the blocks counts in that record as the step counts it
