@@ -1,0 +1,5 @@
+pub mod Placing
+pub mod Coming
+pub mod Step
+pub mod Answering
+pub mod Room

@@ -1,0 +1,4 @@
+pub mod Clusters
+pub mod Growing
+pub mod Bitmap
+pub mod Laws
