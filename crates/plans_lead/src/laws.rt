@@ -1,0 +1,14 @@
+//! The laws of these definitions.
+ghost use Rattle.plans_lead.specs.Leading.{PlansLeadOn};
+
+use spares_at_mount::blocks_off_log;
+use writes_keep::writes_keep;
+
+/// Law: a volume takes the changes of a plan that writes or cuts a file. They lead to the next
+/// state, which can be written; no two are of one block or of rivals; and each lies off the log.
+pub fn plans_lead_on()
+    ensures { PlansLeadOn }
+{
+    blocks_off_log();
+    writes_keep();
+}
