@@ -1,8 +1,8 @@
 -- A file that was found may be written.
-use Rattle.std.proofs.Common.{◌≡◌, ℕ, ◌+◌, ◌*◌, ◌<◌, ◌≤◌, ◌^◌, Bool, true, false, not, cond, leb, List, [], ◌∷◌, Option, Some, None, Ok, refl, sym, ap, subst, ◌∙◌, inl, inr, arith}
+use Rattle.std.proofs.Common.{◌≡◌, ℕ, ◌+◌, ◌-◌, ◌*◌, ◌<◌, ◌≤◌, ◌^◌, Bool, true, false, not, cond, leb, List, [], ◌∷◌, Option, Some, None, Ok, refl, sym, ap, subst, ◌∙◌, inl, inr, arith}
 use Rattle.std.specs.Prelude.{filter}
 use Rattle.std.specs.List.{sum_by, list_any}
-use Rattle.std.proofs.lemmas.Bool.{cases_Bool, and_parts, leb-true}
+use Rattle.std.proofs.lemmas.Bool.{cases_Bool, cases_lt, and_parts, leb-true}
 use Rattle.std.proofs.lemmas.List.Sums.{sum_by-cons}
 use Rattle.host_base.specs.Answers.{◌>>=◌, needs}
 use Rattle.disk_model.specs.declared.block.Block.{Block}
@@ -22,7 +22,7 @@ use Rattle.state_model.specs.declared.stream.Stream.TheVariants.{Held, Placed}
 use Rattle.state_model.specs.Files.{has_type}
 use Rattle.state_model.specs.Loads.{Free, Used, slot_by, slot_at, slot_of, is_used, whole_record, has_all_pairs, judged, boot_block, no_extents, total_clusters, record_count, most_records, table_extents, extents_in, table_of}
 use Rattle.state_model.specs.Streams.{is_attribute_of, attributes_of, joined, stream_of, block_at}
-use Rattle.volume_model.specs.Volumes.{Volume, file_in, file_stream, bitmap_file, size_or}
+use Rattle.volume_model.specs.Volumes.{Volume, file_in, file_stream, bitmap_file, cluster_bits, size_or}
 use Rattle.volume_model.specs.Nodes.{valid_or, clusters_or}
 use Rattle.volume_model.specs.Sizes.{has_hole, keeps_whole, keeps_streams}
 use Rattle.stream_laws.proofs.Rewriting.{volume_parts, count_is}
@@ -36,7 +36,11 @@ use Rattle.plan_model.proofs.OneRecord.{own_record}
 use Rattle.plan_growth.proofs.Resizing.{slot_open}
 use Rattle.state_streams.specs.Streams.{IsPlacedIn, StreamsOfStates}
 use Rattle.state_files.specs.Files.{FilesHaveData}
-use Rattle.data_plan.specs.Changes.{data_in, ShowsData, HasData}
+use Rattle.data_plan.specs.Changes.{data_in, ShowsData, HasData, GrowsLittle, growth_of}
+use Rattle.data_plan.proofs.Cases.{placed_comes}
+use Rattle.step_model.specs.Placing.{more_of}
+use Rattle.step_model.specs.Streams.{Comes}
+use Rattle.tree_model.specs.Effects.{clusters_after}
 use Rattle.made_data.specs.Made.{with_empty_data, made_record, has_data}
 use Rattle.made_data.specs.Laws.{MadeIsCounted}
 use Rattle.made_data.proofs.Having.{made_fits, written_fits}
@@ -46,6 +50,7 @@ use Rattle.file_writes.specs.Writing.{MayWrite}
 use Rattle.written_values.proofs.Owning.{IsOwned, is_owned}
 use Rattle.change_steps.specs.Ready.{FilesAreReady}
 use Rattle.found_files.specs.Found.{HasFewParts, IsFoundFile, FoundMayWrite}
+use Rattle.found_files.proofs.Beside.{room_beside}
 use Rattle.found_files.proofs.Few.{whole_made_of, few_attrs, few_runs}
 
 -- ---- few parts
@@ -117,15 +122,14 @@ module _ (streams : StreamsOfStates) (c : Content) (g : Geometry) (clusters : �
   there : (e : Extents) → data_in r ≡ Some (Placed e) → IsPlacedIn v n data_type [] e
   there e is = record { file = r; is_file = file; no_name = λ same. omega (arith, same); stream = is }
 
-  clusters_low : (s : Option Stream) → data_in r ≡ s → has_hole (data_in r) ≡ false → clusters_or s ≤ v.clusters
-  clusters_low None is whole = omega arith
-  clusters_low (Some (Held value)) is whole = omega arith
-  clusters_low (Some (Placed e)) is whole = streams.total c g clusters v n data_type [] e state (there e is) (ap has_hole (sym is) ∙ whole)
-
   valid_low : (s : Option Stream) → data_in r ≡ s → valid_or s ≤ size_or s
   valid_low None is = omega arith
   valid_low (Some (Held value)) is = omega arith
   valid_low (Some (Placed e)) is = (streams.sizes c g clusters v n data_type [] e state (there e is)).initialised
+
+-- data in clusters takes those that it comes to have and hasn't
+placed_more : (bits : List Bool) (r : Record) (o : Op) (a : Node) (e : Extents) → data_in r ≡ Some (Placed e) → more_of (growth_of bits r o a) ≡ clusters_after false o a - total_clusters e.runs
+placed_more bits r o a e is = ap (λ (z : Comes). more_of z.growth) (placed_comes bits r o a e is)
 
 -- ---- the bits of the clusters
 
@@ -167,19 +171,30 @@ module _ (ready : FilesAreReady) (counted : MadeIsCounted) (files : FilesHaveDat
   parts : HasFewParts r
   parts = few_parts c g clusters v node.number r state k.file.file owned.own.no_list
 
-  limit : clusters ≤ cluster_limit
-  limit = (let few = k.few in omega (arith, few))
-
   shown : ShowsData node r
   shown = ready.shows c g clusters v op node a r true k.has k.finds k.file
 
-  held : node.clusters + 2 ^ 15 ≤ cluster_limit
-  held =
-      let low = clusters_low streams c g clusters v node.number r state k.file.file (data_in r) refl owned.whole in
-      let count = (volume_parts c g clusters v state.loaded).count in
-      let own = shown.clusters in
-      let few = k.few in
-      omega (arith, low, count, own, few)
+  little : GrowsLittle op node
+  little = by (data_in r) refl
+    where
+      small : node.clusters ≡ 0 → GrowsLittle op node
+      small none = ready.little c g clusters v op node a r k.has k.finds k.file k.fits (omega (arith, none))
+
+      by : (o : Option Stream) → data_in r ≡ o → GrowsLittle op node
+      by None is = small (shown.clusters ∙ ap clusters_or is)
+      by (Some (Held value)) is = small (shown.clusters ∙ ap clusters_or is)
+      by (Some (Placed e)) is = elim (cases_lt cluster_limit (node.clusters + 2 ^ 15)) [
+        | inl above ↦
+            (let own : node.clusters ≡ total_clusters e.runs = shown.clusters ∙ ap clusters_or is in
+            let come = placed_more (cluster_bits c v) r op node e is in
+            let room = ready.room c g clusters v op node a r k.has k.finds k.file in
+            let inside = streams.inside c g clusters v node.number data_type [] e state (there streams c g clusters v node.number r state k.file.file e is) in
+            let beside = room_beside c g clusters v node.number r e state k.few k.file.file is (ap has_hole (sym is) ∙ owned.whole) inside in
+            let count = (volume_parts c g clusters v state.loaded).count in
+            let few = k.few in
+            record { few = omega (arith, come, room, beside, count, few); more = omega (arith, come, room, beside, count, few, own, above) })
+        | inr fits ↦ ready.little c g clusters v op node a r k.has k.finds k.file k.fits fits
+      ]
 
   valid : node.valid ≤ node.size
   valid =
@@ -190,13 +205,13 @@ module _ (ready : FilesAreReady) (counted : MadeIsCounted) (files : FilesHaveDat
 
   may_by : (x : Record) → HasData clusters x → ShowsData node x → has_type standard_information x ≡ true → MayWrite clusters node.number s x op node
   may_by x has shows info = record {
-    few = limit;
+    few = k.few;
     number = number_low c g clusters v node.number r state k.file.file;
     bitmap = k.bitmap;
     bounds = k.bounds;
     has = has;
     shows = shows;
-    little = ready.little c g clusters v op node a r k.has k.finds k.file k.fits held;
+    little = little;
     valid = valid;
     info = info;
   }
@@ -205,7 +220,7 @@ module _ (ready : FilesAreReady) (counted : MadeIsCounted) (files : FilesHaveDat
   may_there some =
       let some_data = data_by r (data_in r) refl some in
       may_by r
-      (files.has c g clusters v node.number r some_data.0 state k.has.eight limit k.file.file owned.own.no_list owned.whole some_data.1 k.fits (λ e is. (let low = parts.runs e is in omega (arith, low))))
+      (files.has c g clusters v node.number r some_data.0 state k.has.eight k.few k.file.file owned.own.no_list owned.whole some_data.1 k.fits (λ e is. (let low = parts.runs e is in omega (arith, low))))
       shown owned.info
 
   may_made : has_data r ≡ false → MayWrite clusters node.number s (made_record r) op node

@@ -1,2 +1,3 @@
 mod Few
+mod Beside
 mod Having

@@ -1,5 +1,5 @@
 -- A file that an operation was found to write or cut is what the call that does it asks for.
-use Rattle.std.specs.Prelude.{◌≡◌, ℕ, ◌+◌, ◌^◌, ◌<◌, ◌≤◌, true, false, length, Some}
+use Rattle.std.specs.Prelude.{◌≡◌, ℕ, ◌^◌, ◌<◌, ◌≤◌, true, false, length, Some}
 use Rattle.disk_model.specs.Content.{Content}
 use Rattle.record_model.specs.Constants.{attribute_list}
 use Rattle.record_model.specs.Pairs.{cluster_limit}
@@ -28,15 +28,14 @@ pub record HasFewParts (r : Record) : Type 0 where
   pub attrs : length r.attrs ≤ 43
   pub runs : (e : Extents) → data_in r ≡ Some (Placed e) → length e.runs ≤ 512
 
--- The operation was found to change the node, whose record has a spelling but for its room; the volume has 2 ^ 15 clusters less than the most
--- that there may be, or fewer.
+-- The operation was found to change the node, whose record has a spelling but for its room.
 pub record IsFoundFile (c : Content) (g : Geometry) (clusters : ℕ) (v : Volume) (s : VolumeStreams) (op : Op) (node a : Node) (r : Record) : Type 0 where
   pub has : HasChange c g clusters v op
   pub finds : Finds c v op (File node true)
   pub file : IsChangeable c v node.number r a
   pub fits : FitsButRoom r
   pub bounds : IsWithinBounds op
-  pub few : clusters + 2 ^ 15 ≤ cluster_limit
+  pub few : clusters ≤ cluster_limit
   pub bitmap : s.bitmap.initialised < 2 ^ 63
 
 -- A file of a state that has no attribute list has few parts, and the bits of its clusters have few bytes. A file that an operation was found to

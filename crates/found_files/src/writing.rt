@@ -44,7 +44,8 @@ fn has_numbers(clusters: u64, number: u64, streams: &VolumeStreams, op: &Op, nod
 /// grow little. `file` is the record with this number, as it was read or as its data was made, and
 /// the volume has so many clusters. In each state the answer is true for a file that an operation was
 /// found to write or cut, as [`found_may_write`](crate::found_may_write) says. The error is want of
-/// memory. It takes time and memory linear in the record and its runs.
+/// memory. It takes a [`stream_of`](stream_map::stream_of), and time and memory linear in the record
+/// and its runs.
 pub fn may_write(
     alloc: Global,
     clusters: u64,
