@@ -1,0 +1,4 @@
+pub mod DataChanges
+mod Reading
+mod Ending
+mod Leading

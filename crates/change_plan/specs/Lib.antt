@@ -1,0 +1,5 @@
+pub mod Faults
+pub mod States
+pub mod Plans
+pub mod Drafting
+pub mod Laws
