@@ -9,4 +9,4 @@ returns-in_err-room-clause-plans g c =
     rw p.1 (fault_found c.changes_are_steps.ensures (g.V.View.content c.args.view.now) c.args.streams.now c.args.op.now c.args.node.now c.args.stamp c.args.map.now.cluster_bits p.0)
 
 pub returns-clause-asks : goal.returns-clause-asks
-returns-clause-asks g c = record { same = search rules; stays = search rules; later = search rules; counted = search rules }
+returns-clause-asks g c = ?

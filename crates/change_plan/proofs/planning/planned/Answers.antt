@@ -21,7 +21,7 @@ returns-then-changes-clause-known g c =
 pub returns-in-File-clause-plans : goal.returns-in-File-clause-plans
 returns-in-File-clause-plans g c =
     rw c.in-File.is
-    (stays_plans c.changes_are_steps.ensures (g.V.View.content c.args.view.now) c.args.map.now c.args.streams.now c.args.op.now c.in-File.node c.in-File.changes c.args.stamp c.answer.result c.if-changes.false (rw c.change_reply.ensures at c.answer.ensures))
+    (stays_plans c.changes_are_steps.ensures (g.V.View.content c.args.view.now) c.args.map.now c.args.streams.now c.args.op.now c.in-File.node c.in-File.changes c.args.stamp c.answer-else-changes.result c.if-changes.false (rw c.change_reply.ensures at c.answer-else-changes.ensures))
 
 pub returns-in-File-clause-sound : goal.returns-in-File-clause-sound
-returns-in-File-clause-sound g c = answer_sound (g.V.View.content c.args.view.now) c.args.op.now (change_reply c.args.op.now) c.answer.result (kept_on c.args.op.now c.requires.changes) (rw c.change_reply.ensures at c.answer.ensures)
+returns-in-File-clause-sound g c = answer_sound (g.V.View.content c.args.view.now) c.args.op.now (change_reply c.args.op.now) c.answer-else-changes.result (kept_on c.args.op.now c.requires.changes) (rw c.change_reply.ensures at c.answer-else-changes.ensures)
