@@ -39,7 +39,7 @@ use Rattle.change_plan.specs.declared.plan.ChangePlan.{ChangePlan}
 use Rattle.change_plan.specs.declared.fault.PlanFault.{PlanFault}
 use Rattle.change_plan.specs.declared.fault.PlanFault.TheVariants.{Fault, Memory, Unknown}
 use Rattle.change_plan.specs.Faults.{plan_cause}
-use Rattle.change_plan.specs.States.{is_data_change, HasMappableSizes}
+use Rattle.change_plan.specs.States.{is_data_change, HasFewClusters}
 use Rattle.change_plan.specs.Plans.{AreChanges, IsSound, IsPlan, Plans, IsKnown}
 use Rattle.change_plan.specs.Drafting.{IsDraftOver, IsFinished, IsAnswer, Ends, PlansAsked, PlansFound, KnowsAsked, KnowsFound}
 use Rattle.change_plan.specs.Laws.{FilesAreRead}

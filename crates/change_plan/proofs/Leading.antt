@@ -43,7 +43,7 @@ use Rattle.change_plan.specs.declared.plan.ChangePlan.{ChangePlan}
 use Rattle.change_plan.specs.declared.fault.PlanFault.{PlanFault}
 use Rattle.change_plan.specs.declared.fault.PlanFault.TheVariants.{Fault, Memory, Unknown}
 use Rattle.change_plan.specs.Faults.{plan_cause, of_lookup}
-use Rattle.change_plan.specs.States.{is_data_change, IsStateOf, HasMappableSizes}
+use Rattle.change_plan.specs.States.{is_data_change, IsStateOf, HasFewClusters}
 use Rattle.change_plan.specs.Plans.{Plans, PlansFrom, IsKnown, KnowsFrom}
 use Rattle.change_plan.specs.Drafting.{IsAnswer, PlansFound, KnowsFound, PlansBy, KnowsBy}
 use Rattle.change_plan.specs.Laws.{FilesAreRead}

@@ -2,3 +2,4 @@ pub mod DataChanges
 mod Reading
 mod Ending
 mod Leading
+mod Asking

@@ -26,7 +26,7 @@ use Rattle.change_steps.specs.Found.{HasChange, Finds}
 use Rattle.change_plan.specs.declared.plan.ChangePlan.{ChangePlan}
 use Rattle.change_plan.specs.declared.fault.PlanFault.{PlanFault}
 use Rattle.change_plan.specs.declared.fault.PlanFault.TheVariants.{Fault, Memory, Unknown}
-use Rattle.change_plan.specs.States.{HasMappableSizes}
+use Rattle.change_plan.specs.States.{HasFewClusters}
 use Rattle.change_plan.specs.Plans.{AreChanges, Plans, IsKnown}
 
 -- ---- a draft that is finished
@@ -78,7 +78,7 @@ PlansFound s op node stamp bits result c = (r : Record) → PlansAsked s op node
 
 -- from such a state there is one, where the file can be mapped and its record has a spelling but for its room
 abbrev pub KnowsAsked : VolumeStreams → Op → Node → Record → List Bool → Result ChangePlan PlanFault → Content → Type 0
-KnowsAsked s op node r bits result c = (g : Geometry) (clusters : ℕ) (v : Volume) (a : Node) → IsAsked c g clusters v s op node a r bits → HasMappableSizes clusters s → IsKnown result
+KnowsAsked s op node r bits result c = (g : Geometry) (clusters : ℕ) (v : Volume) (a : Node) → IsAsked c g clusters v s op node a r bits → HasFewClusters clusters → IsKnown result
 
 abbrev pub KnowsFound : VolumeStreams → Op → Node → List Bool → Result ChangePlan PlanFault → Content → Type 0
 KnowsFound s op node bits result c = (r : Record) → KnowsAsked s op node r bits result c
@@ -91,4 +91,4 @@ PlansBy m s op found stamp result c = (g : Geometry) (clusters : ℕ) → IsMapO
 
 abbrev pub KnowsBy : VolumeMap → VolumeStreams → Op → Found → Result ChangePlan PlanFault → Content → Type 0
 KnowsBy m s op found result c =
-    (g : Geometry) (clusters : ℕ) → IsMapOf c m → HasSizes c → HasChange c g clusters (volume_in m) op → Finds c (volume_in m) op found → AreStreamsOf (volume_in m) s → HasMappableSizes clusters s → IsKnown result
+    (g : Geometry) (clusters : ℕ) → IsMapOf c m → HasSizes c → HasChange c g clusters (volume_in m) op → Finds c (volume_in m) op found → AreStreamsOf (volume_in m) s → HasFewClusters clusters → IsKnown result

@@ -21,7 +21,7 @@ use Rattle.step_model.specs.Steps.{Answer, Done, answer_of, Step}
 use Rattle.change_plan.specs.declared.plan.ChangePlan.{ChangePlan}
 use Rattle.change_plan.specs.declared.fault.PlanFault.{PlanFault}
 use Rattle.change_plan.specs.declared.fault.PlanFault.TheVariants.{Fault, Memory, Unknown}
-use Rattle.change_plan.specs.States.{IsStateOf, HasMappableSizes}
+use Rattle.change_plan.specs.States.{IsStateOf, HasFewClusters}
 
 -- ---- the changes
 
@@ -78,4 +78,4 @@ IsKnown (Err Unknown) = ⊥
 
 -- so it is from a state whose files can be mapped
 abbrev pub KnowsFrom : List ℕ → Volume → VolumeStreams → Result ChangePlan PlanFault → Content → Type 0
-KnowsFrom upper v s result c = (g : Geometry) (clusters : ℕ) → IsStateOf c g clusters v upper s → HasMappableSizes clusters s → IsKnown result
+KnowsFrom upper v s result c = (g : Geometry) (clusters : ℕ) → IsStateOf c g clusters v upper s → HasFewClusters clusters → IsKnown result

@@ -27,7 +27,6 @@ pub record IsStateOf (c : Content) (g : Geometry) (clusters : ℕ) (v : Volume) 
   pub journal : (tree_of c v).journal ≡ None
   pub streams : AreStreamsOf v s
 
--- The volume has so few clusters, and the bits of these end so early, that what a file comes to have can be written in its mapping pairs.
-pub record HasMappableSizes (clusters : ℕ) (s : VolumeStreams) : Type 0 where
-  pub few : clusters + 2 ^ 15 ≤ cluster_limit
-  pub bitmap : s.bitmap.initialised < 2 ^ 63
+-- The volume has so few clusters that a file which takes more can be written in its mapping pairs.
+abbrev pub HasFewClusters : ℕ → Type 0
+HasFewClusters clusters = clusters + 2 ^ 15 ≤ cluster_limit

@@ -9,7 +9,7 @@ ghost use Rattle.change_plan.specs.States.{is_data_change};
 ghost use Rattle.change_plan.specs.Plans.{IsSound};
 ghost use Rattle.change_plan.specs.Drafting.{IsFinished, IsAnswer, Ends, PlansAsked, PlansFound, KnowsAsked, KnowsFound};
 
-use crate::checking::may_write;
+use crate::checking::may_change;
 use crate::fault::PlanFault;
 use crate::laws::files_are_read;
 use crate::plan::ChangePlan;
@@ -17,17 +17,18 @@ use block_view::View;
 use disk_model::Body;
 use draft_records::file;
 use change_steps::changes_are_steps;
-use file_changes::change_file;
 use file_puts::VolumeStreams;
 use file_record::FileRec;
 use file_tree::Node;
 use file_writes::WriteFault;
+use found_files::found_may_write;
 use plan_draft::Draft;
 use plan_space::{FreeBits, Taken};
 use state_model::ClusterSize;
 use std::alloc::{AllocError, Global};
 use tree_model::{Op, Reply};
 use volume_map::VolumeMap;
+use written_made::change_any_file;
 
 // The sectors of a cluster.
 const PER_CLUSTER: u64 = 8;
@@ -115,10 +116,11 @@ fn changed<V: View, B: FreeBits>(
     ensures reference { draft.new.view.ghost_name ≡ draft.old.view.ghost_name }
 {
     changes_are_steps();
-    if !may_write(alloc, bits.len(), node.number, streams, file, op, node)? {
+    found_may_write();
+    if !may_change(alloc, bits.len(), node.number, streams, file, op, node)? {
         return Err(PlanFault::Unknown);
     }
-    let written = change_file(draft, alloc, per, bits, streams, file, op, node, stamp);
+    let written = change_any_file(draft, alloc, per, bits, streams, file, op, node, stamp);
     ended(draft, alloc, op, written)
 }
 

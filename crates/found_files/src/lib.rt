@@ -1,0 +1,18 @@
+//! Files that an operation was found to write or cut, as the call that does it asks for them.
+//!
+//! The contract: a law that they are so in each state, and a call that looks whether a file is. The
+//! layouts are those of the Linux-NTFS documentation, "FILE Record", "Attribute Header" and "$DATA".
+#![tactic(auto)]
+
+mod data;
+mod laws;
+mod numbers;
+mod placed;
+mod writing;
+
+pub use file_puts::VolumeStreams;
+pub use file_record::FileRec;
+pub use file_tree::Node;
+pub use laws::found_may_write;
+pub use tree_model::Op;
+pub use writing::may_write;

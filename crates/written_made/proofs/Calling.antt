@@ -1,0 +1,165 @@
+-- A call that writes or cuts a file without unnamed data takes the step of the operation, and has written the file.
+use Rattle.std.proofs.Common.{◌≡◌, ℕ, ◌<◌, ◌≤◌, ◌^◌, Bool, false, List, [], length, Option, Some, None, Result, Ok, Err, refl, sym, ap, subst, ◌∙◌, inl, inr}
+use Rattle.std.specs.Prelude.{IfSome, OnOk, not, count_by}
+use Rattle.std.proofs.lemmas.Bool.{cases_lt}
+use Rattle.disk_model.specs.Content.{Content}
+use Rattle.record_model.specs.Pairs.{cluster_limit}
+use Rattle.record_model.specs.Records.{Record}
+use Rattle.file_tree.specs.declared.node.Node.{Node}
+use Rattle.state_model.specs.declared.geometry.Geometry.{Geometry}
+use Rattle.volume_model.specs.Volumes.{Volume, cluster_bits}
+use Rattle.tree_model.specs.declared.script.Op.{Op}
+use Rattle.tree_model.specs.declared.reply.Reply.{Reply}
+use Rattle.tree_model.specs.declared.reply.Reply.TheVariants as reply
+use Rattle.plan_draft.specs.declared.touched.Touched.{Touched}
+use Rattle.record_streams.specs.Fitting.{FitsButRoom}
+use Rattle.step_model.specs.Placing.{Growth, more_of}
+use Rattle.data_plan.specs.declared.change.DataChange.{DataChange}
+use Rattle.data_plan.specs.Changes.{HasData, growth_of, row_of, IsChange}
+use Rattle.made_data.specs.Laws.{MadeIsCounted}
+use Rattle.made_data.specs.Made.{made_record, has_data}
+use Rattle.file_puts.specs.declared.streams.VolumeStreams.{VolumeStreams}
+use Rattle.file_puts.specs.Puts.{PutsChange}
+use Rattle.file_puts.specs.Written.{HasWritten}
+use Rattle.file_writes.specs.declared.fault.WriteFault.{WriteFault}
+use Rattle.file_writes.specs.declared.fault.WriteFault.TheVariants.{Full, Short, Fault, Memory}
+use Rattle.file_writes.specs.Faults.{IsShortOf, HasRow}
+use Rattle.file_writes.specs.Writing.{PutsWrite}
+use Rattle.written_clusters.specs.Done.{HasClusters}
+use Rattle.change_steps.specs.Changes.{ChangesAreSteps}
+use Rattle.change_steps.specs.Ready.{BareIsEnough, FilesAreReady}
+use Rattle.file_changes.specs.Calls.{IsAsked, StepsFrom}
+use Rattle.file_changes.specs.Written.{WrittenFrom}
+use Rattle.written_made.specs.Made.{WritesMade, MadeIsDone}
+use Rattle.written_made.specs.Steps.{MadeIsStep}
+
+-- what a call says of its failures: fewer clusters are clear than are wanted, or a row refuses the record
+pub record SaysWhy (bits : List Bool) (r : Record) (op : Op) (node : Node) (result : Result (Unit {0}) WriteFault) : Type 0 where
+  pub short : count_by not bits < more_of (growth_of bits r op node) → IsShortOf (count_by not bits) result
+  pub full : more_of (growth_of bits r op node) ≤ count_by not bits → HasRow (row_of bits r op node) result
+
+-- of the file without data what is said of it with empty data
+pub same_reasons : MadeIsCounted → (bits : List Bool) (r : Record) (op : Op) (node : Node) (result : Result (Unit {0}) WriteFault) → has_data r ≡ false → SaysWhy bits (made_record r) op node result → SaysWhy bits r op node result
+same_reasons counted bits r op node result none says = record {
+  short = subst (λ (x : Growth). count_by not bits < more_of x → IsShortOf (count_by not bits) result) (counted.growth bits r op node none) says.short;
+  full = subst (λ (x : Growth). more_of x ≤ count_by not bits → HasRow (row_of bits r op node) result) (counted.growth bits r op node none)
+      (subst (λ (o : Option Reply). more_of (growth_of bits (made_record r) op node) ≤ count_by not bits → HasRow o result) (counted.row bits r op node none) says.full);
+}
+
+done_is : (bits : List Bool) (more : ℕ) (row : Option Reply) (u : Unit {0}) → (count_by not bits < more → IsShortOf (count_by not bits) (Ok u)) → (more ≤ count_by not bits → HasRow row (Ok u)) → (more ≤ count_by not bits) × (row ≡ None)
+done_is bits more row u short full = elim (cases_lt (count_by not bits) more) [
+  | inl less ↦ absurd (short less)
+  | inr enough ↦ (enough, full enough)
+]
+
+row_is : (bits : List Bool) (more : ℕ) (row : Option Reply) (used : ℕ) → (count_by not bits < more → IsShortOf {T = Unit {0}} (count_by not bits) (Err (Full used))) → (more ≤ count_by not bits → HasRow {T = Unit {0}} row (Err (Full used))) → row ≡ Some (reply.RecordFull used)
+row_is bits more row used short full = elim (cases_lt (count_by not bits) more) [
+  | inl less ↦ absurd (short less)
+  | inr enough ↦ full enough
+]
+
+never_short : (bits : List Bool) (more : ℕ) (row : Option Reply) (room : ℕ) → (more ≤ count_by not bits → HasRow {T = Unit {0}} row (Err (Short room))) → more ≤ count_by not bits → ⊥
+never_short bits more row room full enough = full enough
+
+-- what is asked of the file
+pub record IsBare (clusters : ℕ) (r : Record) (stamp : ℕ) : Type 0 where
+  pub none : has_data r ≡ false
+  pub fits : FitsButRoom r
+  pub short : length r.attrs < 2 ^ 10
+  pub soon : stamp < 2 ^ 64
+  pub few : clusters ≤ cluster_limit
+  pub has : HasData clusters (made_record r)
+
+module _ (bare : BareIsEnough) (c : Content) (g : Geometry) (clusters : ℕ) (v : Volume) (s : VolumeStreams) (op : Op) (node a : Node) (stamp : ℕ) (r : Record) (bits : List Bool) (asked : IsAsked c g clusters v s op node a r bits) (of_file : IsBare (length bits) r stamp) where
+  abbrev q : Record
+  q = made_record r
+
+  growth_now : growth_of bits r op node ≡ growth_of (cluster_bits c v) r op a
+  growth_now = ap (λ (x : Node). growth_of bits r op x) asked.bare ∙ bare.growth bits r op a ∙ ap (λ (l : List Bool). growth_of l r op a) asked.of_volume
+
+  pub row_now : row_of bits r op node ≡ row_of (cluster_bits c v) r op a
+  row_now = ap (λ (x : Node). row_of bits r op x) asked.bare ∙ bare.row bits r op a ∙ ap (λ (l : List Bool). row_of l r op a) asked.of_volume
+
+  made_now : growth_of bits q op node ≡ growth_of (cluster_bits c v) q op a
+  made_now = ap (λ (x : Node). growth_of bits q op x) asked.bare ∙ bare.growth bits q op a ∙ ap (λ (l : List Bool). growth_of l q op a) asked.of_volume
+
+  is_now : (what : DataChange) → IsChange (growth_of bits q op node) q op node what → IsChange (growth_of (cluster_bits c v) q op a) q op a what
+  is_now what is =
+      subst (λ (x : Growth). IsChange x q op a what) made_now
+      (bare.change (growth_of bits q op node) q op a what (subst (λ (x : Node). IsChange (growth_of bits q op node) q op x what) asked.bare is))
+
+  puts_now : (what : DataChange) (old new : List Touched) → PutsChange c s node.number op node stamp q what old new → PutsChange c s node.number op a stamp q what old new
+  puts_now what old new put = bare.puts c s node.number op a stamp q what old new (subst (λ (x : Node). PutsChange c s node.number op x stamp q what old new) asked.bare put)
+
+  pub enough_now : more_of (growth_of bits r op node) ≤ count_by not bits → HasClusters c v op a r
+  enough_now enough = subst (λ (l : List Bool). more_of (growth_of (cluster_bits c v) r op a) ≤ count_by not l) asked.of_volume (subst (λ (x : Growth). more_of x ≤ count_by not bits) growth_now enough)
+
+  pub writes_now : (old new : List Touched) → old ≡ [] → (put : PutsWrite c bits s node.number op node stamp (made_record r) old new) → WritesMade c g clusters v s op node.number stamp a r put.change new
+  writes_now old new none put = record {
+    sized = asked.sized;
+    eight = asked.has.eight;
+    few = subst (λ (x : ℕ). x ≤ cluster_limit) asked.count of_file.few;
+    stands = asked.has.stands;
+    journal = asked.has.journal;
+    streams = asked.streams;
+    file = asked.file;
+    none = of_file.none;
+    fits = of_file.fits;
+    short = of_file.short;
+    changes = asked.changes;
+    soon = of_file.soon;
+    has = subst (λ (x : ℕ). HasData x q) asked.count of_file.has;
+    is = is_now put.change put.is;
+    put = subst (λ (l : List Touched). PutsChange c s node.number op a stamp q put.change l new) none (puts_now put.change old new put.put);
+  }
+
+-- ---- the steps
+
+module _ (done : MadeIsStep) (steps : ChangesAreSteps) (bare : BareIsEnough) (ready : FilesAreReady) (s : VolumeStreams) (op : Op) (node : Node) (stamp : ℕ) (r : Record) (bits : List Bool) (of_file : IsBare (length bits) r stamp) where
+  pub call_steps : (content : Option Content) (old new : List Touched) (result : Result (Unit {0}) WriteFault) → OnOk result (IfSome content (λ c. PutsWrite c bits s node.number op node stamp (made_record r) old new)) → SaysWhy bits r op node result
+      → IfSome content (StepsFrom s op node stamp r bits old new result)
+  call_steps None old new result put says = tt
+  call_steps (Some c) old new (Ok u) put says =
+      let is = done_is bits (more_of (growth_of bits r op node)) (row_of bits r op node) u says.short says.full in
+      λ g clusters v a asked none. done c g clusters v s op stamp node a r put.change new asked.has asked.finds (sym (row_now bare c g clusters v s op node a stamp r bits asked of_file) ∙ is.1) (enough_now bare c g clusters v s op node a stamp r bits asked of_file is.0)
+      (writes_now bare c g clusters v s op node a stamp r bits asked of_file old new none put)
+  call_steps (Some c) old new (Err (Full used)) put says =
+      let row = row_is bits (more_of (growth_of bits r op node)) (row_of bits r op node) used says.short says.full in
+      λ g clusters v a asked none. steps.full c g clusters v op stamp node a r (reply.RecordFull used) asked.has asked.finds asked.file (sym (row_now bare c g clusters v s op node a stamp r bits asked of_file) ∙ row)
+  call_steps (Some c) old new (Err (Short room)) put says =
+      λ g clusters v a asked none. never_short bits (more_of (growth_of bits r op node)) (row_of bits r op node) room says.full
+      (subst (λ (l : List Bool). more_of (growth_of l r op node) ≤ count_by not l) (sym asked.of_volume) (ready.room c g clusters v op node a r asked.has asked.finds asked.file))
+  call_steps (Some c) old new (Err Fault) put says = λ g clusters v a asked none. steps.given_up c g clusters v op stamp reply.Fault asked.has refl
+  call_steps (Some c) old new (Err Memory) put says = λ g clusters v a asked none. steps.given_up c g clusters v op stamp reply.Memory asked.has refl
+
+-- ---- what is written
+
+pub call_gives : MadeIsDone → BareIsEnough → (s : VolumeStreams) (op : Op) (node : Node) (stamp : ℕ) (r : Record) (bits : List Bool) → IsBare (length bits) r stamp → (content : Option Content) (old new : List Touched) (result : Result (Unit {0}) WriteFault)
+    → OnOk result (IfSome content (λ c. PutsWrite c bits s node.number op node stamp (made_record r) old new)) → SaysWhy bits r op node result → IfSome content (WrittenFrom s op node stamp r bits old new result)
+call_gives done bare s op node stamp r bits of_file None old new result put says = tt
+call_gives done bare s op node stamp r bits of_file (Some c) old new (Ok u) put says =
+    let is = done_is bits (more_of (growth_of bits r op node)) (row_of bits r op node) u says.short says.full in
+    λ g clusters v a asked none. subst (λ (l : List Bool). HasWritten c g clusters v op node.number stamp a (growth_of l r op a) new) (sym asked.of_volume)
+    (done c g clusters v s op node.number stamp a r put.change new (enough_now bare c g clusters v s op node a stamp r bits asked of_file is.0) (writes_now bare c g clusters v s op node a stamp r bits asked of_file old new none put))
+call_gives done bare s op node stamp r bits of_file (Some c) old new (Err why) put says = λ g clusters v a asked none. tt
+
+-- ---- by the record that was given
+
+-- what is said of the record that was made
+says_why : MadeIsCounted → (bits : List Bool) (r q : Record) (op : Op) (node : Node) (result : Result (Unit {0}) WriteFault) → has_data r ≡ false → q ≡ made_record r → (count_by not bits < more_of (growth_of bits q op node) → IsShortOf (count_by not bits) result)
+    → (more_of (growth_of bits q op node) ≤ count_by not bits → HasRow (row_of bits q op node) result) → SaysWhy bits r op node result
+says_why counted bits r q op node result none is short full = same_reasons counted bits r op node result none (subst (λ (y : Record). SaysWhy bits y op node result) is (record { short = short; full = full }))
+
+pub made_steps : MadeIsCounted → MadeIsStep → ChangesAreSteps → BareIsEnough → FilesAreReady → (content : Option Content) (s : VolumeStreams) (op : Op) (node : Node) (stamp : ℕ) (r q : Record) (bits : List Bool) (old new : List Touched) (result : Result (Unit {0}) WriteFault) → IsBare (length bits) r stamp → q ≡ made_record r
+    → OnOk result (IfSome content (λ c. PutsWrite c bits s node.number op node stamp q old new)) → (count_by not bits < more_of (growth_of bits q op node) → IsShortOf (count_by not bits) result)
+    → (more_of (growth_of bits q op node) ≤ count_by not bits → HasRow (row_of bits q op node) result) → IfSome content (StepsFrom s op node stamp r bits old new result)
+made_steps counted done steps bare ready content s op node stamp r q bits old new result of_file is put short full =
+    call_steps done steps bare ready s op node stamp r bits of_file content old new result (subst (λ (y : Record). OnOk result (IfSome content (λ c. PutsWrite c bits s node.number op node stamp y old new))) is put)
+    (says_why counted bits r q op node result of_file.none is short full)
+
+pub made_gives : MadeIsCounted → MadeIsDone → BareIsEnough → (content : Option Content) (s : VolumeStreams) (op : Op) (node : Node) (stamp : ℕ) (r q : Record) (bits : List Bool) (old new : List Touched) (result : Result (Unit {0}) WriteFault) → IsBare (length bits) r stamp → q ≡ made_record r
+    → OnOk result (IfSome content (λ c. PutsWrite c bits s node.number op node stamp q old new)) → (count_by not bits < more_of (growth_of bits q op node) → IsShortOf (count_by not bits) result)
+    → (more_of (growth_of bits q op node) ≤ count_by not bits → HasRow (row_of bits q op node) result) → IfSome content (WrittenFrom s op node stamp r bits old new result)
+made_gives counted done bare content s op node stamp r q bits old new result of_file is put short full =
+    call_gives done bare s op node stamp r bits of_file content old new result (subst (λ (y : Record). OnOk result (IfSome content (λ c. PutsWrite c bits s node.number op node stamp y old new))) is put)
+    (says_why counted bits r q op node result of_file.none is short full)

@@ -1,0 +1,25 @@
+-- A write or a cut of a file without unnamed data that was found is a step of the content.
+use Rattle.std.specs.Prelude.{◌≡◌, ℕ, true, List, None}
+use Rattle.disk_model.specs.Content.{Content}
+use Rattle.record_model.specs.Records.{Record}
+use Rattle.file_tree.specs.declared.node.Node.{Node}
+use Rattle.state_model.specs.declared.geometry.Geometry.{Geometry}
+use Rattle.volume_model.specs.Volumes.{Volume, cluster_bits}
+use Rattle.tree_model.specs.declared.script.Op.{Op}
+use Rattle.change_lookup.specs.declared.found.Found.TheVariants.{File}
+use Rattle.plan_draft.specs.declared.touched.Touched.{Touched}
+use Rattle.plan_draft.specs.Drafts.{drafted}
+use Rattle.step_model.specs.Steps.{Step}
+use Rattle.data_plan.specs.declared.change.DataChange.{DataChange}
+use Rattle.data_plan.specs.Changes.{row_of}
+use Rattle.file_puts.specs.declared.streams.VolumeStreams.{VolumeStreams}
+use Rattle.change_steps.specs.Found.{HasChange, Finds}
+use Rattle.change_steps.specs.Changes.{change_reply}
+use Rattle.written_clusters.specs.Done.{HasClusters}
+use Rattle.written_made.specs.Made.{WritesMade}
+
+-- Such a file is found to be written or cut, no row of its record refuses it, as many clusters are clear as its data comes to take, and the
+-- draft has put what comes of that: the content that the draft stands for is the step's.
+abbrev pub MadeIsStep : Type 0
+MadeIsStep = (c : Content) (g : Geometry) (clusters : ℕ) (v : Volume) (s : VolumeStreams) (op : Op) (stamp : ℕ) (node a : Node) (r : Record) (what : DataChange) (new : List Touched) → HasChange c g clusters v op → Finds c v op (File node true)
+    → row_of (cluster_bits c v) r op a ≡ None → HasClusters c v op a r → WritesMade c g clusters v s op node.number stamp a r what new → Step g clusters op stamp (change_reply op) c (drafted new c)
