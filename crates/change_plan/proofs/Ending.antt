@@ -58,8 +58,8 @@ none_changed (Some c) = record { fit = All-nil Fits; in_order = refl; olds = All
 pub answer_plans : (c : Content) (g : Geometry) (clusters : ℕ) (v : Volume) (o : Op) (stamp : ℕ) (said : Reply) (plan : ChangePlan) → HasSizes c → Step g clusters o stamp said c c → IsAnswer said plan → IsPlan c g clusters v o stamp plan
 answer_plans c g clusters v o stamp said plan sized step k = record {
   step =
-    subst (λ (x : Reply). Step g clusters o stamp x c (content_after plan.changes.items c)) (sym k.reply_is)
-    (subst (λ (l : List Change). Step g clusters o stamp said c (content_after l c)) (sym k.none) (subst (λ (d : Content). Step g clusters o stamp said c d) (sym (none_after c sized)) step));
+      subst (λ (x : Reply). Step g clusters o stamp x c (content_after plan.changes.items c)) (sym k.reply_is)
+      (subst (λ (l : List Change). Step g clusters o stamp said c (content_after l c)) (sym k.none) (subst (λ (d : Content). Step g clusters o stamp said c d) (sym (none_after c sized)) step));
   draft = λ some. (let none = ap length k.none in absurd (omega (arith, some, none)));
 }
 
@@ -95,8 +95,8 @@ finished_plans : (c : Content) (g : Geometry) (clusters : ℕ) (v : Volume) (s :
     → Step g clusters o stamp (change_reply o) c (drafted new c) → HasWritten c g clusters v o node.number stamp a (growth_of bits r o a) new → IsFinished (Some c) o new plan → IsPlan c g clusters v o stamp plan
 finished_plans c g clusters v s o stamp node a r bits new plan asked step written k = record {
   step =
-    subst (λ (x : Reply). Step g clusters o stamp x c (content_after plan.changes.items c)) (sym k.reply_is)
-    (subst (λ (d : Content). Step g clusters o stamp (change_reply o) c d) (sym k.after) step);
+      subst (λ (x : Reply). Step g clusters o stamp x c (content_after plan.changes.items c)) (sym k.reply_is)
+      (subst (λ (d : Content). Step g clusters o stamp (change_reply o) c d) (sym k.after) step);
   draft = λ some. record {
     number = node.number;
     r = r;

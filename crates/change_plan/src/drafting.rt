@@ -14,9 +14,9 @@ use crate::fault::PlanFault;
 use crate::laws::files_are_read;
 use crate::plan::ChangePlan;
 use block_view::View;
+use change_steps::changes_are_steps;
 use disk_model::Body;
 use draft_records::file;
-use change_steps::changes_are_steps;
 use file_puts::VolumeStreams;
 use file_record::FileRec;
 use file_tree::Node;
@@ -61,11 +61,7 @@ pub fn answer(alloc: Global, reply: Reply) -> ChangePlan
 }
 
 // The plan that a draft comes to.
-fn finished<V: View>(
-    draft: &Draft<'_, V>,
-    alloc: Global,
-    op: &Op,
-) -> Result<ChangePlan, AllocError>
+fn finished<V: View>(draft: &Draft<'_, V>, alloc: Global, op: &Op) -> Result<ChangePlan, AllocError>
     ensures { IfOk result (IsFinished (V.content draft.now.view.now) op.now draft.now.touched.items) }
 {
     Ok(ChangePlan {
