@@ -177,5 +177,7 @@ pub fn file_plan<V: View>(
     let room = Body::empty(alloc)?;
     let mut draft = Draft::new(alloc, room, view);
     let mut bits = Taken::new(alloc, &map.cluster_bits);
-    drafted_plan(&mut draft, alloc, per, &mut bits, streams, op, node, stamp)
+    let plan = drafted_plan(&mut draft, alloc, per, &mut bits, streams, op, node, stamp);
+    let _view = draft.into_view();
+    plan
 }
