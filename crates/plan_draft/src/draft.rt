@@ -69,6 +69,16 @@ impl<'a, V: View> Draft<'a, V> {
         changes_of(alloc, &self.touched)
     }
 
+    /// The view that the draft was made over, as it left it: with this call the draft's owner knows of
+    /// that view again. In constant time.
+    pub fn into_view(self) -> &'a mut V
+        ensures now { result.now ≡ self.entry.view.now }
+        ensures reference { result.ghost_name ≡ self.entry.view.ghost_name }
+    {
+        let Draft { view, .. } = self;
+        view
+    }
+
     // Reads the old body of a block that wasn't touched, and puts these bytes into it.
     fn put_first(
         &mut self,

@@ -13,6 +13,7 @@ mod volume;
 
 pub use block_view::View;
 pub use change_lookup::{Census, Lookup, LookupFault};
+pub use lent::LentView;
 pub use upcase_order::Upcase;
 pub use volume::VolumeCensus;
 pub use volume_tree::NamedVolume;

@@ -1,0 +1,5 @@
+pub mod DataChanges
+mod Reading
+mod Ending
+mod Leading
+mod Asking
