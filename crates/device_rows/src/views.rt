@@ -110,7 +110,7 @@ static WALK: [Row; 3] = [
 /// A walk passes over 7 sectors, and ends where 8 are passed over.
 static STEPS: [Row; 4] = [
     Row(4, BlockKind::FileRec, Ok((false, 1024)), &[(510, 0x41)]),
-    Row(14, BlockKind::FileRec, Ok((false, 1024)), &[(510, 0)]),
+    Row(14, BlockKind::FileRec, Ok((false, 1024)), &[(510, 7)]),
     Row(23, BlockKind::Plain, Ok((false, 512)), &[(510, 0)]),
     Row(23, BlockKind::Plain, Ok((false, 512)), &[(510, 0)]),
 ];

@@ -117,15 +117,15 @@ fn refuses_a_log_without_laps(rt: HostRuntime) -> Result<(), Fail> {
     Ok(())
 }
 
-// One of the first five calls fails, or the sixth one, which isn't made.
+// One of the first six calls fails, or the seventh one, which isn't made.
 #[test]
 fn answers_each_fault_of_the_device(rt: HostRuntime) -> Result<(), Fail> {
     let alloc = rt.alloc();
     let place = place(alloc)?;
-    for call in 1..7 {
+    for call in 1..8 {
         let mut device = device(alloc, 0xFF, 0xFF, &[call])?;
         let found = recover(alloc, &mut device, &place).map(|found| found.next_lap);
-        let wanted = if call < 6 {
+        let wanted = if call < 7 {
             Err(RecoveryFault::Fault)
         } else {
             Ok(1)
