@@ -1,5 +1,5 @@
 -- The states from which operations on files are planned.
-use Rattle.std.specs.Prelude.{◌≡◌, ℕ, ◌+◌, ◌<◌, ◌≤◌, ◌^◌, Bool, true, false, List, None}
+use Rattle.std.specs.Prelude.{◌≡◌, ℕ, ◌≤◌, Bool, true, false, List, None}
 use Rattle.disk_model.specs.Content.{Content}
 use Rattle.record_model.specs.Pairs.{cluster_limit}
 use Rattle.state_model.specs.declared.geometry.Geometry.{Geometry}
@@ -27,6 +27,6 @@ pub record IsStateOf (c : Content) (g : Geometry) (clusters : ℕ) (v : Volume) 
   pub journal : (tree_of c v).journal ≡ None
   pub streams : AreStreamsOf v s
 
--- The volume has so few clusters that a file which takes more can be written in its mapping pairs.
+-- The volume has so few clusters that each can be named in mapping pairs.
 abbrev pub HasFewClusters : ℕ → Type 0
-HasFewClusters clusters = clusters + 2 ^ 15 ≤ cluster_limit
+HasFewClusters clusters = clusters ≤ cluster_limit

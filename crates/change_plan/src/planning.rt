@@ -72,7 +72,7 @@ fn planned<V: View>(
 /// - [`PlanFault::Fault`]: the view failed, and counts it.
 /// - [`PlanFault::Memory`]: want of memory.
 /// - [`PlanFault::Unknown`]: what was read is part of no state of the volume; never from a content
-///   that is one, of at most 2^32 - 2^15 clusters.
+///   that is one, of at most 2^32 clusters.
 ///
 /// It reads the index blocks on the path and the file's record, and of the file's data the sectors
 /// that are changed in part. It takes time and memory linear in these and in the bytes that are
