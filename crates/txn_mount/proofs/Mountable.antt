@@ -42,7 +42,8 @@ use Rattle.ring_laws.proofs.LogSectors.{lies_in_row, read_is_raw}
 use Rattle.ring_laws.proofs.SeenDisks.{not_own, written_updated}
 use Rattle.store_model.specs.Geometry.{SectorBytes}
 use Rattle.store_model.specs.Logs.{has_update}
-use Rattle.store_model.specs.Volumes.{is_known, ContentWindow}
+use Rattle.store_model.specs.Volumes.{is_known}
+use Rattle.store_claims.specs.Windows.{StoreWindow}
 use Rattle.store_model.proofs.Known.{is_in}
 use Rattle.store_model.proofs.Told.{true≢false, same_self}
 use Rattle.txn_laws.specs.Windows.{HasWindow, RecoversWithin, lap_behind, next_lap_in}
@@ -274,7 +275,7 @@ out_either : (c : Content) (list : List Entry) (b : Block) → is_put_out c list
 unfolding is_put_out
 out_either c list b out = or_parts (is_spelled c list b) (is_other c list b) (and_right (is_written_out c list b) (is_spelled c list b || is_other c list b) out)
 
-module _ (place : LogPlace) (ring : IsRingPlace place) (kept : List Block) (w : ContentWindow) (at : SectorBytes) (x : RecoversWithin place (is_own place kept) w at) where
+module _ (place : LogPlace) (ring : IsRingPlace place) (kept : List Block) (w : StoreWindow) (at : SectorBytes) (x : RecoversWithin place (is_own place kept) w at) where
   abbrev c : Content
   c = content_of at
 
@@ -338,14 +339,14 @@ module _ (place : LogPlace) (ring : IsRingPlace place) (kept : List Block) (w : 
 
 -- ---- of a store
 
-by_call : (f g : StoreFacts) (w v : ContentWindow) (image : SectorBytes) → IsRingPlace f.place → {A : Type 0} → A ⊎ (RecoversWithin f.place (own_of f) w image ⊎ RecoversWithin f.place (own_of f) v image)
+by_call : (f g : StoreFacts) (w v : StoreWindow) (image : SectorBytes) → IsRingPlace f.place → {A : Type 0} → A ⊎ (RecoversWithin f.place (own_of f) w image ⊎ RecoversWithin f.place (own_of f) v image)
     → A ⊎ (next_lap_in f.place image ≤ max (lap_behind f) (lap_behind g)) → IsFar f.place (max (lap_behind f) (lap_behind g)) → A ⊎ IsMountable f.place f.found (max (lap_behind f) (lap_behind g)) image
 by_call f g w v image ring (inl before) low far = inl before
 by_call f g w v image ring (inr recovers) (inl before) far = inl before
 by_call f g w v image ring (inr (inl within)) (inr low) far = inr (mountable f.place ring f.found w image within (max (lap_behind f) (lap_behind g)) low far)
 by_call f g w v image ring (inr (inr within)) (inr low) far = inr (mountable f.place ring f.found v image within (max (lap_behind f) (lap_behind g)) low far)
 
-ring_of : (changes : Changes) (f : StoreFacts) (w : ContentWindow) → HasWindow changes f w → IsRingPlace f.place
+ring_of : (changes : Changes) (f : StoreFacts) (w : StoreWindow) → HasWindow changes f w → IsRingPlace f.place
 ring_of changes f w has = has.3.stands.ring.ring.lies
 
 pub stores_mount_law : StoresMount

@@ -12,7 +12,7 @@ use Rattle.log_reading.specs.Rings.{IsRingPlace}
 use Rattle.log_recovery.specs.LogStates.{LogState}
 use Rattle.log_recovery.specs.Writing.{to_write_in}
 use Rattle.store_model.specs.Geometry.{SectorBytes}
-use Rattle.store_model.specs.Volumes.{ContentWindow}
+use Rattle.store_claims.specs.Windows.{StoreWindow}
 use Rattle.txn_laws.specs.Windows.{HasWindow, RecoversWithin, lap_behind, next_lap_in, During, LapsDuring}
 use Rattle.txn_model.specs.Values.{StoreFacts, is_own}
 use Rattle.txn_mount.specs.declared.fault.StoreFault.{StoreFault}
@@ -34,12 +34,12 @@ pub record IsMountable (place : LogPlace) (kept : List Block) (lap : ℕ) (at : 
 
 pub record StoresMount : Type 0 where
   -- what recovers to a content of a store's window, whether it was left at a return or inside a call, isn't refused, but where its own laps come near their end
-  pub within : (place : LogPlace) (kept : List Block) (w : ContentWindow) (at : SectorBytes) → IsRingPlace place → RecoversWithin place (is_own place kept) w at → IsFar place (next_lap_in place at) → IsMountable place kept (next_lap_in place at) at
+  pub within : (place : LogPlace) (kept : List Block) (w : StoreWindow) (at : SectorBytes) → IsRingPlace place → RecoversWithin place (is_own place kept) w at → IsFar place (next_lap_in place at) → IsMountable place kept (next_lap_in place at) at
   -- what may be left of a store at a return isn't, but where its next lap comes near that; and the lap that a mount of it begins is that one at most
-  pub at_return : (count : ℕ) (changes : Changes) (f : StoreFacts) (w : ContentWindow) (image : List (List ℕ)) → HasWindow changes f w → MayLeaveNow count changes image → IsFar f.place (lap_behind f)
+  pub at_return : (count : ℕ) (changes : Changes) (f : StoreFacts) (w : StoreWindow) (image : List (List ℕ)) → HasWindow changes f w → MayLeaveNow count changes image → IsFar f.place (lap_behind f)
       → IsMountable f.place f.found (lap_behind f) (sector_of image)
   -- and whatever is left inside a call, which is known as each call of a store says it, counted so before it, or isn't refused either, with the laps of before and after
-  pub during : (count moment : ℕ) (old now : Changes) (f g : StoreFacts) (w v : ContentWindow) (t : ℕ) (image : List (List ℕ)) → HasWindow old f w → During count moment old now f w v → LapsDuring count moment old now f g
+  pub during : (count moment : ℕ) (old now : Changes) (f g : StoreFacts) (w v : StoreWindow) (t : ℕ) (image : List (List ℕ)) → HasWindow old f w → During count moment old now f w v → LapsDuring count moment old now f g
       → t ≤ moment → LeftSince count now t image → IsFar f.place (max (lap_behind f) (lap_behind g)) → LeftSince count old t image ⊎ IsMountable f.place f.found (max (lap_behind f) (lap_behind g)) (sector_of image)
 
 -- The same of what a mount leaves that was stopped, of a log whose updates are of known blocks, as those of a store's are: the lap that a mount of it begins is at most one more than

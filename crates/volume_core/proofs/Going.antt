@@ -4,7 +4,7 @@ use Rattle.std.proofs.Math.Seq.{drop-cons}
 use Rattle.std.proofs.lemmas.List.{drop_all}
 use Rattle.disk_model.specs.declared.block.Change.{Change}
 use Rattle.sector_device.specs.Moments.{Changes}
-use Rattle.store_model.specs.Volumes.{ContentWindow}
+use Rattle.store_claims.specs.Windows.{StoreWindow}
 use Rattle.txn_model.specs.Values.{StoreFacts}
 use Rattle.txn_model.specs.Calls.{given_up_facts}
 use Rattle.txn_state.specs.States.{IsStore}
@@ -47,10 +47,10 @@ goes_more gives changes f g h all x xs enough near store changed leads goes = re
 
 -- one of them failed
 pub goes_badly : (gives : Option (List (List ℕ))) (changes : Changes) (f g h : StoreFacts) (all : List Change) (x : Change) (xs : List Change) (fault : ChangeFault) → h ≡ given_up_facts g → LeadsTo changes g h AfterGiveUp → GoesOn gives changes f g all (x ∷ xs)
-    → StoppedBy gives all f h × LeadsTo changes f h AfterStop
+    → StoppedBy gives all f h × LeadsTo changes f h (AfterStop all)
 goes_badly gives changes f g h all x xs fault is leads goes = (
   goes.done (Err fault) h (inl is),
-  goes.windows (Err fault) h (leads_weaker changes g h AfterGiveUp AfterStop (λ w v has after. stops w v after) leads),
+  goes.windows (Err fault) h (leads_weaker changes g h AfterGiveUp (AfterStop (x ∷ xs)) (λ w v has after. stops (x ∷ xs) w v after) leads),
 )
 
 -- none is left
@@ -65,7 +65,7 @@ may_here given now changes f g all k x bytes enough same store near is lt item g
     subst (λ (o : Option (List (List ℕ))). MayChangeNow o g x.block x.offset bytes) (sym same)
     (subst (λ (bs : List ℕ). MayChangeNow given g x.block x.offset bs) (sym is) (may_change_first given g x (drop (k + 1) all) enough store near (goes_at given changes f g all k x lt item goes).may))
 
-leads_here : (changes here after : Changes) (count moment : ℕ) (g h : StoreFacts) (After : ContentWindow → ContentWindow → Type 0) → here ≡ changes → after ≡ here → Simulates count moment here after g h After → LeadsTo changes g h After
+leads_here : (changes here after : Changes) (count moment : ℕ) (g h : StoreFacts) (After : StoreWindow → StoreWindow → Type 0) → here ≡ changes → after ≡ here → Simulates count moment here after g h After → LeadsTo changes g h After
 leads_here changes here after count moment g h After same stays step = leads_other changes here g h After same (leads_by count moment here after g h After stays step)
 
 pub goes_here : (given now : Option (List (List ℕ))) (changes here after : Changes) (count moment : ℕ) (f g h : StoreFacts) (all : List Change) (k : ℕ) (x : Change) (bytes : List ℕ) → PagesAreEnough → now ≡ given → here ≡ changes → after ≡ here → IsStore h → x.block.first < 2 ^ 64
@@ -77,7 +77,7 @@ goes_here given now changes here after count moment f g h all k x bytes enough s
     (goes_at given changes f g all k x lt item goes)
 
 pub stops_here : (given : Option (List (List ℕ))) (changes here after : Changes) (count moment : ℕ) (f g h : StoreFacts) (all : List Change) (k : ℕ) (x : Change) (fault : ChangeFault) → here ≡ changes → after ≡ here → k < length all → x ≡ get_or all k x → h ≡ given_up_facts g
-    → Simulates count moment here after g h AfterGiveUp → GoesOn given changes f g all (drop k all) → StoppedBy given all f h × LeadsTo changes f h AfterStop
+    → Simulates count moment here after g h AfterGiveUp → GoesOn given changes f g all (drop k all) → StoppedBy given all f h × LeadsTo changes f h (AfterStop all)
 stops_here given changes here after count moment f g h all k x fault at_first stays lt item is step goes =
     goes_badly given changes f g h all x (drop (k + 1) all) fault is (leads_here changes here after count moment g h AfterGiveUp at_first stays step) (goes_at given changes f g all k x lt item goes)
 

@@ -1,3 +1,4 @@
+pub mod Claiming
 pub mod Lists
 pub mod Contents
 pub mod Logged

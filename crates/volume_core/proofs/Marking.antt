@@ -18,10 +18,7 @@ use Rattle.state_blocks.specs.Drafts.{is_changed}
 use Rattle.volume_core.specs.Changes.{AreBeside, AreApart}
 use Rattle.volume_core.specs.Logging.{ChangedBy, StoppedBy}
 use Rattle.volume_core.proofs.Lists.{each_weaker, or_parts}
-
--- no change is of a rival of the block
-abbrev pub NoRival : List Change → Block → Type 0
-NoRival xs b = AllByRecursion (λ (x : Change). are_rivals x.block b ≡ false) xs
+use Rattle.volume_core.specs.Claims.{NoRival}
 
 -- so a rival of it isn't changed
 pub rivals_unchanged : (xs : List Change) (b c : Block) → NoRival xs b → are_rivals b c ≡ true → is_changed xs c ≡ false

@@ -38,6 +38,7 @@ use Rattle.volume_core.proofs.Lists.{each_weaker, same_after}
 use Rattle.volume_core.proofs.Contents.{committed_content, stopped_content, committed_counts, stopped_counts}
 use Rattle.volume_core.proofs.Following.{has_map, have_maps, state_after}
 use Rattle.volume_core.proofs.Sparing.{place_stays, spares_behind}
+use Rattle.volume_core.proofs.Claiming.{untouched_claims}
 
 -- ---- bodies that are put have spellings
 
@@ -109,7 +110,7 @@ is_put gives gave count old new before now xs m next after some same unchanged k
     }
 
 pub is_left : (gives gave : Option (List (List ℕ))) (old new : StateOf) (before now : Changes) (xs : List Change) (m next : MapParts) (failure : ChangeFault) → gave ≡ gives → now ≡ before → ((b : Block) → is_some ((facts_of old).before b) ≡ false) → next ≡ m
-    → HasCommitted (Err failure) gives xs (facts_of old) (facts_of new) → LeadsTo before (facts_of old) (facts_of new) StaysWindow → PutsOver (Err failure) xs gives gave old new before now m next
+    → HasCommitted (Err failure) gives xs (facts_of old) (facts_of new) → LeadsTo before (facts_of old) (facts_of new) (StaysWindow xs) → PutsOver (Err failure) xs gives gave old new before now m next
 is_left gives gave old new before now xs m next failure same unchanged shut is done windows =
     let counts = stopped_counts gives xs (facts_of old) (facts_of new) done in
     record {
@@ -126,8 +127,8 @@ is_left gives gave old new before now xs m next failure same unchanged shut is d
 
 -- ---- after a reading of the store
 
-stays_now : (changes : Changes) (f : StoreFacts) → f.is_open ≡ false → LeadsTo changes f f StaysWindow
-stays_now changes f closed = λ w has. (w, has, record { present = λ b. refl; others = λ k le b. refl; waiting = refl; is_open = is_open_of changes f w has ∙ closed })
+stays_now : (changes : Changes) (f : StoreFacts) (xs : List Change) → f.is_open ≡ false → LeadsTo changes f f (StaysWindow xs)
+stays_now changes f xs closed = λ w has. (w, has, record { claimed = untouched_claims xs w.claimed; present = λ b. refl; others = λ k le b. refl; waiting = refl; is_open = is_open_of changes f w has ∙ closed })
 
 pub none_put : {E : Type 0} (failure : E) (xs : List Change) (gives gave : Option (List (List ℕ))) (old new : StateOf) (before now : Changes) (m next : MapParts) → old.is_open ≡ false → new ≡ old → gave ≡ gives → now ≡ before → next ≡ m → PutsOver (Err failure) xs gives gave old new before now m next
 none_put {E} failure xs gives gave old new before now m next closed stays same unchanged is =
@@ -141,7 +142,7 @@ none_put {E} failure xs gives gave old new before now m next closed stays same u
       closed = closed;
       same = same;
       unchanged = unchanged;
-      windows = stays_now before (facts_of old) closed;
+      windows = stays_now before (facts_of old) xs closed;
     })
 
 -- the same of no changes, which are put at once
@@ -157,7 +158,7 @@ nothing_put {E} xs gives count state before m table none closed k whole shown = 
       closed = closed;
       same = refl;
       unchanged = refl;
-      windows = stays_now before (facts_of state) closed;
+      windows = stays_now before (facts_of state) [] closed;
     })
   where
     sized : IfSome (present_content gives state) HasSizes

@@ -13,7 +13,8 @@ use Rattle.sector_device.specs.Moments.{Changes}
 use Rattle.block_view.specs.Changes.{content_after}
 use Rattle.log_model.specs.Logs.{is_in_grid}
 use Rattle.log_page.specs.declared.places.LogPlace.{LogPlace}
-use Rattle.store_model.specs.Volumes.{is_known, is_free, ContentWindow}
+use Rattle.store_model.specs.Volumes.{is_known, is_free}
+use Rattle.store_claims.specs.Windows.{StoreWindow}
 use Rattle.store_model.proofs.Told.{true≢false, or_left}
 use Rattle.store_model.proofs.Known.{is_in}
 use Rattle.ring_laws.proofs.SeenDisks.{not_own}
@@ -36,7 +37,8 @@ use Rattle.volume_core.specs.Puts.{PutsContent, PutsMap, PutsFacts}
 use Rattle.volume_core.proofs.Lists.{each_weaker, unchanged_by, changed_whole, changed_found}
 use Rattle.volume_core.proofs.Contents.{committed_content, stopped_content}
 use Rattle.volume_core.proofs.Following.{next_map}
-use Rattle.volume_core.proofs.Marking.{NoRival, rivals_unchanged, Marked, marked_committed, IsFresh, fresh_committed, Stopped, stopped_by}
+use Rattle.volume_core.proofs.Marking.{rivals_unchanged, Marked, marked_committed, IsFresh, fresh_committed, Stopped, stopped_by}
+use Rattle.volume_core.specs.Claims.{NoRival}
 
 pub some_length : {X : Type 0} (xs : List X) → (length xs == 0) ≡ false → 0 < length xs
 some_length [] none = absurd (true≢false none)
@@ -58,7 +60,7 @@ known_pages place found b known =
 
 -- ---- changes that were made
 
-module _ (disk : List (List ℕ)) (xs : List Change) (f g : StoreFacts) (w v : ContentWindow) (done : (h : StoreFacts) × ChangedBy (Some disk) xs (begun_facts f) h × (g ≡ committed_facts h)) (after : (b : Block) → v.present b ≡ changed_by xs w.present b) (b : Block) where
+module _ (disk : List (List ℕ)) (xs : List Change) (f g : StoreFacts) (w v : StoreWindow) (done : (h : StoreFacts) × ChangedBy (Some disk) xs (begun_facts f) h × (g ≡ committed_facts h)) (after : (b : Block) → v.present b ≡ changed_by xs w.present b) (b : Block) where
   marked : Marked xs f g
   marked = marked_committed (Some disk) xs f g done
 
@@ -96,7 +98,7 @@ none_some : (o : Option Body) → is_some o ≡ false → o ≡ None
 none_some (Some x) is = absurd (true≢false is)
 none_some None is = refl
 
-module _ (disk : List (List ℕ)) (xs : List Change) (f g : StoreFacts) (w v : ContentWindow) (shut : (b : Block) → is_some (f.before b) ≡ false) (done : StoppedBy (Some disk) xs (begun_facts f) g) (after : (b : Block) → v.present b ≡ w.present b) (b : Block) where
+module _ (disk : List (List ℕ)) (xs : List Change) (f g : StoreFacts) (w v : StoreWindow) (shut : (b : Block) → is_some (f.before b) ≡ false) (done : StoppedBy (Some disk) xs (begun_facts f) g) (after : (b : Block) → v.present b ≡ w.present b) (b : Block) where
   stopped : Stopped xs (begun_facts f) g
   stopped = stopped_by (Some disk) xs (begun_facts f) g done
 
@@ -130,7 +132,7 @@ place_stays (Ok tt) (x ∷ xs) gives f g is = (marked_committed gives (x ∷ xs)
 place_stays (Err e) xs gives f g (inl is) = ap (λ (h : StoreFacts). h.place) is
 place_stays (Err e) xs gives f g (inr is) = (stopped_by gives xs (begun_facts f) g is).place
 
-put_window : (xs : List Change) (w v : ContentWindow) → 0 < length xs → AfterChanges xs w v → (b : Block) → v.present b ≡ changed_by xs w.present b
+put_window : (xs : List Change) (w v : StoreWindow) → 0 < length xs → AfterChanges xs w v → (b : Block) → v.present b ≡ changed_by xs w.present b
 put_window [] w v some after b = absurd (omega (arith, some))
 put_window (x ∷ xs) w v some after b = after.present b
 
@@ -142,7 +144,7 @@ one_content : (c d : Content) → Some d ≡ Some c → d ≡ c
 one_content c d is = ap (λ (o : Option Content). unwrap_or o c) is
 
 -- what is spared behind a list that was put
-put_spared : (disk : List (List ℕ)) (xs : List Change) (f g : StoreFacts) (w v : ContentWindow) (m : MapParts) (table : List ℕ) (leads : LeadsOn m table xs (present_on disk f)) → AreApart xs → AllByRecursion (MayLog f) xs → present_on disk g ≡ content_after xs (present_on disk f)
+put_spared : (disk : List (List ℕ)) (xs : List Change) (f g : StoreFacts) (w v : StoreWindow) (m : MapParts) (table : List ℕ) (leads : LeadsOn m table xs (present_on disk f)) → AreApart xs → AllByRecursion (MayLog f) xs → present_on disk g ≡ content_after xs (present_on disk f)
     → ((h : StoreFacts) × ChangedBy (Some disk) xs (begun_facts f) h × (g ≡ committed_facts h)) → ((b : Block) → v.present b ≡ changed_by xs w.present b) → ((b : Block) → IsNeeded (present_on disk f) m.volume b → IsSpared f w disk b)
     → (b : Block) → IsNeeded (present_on disk g) leads.volume b → IsSpared g v disk b
 put_spared disk xs f g w v m table leads apart each is done after spared b needed = elim (cases_Bool (is_changed xs b)) [
@@ -155,7 +157,7 @@ put_spared disk xs f g w v m table leads apart each is done after spared b neede
     before (inr some) other = absurd (true≢false (sym some ∙ other))
 
 -- and behind one that wasn't
-left_spared : (disk : List (List ℕ)) (xs : List Change) (f g : StoreFacts) (w v : ContentWindow) (m : MapParts) (table : List ℕ) → LeadsOn m table xs (present_on disk f) → ((b : Block) → is_some (f.before b) ≡ false) → StoppedBy (Some disk) xs (begun_facts f) g
+left_spared : (disk : List (List ℕ)) (xs : List Change) (f g : StoreFacts) (w v : StoreWindow) (m : MapParts) (table : List ℕ) → LeadsOn m table xs (present_on disk f) → ((b : Block) → is_some (f.before b) ≡ false) → StoppedBy (Some disk) xs (begun_facts f) g
     → ((b : Block) → v.present b ≡ w.present b) → ((b : Block) → IsNeeded (present_on disk f) m.volume b → IsSpared f w disk b) → (b : Block) → IsNeeded (present_on disk g) m.volume b → IsSpared g v disk b
 left_spared disk xs f g w v m table leads shut done after spared b needed =
     let old : IsNeeded (present_on disk f) m.volume b = subst (λ (c : Content). IsNeeded c m.volume b) (stopped_content disk xs f g shut done) needed in
@@ -163,7 +165,7 @@ left_spared disk xs f g w v m table leads shut done after spared b needed =
     (λ some. changed_found (λ c. IsNeeded (present_on disk f) m.volume c → (present_on disk f c).torn ≡ false) xs b some leads.draft.whole old) (spared b old)
 
 -- nothing was done
-same_spared : (disk : List (List ℕ)) (f g : StoreFacts) (w v : ContentWindow) (b : Block) → g ≡ f → v.present b ≡ w.present b → IsSpared f w disk b → IsSpared g v disk b
+same_spared : (disk : List (List ℕ)) (f g : StoreFacts) (w v : StoreWindow) (b : Block) → g ≡ f → v.present b ≡ w.present b → IsSpared f w disk b → IsSpared g v disk b
 same_spared disk f g w v b is after spared =
     subst (λ (h : StoreFacts). IsSpared h v disk b) (sym is)
     (record { known = spared.known; alive = spared.alive; alone = spared.alone; whole = spared.whole; shown = λ torn. spared.shown (ap (λ (y : Body). y.torn) (sym after) ∙ torn) })
@@ -181,13 +183,13 @@ module _ (disk : List (List ℕ)) (xs : List Change) (f g : StoreFacts) (before 
         spared = λ b needed. put_spared disk xs f g old.window w.0 m table leads apart each content done (put_window xs old.window w.0 some w.2) old.spared b (subst (λ (x : Volume). IsNeeded (present_on disk g) x b) volume needed);
       }
 
-  spares_left : (failure : PutFault) → PutsFacts (Err failure) xs (Some disk) f g → LeadsTo before f g StaysWindow → next ≡ m → SparesState now g next.volume disk
+  spares_left : (failure : PutFault) → PutsFacts (Err failure) xs (Some disk) f g → LeadsTo before f g (StaysWindow xs) → next ≡ m → SparesState now g next.volume disk
   spares_left failure facts windows is =
       let w = windows old.window old.has in
       subst (λ (x : MapParts). SparesState now g x.volume disk) (sym is)
       (record { window = w.0; has = subst (λ (c : Changes). HasWindow c g w.0) (sym same) w.1; spared = λ b needed. by facts w.0 w.2.present b needed })
     where
-      by : PutsFacts (Err failure) xs (Some disk) f g → (v : ContentWindow) → ((b : Block) → v.present b ≡ old.window.present b) → (b : Block) → IsNeeded (present_on disk g) m.volume b → IsSpared g v disk b
+      by : PutsFacts (Err failure) xs (Some disk) f g → (v : StoreWindow) → ((b : Block) → v.present b ≡ old.window.present b) → (b : Block) → IsNeeded (present_on disk g) m.volume b → IsSpared g v disk b
       by (inl stays) v after b needed = same_spared disk f g old.window v b stays (after b) (old.spared b (subst (λ (h : StoreFacts). IsNeeded (present_on disk h) m.volume b) stays needed))
       by (inr done) v after b needed = left_spared disk xs f g old.window v m table leads shut done after old.spared b needed
 

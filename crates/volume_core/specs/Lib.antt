@@ -1,6 +1,7 @@
 pub mod Volumes
 pub mod Changes
 pub mod Rooms
+pub mod Claims
 pub mod Windows
 pub mod Logging
 pub mod Preparing

@@ -8,7 +8,7 @@ use Rattle.volume_model.specs.Volumes.{Volume, upper_of}
 use Rattle.map_change.specs.Parts.{MapParts, parts_of}
 use Rattle.plan_owners.specs.States.{Stands}
 use Rattle.state_blocks.specs.Needing.{IsNeeded}
-use Rattle.store_model.specs.Volumes.{ContentWindow}
+use Rattle.store_claims.specs.Windows.{StoreWindow}
 use Rattle.txn_model.specs.Values.{StoreFacts}
 use Rattle.txn_laws.specs.Windows.{HasWindow}
 use Rattle.txn_state.specs.States.{StateOf, facts_of}
@@ -34,7 +34,7 @@ pub record IsStateOf (m : MapParts) (table : List ℕ) (c : Content) : Type 0 wh
 
 -- The store has a window, and no step of it takes the body of a block from which its present content, over these sectors, is read as a state of this volume.
 pub record SparesState (changes : Changes) (f : StoreFacts) (v : Volume) (disk : List (List ℕ)) : Type 0 where
-  pub window : ContentWindow
+  pub window : StoreWindow
   pub has : HasWindow changes f window
   pub spared : (b : Block) → IsNeeded (present_on disk f) v b → IsSpared f window disk b
 

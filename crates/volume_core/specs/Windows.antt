@@ -6,9 +6,10 @@ use Rattle.disk_model.specs.Bytes.{written}
 use Rattle.disk_model.specs.Content.{Content}
 use Rattle.disk_model.specs.Sectors.{same_block}
 use Rattle.sector_device.specs.Moments.{Changes}
-use Rattle.store_model.specs.Volumes.{ContentWindow}
+use Rattle.store_claims.specs.Windows.{StoreWindow}
 use Rattle.txn_model.specs.Values.{StoreFacts}
 use Rattle.txn_laws.specs.Windows.{HasWindow}
+use Rattle.volume_core.specs.Claims.{ClaimsAfterLogged, ClaimsAfterStop, ClaimsAfterLeft, ClaimsAfterPut}
 
 -- the content with a change made to it: a store writes the body whole, so that it isn't torn
 abbrev pub changed_content : Change → Content → Content
@@ -20,56 +21,60 @@ changed_by [] c = c
 changed_by (x ∷ xs) c = changed_by xs (changed_content x c)
 
 -- whatever window the store had, it has one that follows, where its device wasn't written
-abbrev pub LeadsTo : Changes → StoreFacts → StoreFacts → (ContentWindow → ContentWindow → Type 0) → Type 0
-LeadsTo changes f g After = (w : ContentWindow) → HasWindow changes f w → (v : ContentWindow) × HasWindow changes g v × After w v
+abbrev pub LeadsTo : Changes → StoreFacts → StoreFacts → (StoreWindow → StoreWindow → Type 0) → Type 0
+LeadsTo changes f g After = (w : StoreWindow) → HasWindow changes f w → (v : StoreWindow) × HasWindow changes g v × After w v
 
 -- ---- in an open transaction
 
 -- the changes were made: the contents that a crash may bring back stay
-pub record AfterLogged (changes : List Change) (old new : ContentWindow) : Type 0 where
+pub record AfterLogged (changes : List Change) (old new : StoreWindow) : Type 0 where
   pub present : (b : Block) → new.present b ≡ changed_by changes old.present b
   pub waiting : new.waiting ≡ old.waiting
   pub others : (k : ℕ) → k ≤ old.waiting → (b : Block) → new.before k b ≡ old.before k b
+  pub claimed : ClaimsAfterLogged changes old.claimed new.claimed
 
--- it was given up: the present content is the newest one of before
-pub record AfterStop (old new : ContentWindow) : Type 0 where
+-- some of them were, and it was given up: the present content is the newest one of before
+pub record AfterStop (changes : List Change) (old new : StoreWindow) : Type 0 where
   pub present : (b : Block) → new.present b ≡ old.before 0 b
   pub waiting : new.waiting ≡ old.waiting
   pub is_open : new.is_open ≡ false
   pub others : (k : ℕ) → k ≤ old.waiting → (b : Block) → new.before k b ≡ old.before k b
+  pub claimed : ClaimsAfterStop changes old.claimed new.claimed
 
-abbrev pub AfterLogging : {E : Type 0} → Result (Unit {0}) E → List Change → ContentWindow → ContentWindow → Type 0
+abbrev pub AfterLogging : {E : Type 0} → Result (Unit {0}) E → List Change → StoreWindow → StoreWindow → Type 0
 AfterLogging (Ok u) changes = AfterLogged changes
-AfterLogging (Err e) changes = AfterStop
+AfterLogging (Err e) changes = AfterStop changes
 
 -- ---- of a whole transaction
 
 -- The present content is changed, and is the newest of those that a crash may bring back; those of before stay, each one more commit back.
-pub record AfterPut (changes : List Change) (old new : ContentWindow) : Type 0 where
+pub record AfterPut (changes : List Change) (old new : StoreWindow) : Type 0 where
   pub present : (b : Block) → new.present b ≡ changed_by changes old.present b
   pub newest : (b : Block) → new.before 0 b ≡ new.present b
   pub others : (k : ℕ) → k ≤ old.waiting → (b : Block) → new.before (suc k) b ≡ old.before k b
   pub waiting : new.waiting ≡ suc old.waiting
   pub is_open : new.is_open ≡ false
+  pub claimed : ClaimsAfterPut changes old.claimed new.claimed
 
--- The present content stays, and so do those that a crash may bring back.
-pub record StaysWindow (old new : ContentWindow) : Type 0 where
+-- The present content stays, and so do those that a crash may bring back; some of the changes may have been made and given up.
+pub record StaysWindow (changes : List Change) (old new : StoreWindow) : Type 0 where
   pub present : (b : Block) → new.present b ≡ old.present b
   pub others : (k : ℕ) → k ≤ old.waiting → (b : Block) → new.before k b ≡ old.before k b
   pub waiting : new.waiting ≡ old.waiting
   pub is_open : new.is_open ≡ false
+  pub claimed : ClaimsAfterLeft changes old.claimed new.claimed
 
 -- a transaction with the changes was committed, or given up
-abbrev pub AfterCommitted : {E : Type 0} → Result (Unit {0}) E → List Change → ContentWindow → ContentWindow → Type 0
+abbrev pub AfterCommitted : {E : Type 0} → Result (Unit {0}) E → List Change → StoreWindow → StoreWindow → Type 0
 AfterCommitted (Ok u) changes = AfterPut changes
-AfterCommitted (Err e) changes = StaysWindow
+AfterCommitted (Err e) changes = StaysWindow changes
 
 -- no changes begin no transaction
-abbrev pub AfterChanges : List Change → ContentWindow → ContentWindow → Type 0
-AfterChanges [] = StaysWindow
+abbrev pub AfterChanges : List Change → StoreWindow → StoreWindow → Type 0
+AfterChanges [] = StaysWindow []
 AfterChanges (x ∷ xs) = AfterPut (x ∷ xs)
 
 -- the window after changes were put, or weren't
-abbrev pub AfterPutting : {E : Type 0} → Result (Unit {0}) E → List Change → ContentWindow → ContentWindow → Type 0
+abbrev pub AfterPutting : {E : Type 0} → Result (Unit {0}) E → List Change → StoreWindow → StoreWindow → Type 0
 AfterPutting (Ok u) changes = AfterChanges changes
-AfterPutting (Err e) changes = StaysWindow
+AfterPutting (Err e) changes = StaysWindow changes

@@ -19,7 +19,7 @@ change_all-requires g c = record {
 
 pub returns-in-Err-clause-windows : goal.returns-in-Err-clause-windows
 returns-in-Err-clause-windows g c =
-    stays_by g.D.Device.sector_count g.D.Device.moment_of g.D.Device.changes_of c.args.store.now c.begin.new.self c.change_all.new.store c.requires.closed c.begin.ensures.device c.begin.ensures.step c.in-Err.ensures.windows
+    stays_by g.D.Device.sector_count g.D.Device.moment_of g.D.Device.changes_of c.args.changes.now c.args.store.now c.begin.new.self c.change_all.new.store c.requires.closed c.begin.ensures.device c.begin.ensures.step c.in-Err.ensures.windows
 
 pub commit-requires-clause-opened : goal.commit-requires-clause-opened
 commit-requires-clause-opened g c =
