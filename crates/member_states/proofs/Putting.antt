@@ -3,7 +3,7 @@ use Rattle.std.proofs.Common.{◌≡◌, not, ℕ, zero, suc, ◌+◌, ◌*◌, 
 use mathlib.Core.Path.{fun_ext}
 use Rattle.std.specs.Prelude.{◌⊎◌, nat_lt}
 use Rattle.std.specs.List.{AllByRecursion}
-use Rattle.std.proofs.lemmas.Bool.{and_parts, false_from_ne_true, or_from, ltb-true}
+use Rattle.std.proofs.lemmas.Bool.{cases_Bool, and_parts, false_from_ne_true, or_from, ltb-true}
 use Rattle.disk_model.specs.declared.block.Block.{Block}
 use Rattle.disk_model.specs.declared.block.Change.{Change}
 use Rattle.disk_model.specs.declared.block.BlockKind.{BlockKind}
@@ -28,7 +28,7 @@ use Rattle.volume_core.specs.Claims.{NoRival}
 use Rattle.volume_core.specs.Changes.{MayLog, AreBeside, AreApart}
 use Rattle.volume_core.specs.Windows.{changed_by, AfterPut, StaysWindow, AfterChanges, AfterPutting}
 use Rattle.volume_core.proofs.Lists.{each_weaker, unchanged_by, changed_found}
-use Rattle.member_states.specs.Members.{IsClaimedState, MembersAre}
+use Rattle.member_states.specs.Members.{base_of, IsSafe, IsClaimedState, MembersAre}
 use Rattle.member_states.specs.Puts.{MayPut}
 use Rattle.member_states.proofs.Staying.{stays}
 
@@ -97,9 +97,9 @@ one_volume c g clusters v x one two = one_value (volume_of c g clusters) v x one
 
 -- ---- the windows behind the changes
 
-module _ (f : StoreFacts) (g : Geometry) (clusters : ℕ) (xs : List Change) (w u : StoreWindow) (may : MayPut f g clusters xs w) (are : MembersAre (own_of f) g clusters w) where
+module _ (f : StoreFacts) (lies : Content) (g : Geometry) (clusters : ℕ) (xs : List Change) (w u : StoreWindow) (may : MayPut f g clusters xs w) (are : MembersAre (base_of f lies g clusters) w) where
   abbrev Is : (Block → Bool) → Content → Volume → Type 0
-  Is claims c v = IsClaimedState (own_of f) g clusters claims c v
+  Is claims c v = IsClaimedState (base_of f lies g clusters) claims c v
 
   ends : AllByRecursion (λ x. EndsBefore x.block) xs
   ends = each_weaker (MayLog f) (λ (x : Change). EndsBefore x.block) (λ x is. (let inside = is.inside in let near = may.near in omega (arith, inside, near))) xs may.each
@@ -125,7 +125,7 @@ module _ (f : StoreFacts) (g : Geometry) (clusters : ℕ) (xs : List Change) (w 
   with_changes claims more = record {
     stands = may.leads;
     claimed = λ b needed. claimed b (may.draft.covers b needed);
-    known = λ b needed. known b (may.draft.covers b needed);
+    safe = λ b needed. safe b (may.draft.covers b needed);
     past = more void_block past_free (inl newest.past);
     void = unchanged_by xs w.present void_block (unchanged_past xs ends) ∙ newest.void;
   }
@@ -134,22 +134,32 @@ module _ (f : StoreFacts) (g : Geometry) (clusters : ℕ) (xs : List Change) (w 
       claimed b (inl needed) = more b (free b needed) (inl (newest.claimed b needed))
       claimed b (inr some) = more b (changed_alone xs b may.apart some) (inr some)
 
-      known : (b : Block) → IsNeeded w.present may.volume b ⊎ (is_changed xs b ≡ true) → is_known (own_of f) b ≡ true
-      known b (inl needed) = newest.known b needed
-      known b (inr some) = changed_found (λ c. is_known (own_of f) c ≡ true) xs b some (each_weaker (MayLog f) (λ (x : Change). is_known (own_of f) x.block ≡ true) (λ x is. is.known) xs may.each)
+      changed : (b : Block) → is_changed xs b ≡ true → is_known (own_of f) b ≡ true
+      changed b some = changed_found (λ c. is_known (own_of f) c ≡ true) xs b some (each_weaker (MayLog f) (λ (x : Change). is_known (own_of f) x.block ≡ true) (λ x is. is.known) xs may.each)
+
+      unchanged : (b : Block) → is_changed xs b ≡ false → IsSafe (base_of f lies g clusters) w.present b → IsSafe (base_of f lies g clusters) (changed_by xs w.present) b
+      unchanged b none (inl known) = inl known
+      unchanged b none (inr still) = inr (still.0, unchanged_by xs w.present b none ∙ still.1)
+
+      safe : (b : Block) → IsNeeded w.present may.volume b ⊎ (is_changed xs b ≡ true) → IsSafe (base_of f lies g clusters) (changed_by xs w.present) b
+      safe b (inr some) = inl (changed b some)
+      safe b (inl needed) = elim (cases_Bool (is_changed xs b)) [
+        | inl some ↦ inl (changed b some)
+        | inr none ↦ unchanged b none (newest.safe b needed)
+      ]
 
   -- one of the contents of before stays
   older : (k j : ℕ) (v : Volume) → Is (w.claimed.claims k) (w.before k) v → ((b : Block) → u.before j b ≡ w.before k b) → ((b : Block) → w.claimed.claims k b ≡ true → u.claimed.claims j b ≡ true) → Is (u.claimed.claims j) (u.before j) v
   older k j v is same more =
-      stays (own_of f) g clusters (w.claimed.claims k) (u.claimed.claims j) (w.before k) (u.before j) v is (λ b needed. same b) (same void_block) (λ b needed. more b (is.claimed b needed)) (more void_block is.past)
+      stays (base_of f lies g clusters) (w.claimed.claims k) (u.claimed.claims j) (w.before k) (u.before j) v is (λ b needed. same b) (same void_block) (λ b needed. more b (is.claimed b needed)) (more void_block is.past)
 
   -- and the newest one does, where it is claimed but for rivals of the changes
   newest_stays : (j : ℕ) → ((b : Block) → u.before j b ≡ w.before 0 b) → ((b : Block) → NoRival xs b → w.claimed.claims 0 b ≡ true → u.claimed.claims j b ≡ true) → Is (u.claimed.claims j) (u.before j) may.volume
   newest_stays j same more =
-      stays (own_of f) g clusters (w.claimed.claims 0) (u.claimed.claims j) w.present (u.before j) may.volume newest (λ b needed. same b ∙ may.newest b) (same void_block ∙ may.newest void_block)
+      stays (base_of f lies g clusters) (w.claimed.claims 0) (u.claimed.claims j) w.present (u.before j) may.volume newest (λ b needed. same b ∙ may.newest b) (same void_block ∙ may.newest void_block)
       (λ b needed. more b (free b needed) (newest.claimed b needed)) (more void_block past_free newest.past)
 
-  pub put_stays : AfterPut xs w u → MembersAre (own_of f) g clusters u
+  pub put_stays : AfterPut xs w u → MembersAre (base_of f lies g clusters) u
   put_stays after = record {
     volume = may.next;
     present = subst (λ (c : Content). Is u.claimed.will c may.next) (sym (fun_ext after.present)) (with_changes u.claimed.will after.claimed.will);
@@ -164,11 +174,11 @@ module _ (f : StoreFacts) (g : Geometry) (clusters : ℕ) (xs : List Change) (w 
       each (suc zero) fits = (may.volume, newest_stays 1 (after.others 0 (low 0 fits)) after.claimed.before)
       each (suc (suc k)) fits = (let old = are.members (suc k) (low (suc k) fits) in (old.0, older (suc k) (suc (suc k)) old.0 old.1 (after.others (suc k) (low (suc k) fits)) (after.claimed.older k)))
 
-  pub left_stays : StaysWindow xs w u → MembersAre (own_of f) g clusters u
+  pub left_stays : StaysWindow xs w u → MembersAre (base_of f lies g clusters) u
   left_stays after = record {
     volume = may.volume;
     present =
-        stays (own_of f) g clusters w.claimed.will u.claimed.will w.present u.present may.volume shown (λ b needed. after.present b) (after.present void_block)
+        stays (base_of f lies g clusters) w.claimed.will u.claimed.will w.present u.present may.volume shown (λ b needed. after.present b) (after.present void_block)
         (λ b needed. after.claimed.will b (free b needed) (newest.claimed b needed) (shown.claimed b needed)) (after.claimed.will void_block past_free newest.past shown.past);
     members = each;
   }
@@ -180,13 +190,13 @@ module _ (f : StoreFacts) (g : Geometry) (clusters : ℕ) (xs : List Change) (w 
       each zero fits = (may.volume, newest_stays 0 (after.others 0 (low 0 fits)) after.claimed.newest)
       each (suc k) fits = (let old = are.members (suc k) (low (suc k) fits) in (old.0, older (suc k) (suc k) old.0 old.1 (after.others (suc k) (low (suc k) fits)) (after.claimed.older k)))
 
-pub put_keeps : (f : StoreFacts) (g : Geometry) (clusters : ℕ) (xs : List Change) (w u : StoreWindow) → MayPut f g clusters xs w → AfterPut xs w u → MembersAre (own_of f) g clusters w → MembersAre (own_of f) g clusters u
-put_keeps f g clusters xs w u may after are = put_stays f g clusters xs w u may are after
+pub put_keeps : (f : StoreFacts) (lies : Content) (g : Geometry) (clusters : ℕ) (xs : List Change) (w u : StoreWindow) → MayPut f g clusters xs w → AfterPut xs w u → MembersAre (base_of f lies g clusters) w → MembersAre (base_of f lies g clusters) u
+put_keeps f lies g clusters xs w u may after are = put_stays f lies g clusters xs w u may are after
 
-pub left_keeps : (f : StoreFacts) (g : Geometry) (clusters : ℕ) (xs : List Change) (w u : StoreWindow) → MayPut f g clusters xs w → StaysWindow xs w u → MembersAre (own_of f) g clusters w → MembersAre (own_of f) g clusters u
-left_keeps f g clusters xs w u may after are = left_stays f g clusters xs w u may are after
+pub left_keeps : (f : StoreFacts) (lies : Content) (g : Geometry) (clusters : ℕ) (xs : List Change) (w u : StoreWindow) → MayPut f g clusters xs w → StaysWindow xs w u → MembersAre (base_of f lies g clusters) w → MembersAre (base_of f lies g clusters) u
+left_keeps f lies g clusters xs w u may after are = left_stays f lies g clusters xs w u may are after
 
-pub putting_keeps : (result : Result (Unit {0}) PutFault) (f : StoreFacts) (g : Geometry) (clusters : ℕ) (xs : List Change) (w u : StoreWindow) → MayPut f g clusters xs w → AfterPutting result xs w u → MembersAre (own_of f) g clusters w → MembersAre (own_of f) g clusters u
-putting_keeps (Ok tt) f g clusters [] w u may after are = left_keeps f g clusters [] w u may after are
-putting_keeps (Ok tt) f g clusters (x ∷ xs) w u may after are = put_keeps f g clusters (x ∷ xs) w u may after are
-putting_keeps (Err e) f g clusters xs w u may after are = left_keeps f g clusters xs w u may after are
+pub putting_keeps : (result : Result (Unit {0}) PutFault) (f : StoreFacts) (lies : Content) (g : Geometry) (clusters : ℕ) (xs : List Change) (w u : StoreWindow) → MayPut f g clusters xs w → AfterPutting result xs w u → MembersAre (base_of f lies g clusters) w → MembersAre (base_of f lies g clusters) u
+putting_keeps (Ok tt) f lies g clusters [] w u may after are = left_keeps f lies g clusters [] w u may after are
+putting_keeps (Ok tt) f lies g clusters (x ∷ xs) w u may after are = put_keeps f lies g clusters (x ∷ xs) w u may after are
+putting_keeps (Err e) f lies g clusters xs w u may after are = left_keeps f lies g clusters xs w u may after are

@@ -1,10 +1,10 @@
 -- What recovery makes of an image is a state.
-use Rattle.std.proofs.Common.{◌≡◌, ℕ, ◌+◌, ◌*◌, ◌/◌, ◌^◌, ◌<◌, ◌≤◌, Bool, true, false, ◌||◌, List, [], ◌∷◌, ◌++◌, length, Option, Some, None, refl, sym, ap, subst, ◌∙◌, inl, inr, arith}
+use Rattle.std.proofs.Common.{not, ◌≡◌, ℕ, ◌+◌, ◌*◌, ◌/◌, ◌^◌, ◌<◌, ◌≤◌, Bool, true, false, ◌||◌, List, [], ◌∷◌, ◌++◌, length, Option, Some, None, refl, sym, ap, subst, ◌∙◌, inl, inr, arith}
 use Rattle.std.specs.Prelude.{◌⊎◌, IfSome, nat_le, nat_lt, find, if◌then◌else◌}
 use Rattle.std.specs.List.{AllByRecursion, list_any}
 use Rattle.std.specs.Option.{option_map}
 use Rattle.record_model.proofs.UnitBytes.{length-zeros}
-use Rattle.std.proofs.lemmas.Bool.{cases_Bool, false_from_ne_true, or_from, le-leb}
+use Rattle.std.proofs.lemmas.Bool.{cases_Bool, and_parts, false_from_ne_true, or_from, le-leb}
 use Rattle.disk_model.specs.declared.block.Block.{Block}
 use Rattle.disk_model.specs.declared.block.Body.{Body}
 use Rattle.disk_model.specs.declared.block.BlockKind.TheVariants.{Index}
@@ -12,8 +12,8 @@ use Rattle.disk_model.specs.Bytes.{zeros}
 use Rattle.disk_model.specs.Sectors.{sector_of, sectors, same_block, same_kind}
 use Rattle.disk_model.specs.Content.{Content, body_of, content_of}
 use Rattle.disk_model.specs.Laws.{IsElsewhere}
-use Rattle.disk_model.specs.Writes.{Write}
-use Rattle.disk_model.proofs.Frames.{same_block-is, overlay_elsewhere}
+use Rattle.disk_model.specs.Writes.{Write, cover_all}
+use Rattle.disk_model.proofs.Frames.{same_block-is, bytes_elsewhere, overlay_elsewhere}
 use Rattle.disk_model.proofs.Sectors.{length-body_of}
 use Rattle.sector_device.specs.Disks.{Disk, MayLeave}
 use Rattle.sector_device.specs.Moments.{Changes, MayLeaveNow, LeftSince}
@@ -31,12 +31,13 @@ use Rattle.plan_owners.proofs.Agreed.{stands_now, tree_now}
 use Rattle.state_blocks.specs.Needing.{IsNeeded, AgreeOnNeeded}
 use Rattle.state_blocks.proofs.Needing.{agree_owned}
 use Rattle.store_model.specs.Logs.{has_update}
+use Rattle.store_model.specs.Volumes.{is_known}
 use Rattle.store_model.proofs.Told.{true≢false}
 use Rattle.store_claims.specs.Windows.{StoreWindow}
 use Rattle.txn_model.specs.Values.{StoreFacts, own_of}
 use Rattle.txn_laws.specs.Windows.{HasWindow, RecoversWithin, During}
 use Rattle.txn_laws.proofs.Telling.{at_return}
-use Rattle.member_states.specs.Members.{void_body, MemberIs, MembersAre}
+use Rattle.member_states.specs.Members.{VolumeBase, base_of, is_found, BearsFound, IsSafe, void_body, MemberIs, MembersAre}
 use Rattle.member_states.specs.Crashes.{RecoversToState}
 
 -- ---- the block past the end of every disk
@@ -98,19 +99,33 @@ redos_elsewhere ended (x ∷ log) b e =
     all_append b (redo_of (ended x.tx) x.act) (redos ended log) (redo_elsewhere b (ended x.tx) x.act parts.0) (redos_elsewhere ended log b parts.1)
 
 -- recovery leaves it
-left : (c : Content) (log : List Entry) (b : Block) → 0 < length (c b).bytes → has_update log b ≡ false → recovered c log b ≡ c b
-left c log b some none = elim (cases_Bool (is_shadowed log b)) [
+left_in : (c : Content) (log : List Entry) (b : Block) → 0 < length (c b).bytes → has_update log b ≡ false → recovered c log b ≡ c b
+left_in c log b some none = elim (cases_Bool (is_shadowed log b)) [
   | inl shadowed ↦ stays c log b shadowed
   | inr seen ↦ changes c log b seen ∙ overlay_elsewhere c (recovery_of log) b some (all_append b (undos_back log) (redos (is_ended log) log) (undos_elsewhere log b none) (redos_elsewhere (is_ended log) log b none))
 ]
 
+-- the second body has the first one's bytes, and is torn at most where that is
+abbrev Agrees : Body → Body → Type 0
+Agrees x y = (y.bytes ≡ x.bytes) × (y.torn ≡ true → x.torn ≡ true)
+
+-- so it leaves a body of any size
+left_body : (c : Content) (log : List Entry) (b : Block) → has_update log b ≡ false → Agrees (c b) (recovered c log b)
+left_body c log b none = elim (cases_Bool (is_shadowed log b)) [
+  | inl shadowed ↦ subst (Agrees (c b)) (sym (stays c log b shadowed)) (refl, λ torn. torn)
+  | inr seen ↦ subst (Agrees (c b)) (sym (changes c log b seen)) (bytes_elsewhere (recovery_of log) b (c b).bytes all, λ torn. (and_parts (c b).torn (not (cover_all (recovery_of log) b (length (c b).bytes))) torn).0)
+]
+  where
+    all : AllByRecursion (IsElsewhere b) (recovery_of log)
+    all = all_append b (undos_back log) (redos (is_ended log) log) (undos_elsewhere log b none) (redos_elsewhere (is_ended log) log b none)
+
 -- ---- the recovered content
 
-module _ (place : LogPlace) (own : ℕ → Bool) (g : Geometry) (clusters : ℕ) (w : StoreWindow) (image : List (List ℕ)) (inside : place.clusters ≤ 2 ^ 59) (few : length image ≤ 2 ^ 62) (are : MembersAre own g clusters w) (r : RecoversWithin place own w (sector_of image)) where
+module _ (place : LogPlace) (base : VolumeBase) (w : StoreWindow) (image : List (List ℕ)) (inside : place.clusters ≤ 2 ^ 59) (few : length image ≤ 2 ^ 62) (bears : BearsFound base (sector_of image)) (are : MembersAre base w) (r : RecoversWithin place base.own w (sector_of image)) where
   volume : Volume
   volume = (are.members r.back r.within).0
 
-  member : MemberIs own g clusters w r.back volume
+  member : MemberIs base w r.back volume
   unfolding volume
   member = (are.members r.back r.within).1
 
@@ -118,15 +133,26 @@ module _ (place : LogPlace) (own : ℕ → Bool) (g : Geometry) (clusters : ℕ)
   void_left =
       let zero = void_is image few in
       let some : 0 < length (content_of (sector_of image) void_block).bytes = subst (λ (y : Body). 0 < length y.bytes) (sym zero) some_void in
-      left (content_of (sector_of image)) r.list void_block some (none_updates place.clusters r.list void_block (omega (arith, inside)) r.placed) ∙ zero ∙ sym member.void
+      left_in (content_of (sector_of image)) r.list void_block some (none_updates place.clusters r.list void_block (omega (arith, inside)) r.placed) ∙ zero ∙ sym member.void
 
   agrees : AgreeOnNeeded (w.before r.back) (recovered (content_of (sector_of image)) r.list) volume
-  agrees = record {
-    bodies = λ b needed. (let is = r.recovers b (member.known b needed) (r.clear b (member.claimed b needed)) in (is.bytes, is.torn));
-    void = void_left;
-  }
+  unfolding volume
+  agrees = record { bodies = λ b needed. by b needed (is_known base.own b) refl (member.safe b needed); void = void_left }
+    where
+      known_body : (b : Block) → IsNeeded (w.before r.back) volume b → is_known base.own b ≡ true → Agrees (w.before r.back b) (recovered (content_of (sector_of image)) r.list b)
+      known_body b needed known = (let is = r.recovers b known (r.clear b (member.claimed b needed)) in (is.bytes, is.torn))
 
-  pub to_state : RecoversToState place own g clusters w (sector_of image)
+      found_body : (b : Block) → is_known base.own b ≡ false → is_found base b ≡ true → w.before r.back b ≡ base.lies b → Agrees (w.before r.back b) (recovered (content_of (sector_of image)) r.list b)
+      found_body b unknown found lies =
+          let none : has_update r.list b ≡ false = false_from_ne_true (has_update r.list b) (λ some. true≢false (sym (r.updates b some) ∙ unknown)) in
+          subst (λ (x : Body). Agrees x (recovered (content_of (sector_of image)) r.list b)) (bears b found ∙ sym lies) (left_body (content_of (sector_of image)) r.list b none)
+
+      by : (b : Block) → IsNeeded (w.before r.back) volume b → (t : Bool) → is_known base.own b ≡ t → IsSafe base (w.before r.back) b → Agrees (w.before r.back b) (recovered (content_of (sector_of image)) r.list b)
+      by b needed true known safe = known_body b needed known
+      by b needed false unknown (inl known) = known_body b needed known
+      by b needed false unknown (inr lies) = found_body b unknown lies.0 lies.1
+
+  pub to_state : RecoversToState place base w (sector_of image)
   to_state =
       let owned = agree_owned (w.before r.back) (recovered (content_of (sector_of image)) r.list) volume agrees in
       record {
@@ -139,8 +165,8 @@ module _ (place : LogPlace) (own : ℕ → Bool) (g : Geometry) (clusters : ℕ)
         volume = volume;
         member = member;
         agrees = agrees;
-        stands = stands_now (w.before r.back) (recovered (content_of (sector_of image)) r.list) g clusters volume member.stands owned;
-        tree = tree_now (w.before r.back) (recovered (content_of (sector_of image)) r.list) g clusters volume member.stands owned;
+        stands = stands_now (w.before r.back) (recovered (content_of (sector_of image)) r.list) base.geometry base.clusters volume member.stands owned;
+        tree = tree_now (w.before r.back) (recovered (content_of (sector_of image)) r.list) base.geometry base.clusters volume member.stands owned;
       }
 
 -- ---- between two calls, and inside one
@@ -152,19 +178,19 @@ counted count changes f w image has may = by changes.disk has.0 has.1 may
     by (Some d) disk is may = may.counted
     by None disk is may = absurd cc
 
-pub now_to_state : (count : ℕ) (changes : Changes) (f : StoreFacts) (g : Geometry) (clusters : ℕ) (w : StoreWindow) (image : List (List ℕ)) → f.place.clusters ≤ 2 ^ 59 → count ≤ 2 ^ 62 → MembersAre (own_of f) g clusters w
-    → HasWindow changes f w → MayLeaveNow count changes image → RecoversToState f.place (own_of f) g clusters w (sector_of image)
-now_to_state count changes f g clusters w image inside few are has may =
+pub now_to_state : (count : ℕ) (changes : Changes) (f : StoreFacts) (lies : Content) (g : Geometry) (clusters : ℕ) (w : StoreWindow) (image : List (List ℕ)) → f.place.clusters ≤ 2 ^ 59 → count ≤ 2 ^ 62 → BearsFound (base_of f lies g clusters) (sector_of image) → MembersAre (base_of f lies g clusters) w
+    → HasWindow changes f w → MayLeaveNow count changes image → RecoversToState f.place (base_of f lies g clusters) w (sector_of image)
+now_to_state count changes f lies g clusters w image inside few bears are has may =
     let length_is = counted count changes f w image has may in
-    to_state f.place (own_of f) g clusters w image inside (omega (arith, few, length_is)) are (at_return count changes f w image has may)
+    to_state f.place (base_of f lies g clusters) w image inside (omega (arith, few, length_is)) bears are (at_return count changes f w image has may)
 
-pub during_to_state : (count moment : ℕ) (old now : Changes) (f : StoreFacts) (g : Geometry) (clusters : ℕ) (w v : StoreWindow) (t : ℕ) (image : List (List ℕ)) → f.place.clusters ≤ 2 ^ 59 → length image ≤ 2 ^ 62 → MembersAre (own_of f) g clusters w
-    → MembersAre (own_of f) g clusters v → During count moment old now f w v → t ≤ moment → LeftSince count now t image
-    → LeftSince count old t image ⊎ (RecoversToState f.place (own_of f) g clusters w (sector_of image) ⊎ RecoversToState f.place (own_of f) g clusters v (sector_of image))
-during_to_state count moment old now f g clusters w v t image inside few are will during before left = by (during t image before left)
+pub during_to_state : (count moment : ℕ) (old now : Changes) (f : StoreFacts) (lies : Content) (g : Geometry) (clusters : ℕ) (w v : StoreWindow) (t : ℕ) (image : List (List ℕ)) → f.place.clusters ≤ 2 ^ 59 → length image ≤ 2 ^ 62 → BearsFound (base_of f lies g clusters) (sector_of image) → MembersAre (base_of f lies g clusters) w
+    → MembersAre (base_of f lies g clusters) v → During count moment old now f w v → t ≤ moment → LeftSince count now t image
+    → LeftSince count old t image ⊎ (RecoversToState f.place (base_of f lies g clusters) w (sector_of image) ⊎ RecoversToState f.place (base_of f lies g clusters) v (sector_of image))
+during_to_state count moment old now f lies g clusters w v t image inside few bears are will during before left = by (during t image before left)
   where
     by : LeftSince count old t image ⊎ (RecoversWithin f.place (own_of f) w (sector_of image) ⊎ RecoversWithin f.place (own_of f) v (sector_of image))
-        → LeftSince count old t image ⊎ (RecoversToState f.place (own_of f) g clusters w (sector_of image) ⊎ RecoversToState f.place (own_of f) g clusters v (sector_of image))
+        → LeftSince count old t image ⊎ (RecoversToState f.place (base_of f lies g clusters) w (sector_of image) ⊎ RecoversToState f.place (base_of f lies g clusters) v (sector_of image))
     by (inl was) = inl was
-    by (inr (inl r)) = inr (inl (to_state f.place (own_of f) g clusters w image inside few are r))
-    by (inr (inr r)) = inr (inr (to_state f.place (own_of f) g clusters v image inside few will r))
+    by (inr (inl r)) = inr (inl (to_state f.place (base_of f lies g clusters) w image inside few bears are r))
+    by (inr (inr r)) = inr (inr (to_state f.place (base_of f lies g clusters) v image inside few bears will r))

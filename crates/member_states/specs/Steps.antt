@@ -8,10 +8,10 @@ use Rattle.store_claims.specs.Windows.{StoreWindow}
 use Rattle.txn_model.specs.Values.{StoreFacts}
 use Rattle.txn_laws.specs.Windows.{AfterWrite, MovesTo}
 use Rattle.txn_core.specs.Steps.{AfterTurn}
-use Rattle.member_states.specs.Members.{MembersAre}
+use Rattle.member_states.specs.Members.{VolumeBase, MembersAre}
 
 -- A step that a store takes of itself leaves states in its window, whatever it answers: the bodies that it drops aren't claimed.
 pub record StepsKeepStates : Type 0 where
-  pub write : (own : ℕ → Bool) (g : Geometry) (clusters : ℕ) (w u : StoreWindow) → AfterWrite w u → MembersAre own g clusters w → MembersAre own g clusters u
-  pub moves : (own : ℕ → Bool) (g : Geometry) (clusters : ℕ) (lost : Block → Bool) (w u : StoreWindow) → MovesTo lost w u → MembersAre own g clusters w → MembersAre own g clusters u
-  pub turn : (own : ℕ → Bool) (g : Geometry) (clusters : ℕ) (step : StoreStep) (result : Result (Unit {0}) Failed) (f : StoreFacts) (w u : StoreWindow) → AfterTurn step result f w u → MembersAre own g clusters w → MembersAre own g clusters u
+  pub write : (base : VolumeBase) (w u : StoreWindow) → AfterWrite w u → MembersAre base w → MembersAre base u
+  pub moves : (base : VolumeBase) (lost : Block → Bool) (w u : StoreWindow) → MovesTo lost w u → MembersAre base w → MembersAre base u
+  pub turn : (base : VolumeBase) (step : StoreStep) (result : Result (Unit {0}) Failed) (f : StoreFacts) (w u : StoreWindow) → AfterTurn step result f w u → MembersAre base w → MembersAre base u
