@@ -1,0 +1,4 @@
+pub mod Members
+pub mod Crashes
+pub mod Steps
+pub mod Puts

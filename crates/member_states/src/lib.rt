@@ -1,0 +1,9 @@
+//! What a crash leaves of a volume: each image of the disk of its store recovers to a state, one of those
+//! in the store's window.
+//!
+//! The contract: the laws of these definitions, as functions with no body of their own.
+#![tactic(auto)]
+
+mod laws;
+
+pub use laws::{crashes_leave_states, puts_keep_states, steps_keep_states};
