@@ -1,5 +1,5 @@
 -- States in a window behind a list of changes.
-use Rattle.std.proofs.Common.{◌≡◌, not, ℕ, zero, suc, ◌+◌, ◌*◌, ◌^◌, ◌<◌, ◌≤◌, Bool, true, false, ◌&&◌, ◌||◌, subst, List, [], ◌∷◌, Result, Ok, Err, refl, sym, ap, ◌∙◌, inl, inr, arith}
+use Rattle.std.proofs.Common.{◌≡◌, not, ℕ, zero, suc, ◌+◌, ◌^◌, ◌≤◌, Bool, true, false, ◌&&◌, ◌||◌, subst, List, [], ◌∷◌, Result, Ok, Err, refl, sym, ap, ◌∙◌, inl, inr, arith}
 use mathlib.Core.Path.{fun_ext}
 use Rattle.std.specs.Prelude.{◌⊎◌, nat_lt}
 use Rattle.std.specs.List.{AllByRecursion}
@@ -26,7 +26,7 @@ use Rattle.txn_model.specs.Values.{StoreFacts, own_of}
 use Rattle.volume_core.specs.declared.fault.PutFault.{PutFault}
 use Rattle.volume_core.specs.Claims.{NoRival}
 use Rattle.volume_core.specs.Changes.{MayLog, AreBeside, AreApart}
-use Rattle.volume_core.specs.Windows.{changed_by, AfterPut, StaysWindow, AfterChanges, AfterPutting}
+use Rattle.volume_core.specs.Windows.{changed_by, AfterPut, StaysWindow, AfterPutting}
 use Rattle.volume_core.proofs.Lists.{each_weaker, unchanged_by, changed_found}
 use Rattle.member_states.specs.Members.{base_of, IsSafe, IsClaimedState, MembersAre}
 use Rattle.member_states.specs.Puts.{MayPut}
