@@ -1,5 +1,5 @@
 -- States in a window behind a list of changes.
-use Rattle.std.proofs.Common.{◌≡◌, not, ℕ, zero, suc, ◌+◌, ◌*◌, ◌^◌, ◌<◌, ◌≤◌, Bool, true, false, ◌&&◌, ◌||◌, subst, List, [], ◌∷◌, Result, Ok, Err, refl, sym, ap, ◌∙◌, inl, inr, arith}
+use Rattle.std.proofs.Common.{◌≡◌, not, ℕ, zero, suc, ◌+◌, ◌^◌, ◌≤◌, Bool, true, false, ◌&&◌, ◌||◌, subst, List, [], ◌∷◌, Result, Ok, Err, refl, sym, ap, ◌∙◌, inl, inr, arith}
 use mathlib.Core.Path.{fun_ext}
 use Rattle.std.specs.Prelude.{◌⊎◌, nat_lt}
 use Rattle.std.specs.List.{AllByRecursion}
@@ -26,7 +26,7 @@ use Rattle.txn_model.specs.Values.{StoreFacts, own_of}
 use Rattle.volume_core.specs.declared.fault.PutFault.{PutFault}
 use Rattle.volume_core.specs.Claims.{NoRival}
 use Rattle.volume_core.specs.Changes.{MayLog, AreBeside, AreApart}
-use Rattle.volume_core.specs.Windows.{changed_by, AfterPut, StaysWindow, AfterChanges, AfterPutting}
+use Rattle.volume_core.specs.Windows.{changed_by, AfterPut, StaysWindow, AfterPutting}
 use Rattle.volume_core.proofs.Lists.{each_weaker, unchanged_by, changed_found}
 use Rattle.member_states.specs.Members.{base_of, IsSafe, IsClaimedState, MembersAre}
 use Rattle.member_states.specs.Puts.{MayPut}
@@ -35,7 +35,7 @@ use Rattle.member_states.proofs.Staying.{stays}
 -- ---- the block past the end of every disk
 
 -- the block ends before it
-abbrev EndsBefore : Block → Type 0
+abbrev pub EndsBefore : Block → Type 0
 EndsBefore b = b.first + sectors b.kind ≤ 2 ^ 62
 
 last_false : (s t u : Bool) → u ≡ false → (s && (t && u)) ≡ false
@@ -54,7 +54,7 @@ not_past b ends = false_from_ne_true (same_block void_block b) (λ same.
 none_past : (xs : List Change) → AllByRecursion (λ x. EndsBefore x.block) xs → NoRival xs void_block
 none_past xs all = each_weaker (λ (x : Change). EndsBefore x.block) (λ (x : Change). are_rivals x.block void_block ≡ false) (λ x ends. no_rival_past x.block ends) xs all
 
-unchanged_past : (xs : List Change) → AllByRecursion (λ x. EndsBefore x.block) xs → is_changed xs void_block ≡ false
+pub unchanged_past : (xs : List Change) → AllByRecursion (λ x. EndsBefore x.block) xs → is_changed xs void_block ≡ false
 unchanged_past [] all = refl
 unchanged_past (x ∷ xs) all = or_from (same_block void_block x.block) (is_changed xs void_block) (not_past x.block all.0) (unchanged_past xs all.1)
 
@@ -92,7 +92,7 @@ changed_alone (x ∷ xs) b apart some = by (same_block b x.block) refl some (λ 
 one_value : (r : Result Volume MapRefusal) (v x : Volume) → r ≡ Ok v → r ≡ Ok x → v ≡ x
 one_value r v x one two = cc
 
-one_volume : (c : Content) (g : Geometry) (clusters : ℕ) (v x : Volume) → Stands c g clusters v → Stands c g clusters x → v ≡ x
+pub one_volume : (c : Content) (g : Geometry) (clusters : ℕ) (v x : Volume) → Stands c g clusters v → Stands c g clusters x → v ≡ x
 one_volume c g clusters v x one two = one_value (volume_of c g clusters) v x one.loaded two.loaded
 
 -- ---- the windows behind the changes

@@ -1,7 +1,7 @@
 -- What recovery makes of an image is a state.
 use Rattle.std.proofs.Common.{not, ◌≡◌, ℕ, ◌+◌, ◌*◌, ◌/◌, ◌^◌, ◌<◌, ◌≤◌, Bool, true, false, ◌||◌, List, [], ◌∷◌, ◌++◌, length, Option, Some, None, refl, sym, ap, subst, ◌∙◌, inl, inr, arith}
 use Rattle.std.specs.Prelude.{◌⊎◌, IfSome, nat_le, nat_lt, find, if◌then◌else◌}
-use Rattle.std.specs.List.{AllByRecursion, list_any}
+use Rattle.std.specs.List.{AllByRecursion}
 use Rattle.std.specs.Option.{option_map}
 use Rattle.record_model.proofs.UnitBytes.{length-zeros}
 use Rattle.std.proofs.lemmas.Bool.{cases_Bool, and_parts, false_from_ne_true, or_from, le-leb}
@@ -9,7 +9,7 @@ use Rattle.disk_model.specs.declared.block.Block.{Block}
 use Rattle.disk_model.specs.declared.block.Body.{Body}
 use Rattle.disk_model.specs.declared.block.BlockKind.TheVariants.{Index}
 use Rattle.disk_model.specs.Bytes.{zeros}
-use Rattle.disk_model.specs.Sectors.{sector_of, sectors, same_block, same_kind}
+use Rattle.disk_model.specs.Sectors.{sector_of, sectors, same_block}
 use Rattle.disk_model.specs.Content.{Content, body_of, content_of}
 use Rattle.disk_model.specs.Laws.{IsElsewhere}
 use Rattle.disk_model.specs.Writes.{Write, cover_all}

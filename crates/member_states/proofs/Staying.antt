@@ -1,14 +1,11 @@
 -- States that stay in a window.
-use Rattle.std.proofs.Common.{◌≡◌, ℕ, ◌+◌, ◌*◌, ◌≤◌, Bool, true, false, subst, Result, Ok, Err, refl, sym, ap, ◌∙◌, inl, inr, arith}
-use Rattle.std.specs.Prelude.{◌⊎◌}
+use Rattle.std.proofs.Common.{◌≡◌, Bool, true, subst, Result, Ok, Err, sym, ap, ◌∙◌, inl, inr, arith}
 use Rattle.host_base.specs.declared.outside.Failed.{Failed}
 use Rattle.disk_model.specs.declared.block.Block.{Block}
 use Rattle.disk_model.specs.declared.block.Body.{Body}
 use Rattle.disk_model.specs.Content.{Content}
-use Rattle.state_model.specs.declared.geometry.Geometry.{Geometry}
 use Rattle.volume_model.specs.Volumes.{Volume}
 use Rattle.volume_model.specs.Indexes.{void_block}
-use Rattle.plan_owners.specs.States.{Stands}
 use Rattle.plan_owners.proofs.Agreed.{stands_now}
 use Rattle.state_blocks.specs.Needing.{IsNeeded, AgreeOnNeeded}
 use Rattle.state_blocks.proofs.Needing.{agree_owned, needed_before}

@@ -1,8 +1,7 @@
 -- What the steps of a store leave of the states in its window.
-use Rattle.std.specs.Prelude.{ℕ, Bool, Result}
+use Rattle.std.specs.Prelude.{Bool, Result}
 use Rattle.host_base.specs.declared.outside.Failed.{Failed}
 use Rattle.disk_model.specs.declared.block.Block.{Block}
-use Rattle.state_model.specs.declared.geometry.Geometry.{Geometry}
 use Rattle.flush_policy.specs.declared.facts.StoreStep.{StoreStep}
 use Rattle.store_claims.specs.Windows.{StoreWindow}
 use Rattle.txn_model.specs.Values.{StoreFacts}

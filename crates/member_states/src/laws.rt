@@ -1,6 +1,8 @@
 //! The laws of these definitions.
 ghost use Rattle.member_states.specs.Crashes.{CrashesLeaveStates};
+ghost use Rattle.member_states.specs.Leads.{VolumesMayPut};
 ghost use Rattle.member_states.specs.Puts.{PutsKeepStates};
+ghost use Rattle.member_states.specs.Starts.{StartsHoldStates};
 ghost use Rattle.member_states.specs.Steps.{StepsKeepStates};
 
 use state_blocks::needed_is_all;
@@ -23,6 +25,21 @@ pub fn steps_keep_states()
 /// Law: so does a list of changes that leads from a state to a state, whether it was put or not.
 pub fn puts_keep_states()
     ensures { PutsKeepStates }
+{
+    needed_is_all();
+}
+
+/// Law: the window of a store at its start over a state holds that state alone.
+pub fn starts_hold_states()
+    ensures { StartsHoldStates }
+{
+    needed_is_all();
+}
+
+/// Law: changes that a volume takes, by what it reads of its store, lead from the present content of
+/// the store's window to a state.
+pub fn volumes_may_put()
+    ensures { VolumesMayPut }
 {
     needed_is_all();
 }

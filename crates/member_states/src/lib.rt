@@ -6,4 +6,6 @@
 
 mod laws;
 
-pub use laws::{crashes_leave_states, puts_keep_states, steps_keep_states};
+pub use laws::{
+    crashes_leave_states, puts_keep_states, starts_hold_states, steps_keep_states, volumes_may_put,
+};
