@@ -59,6 +59,13 @@ static ROOT: [u8; 0x88] = [
     0, 0, 0, 0, 0, 0, 0, 0, 0, 0x10, 0, 0, 0, 2, 0, 0, 0,
 ];
 
+// The name `.` of the root, which stands in the root itself.
+static ROOT_NAME: [u8; 0x44] = [
+    5, 0, 0, 0, 0, 0, 5, 0, 0, 0, 0, 0, 0, 0, 0, 0, 0, 0, 0, 0, 0, 0, 0, 0, 0, 0, 0, 0, 0, 0, 0, 0,
+    0, 0, 0, 0, 0, 0, 0, 0, 0, 0, 0, 0, 0, 0, 0, 0, 0, 0, 0, 0, 0, 0, 0, 0, 0, 0, 0, 0, 0, 0, 0, 0,
+    1, 3, 0x2E, 0,
+];
+
 // The file `a` with the data `abcd`.
 fn file(alloc: Global) -> Result<FileRec, AllocError> {
     let parts = [
@@ -72,8 +79,11 @@ fn file(alloc: Global) -> Result<FileRec, AllocError> {
 // The root directory and the file.
 fn files(alloc: Global) -> Result<Vec<Option<FileRec>>, AllocError> {
     let mut files = Vec::new(alloc);
-    let root = Part(INDEX_ROOT, 0, &NAMES_INDEX, Kept::Value(&ROOT));
-    put_file(&mut files, 5, record(alloc, (5, 5, 3), &[root])?)?;
+    let root = [
+        Part(FILE_NAME, 0, &[], Kept::Value(&ROOT_NAME)),
+        Part(INDEX_ROOT, 0, &NAMES_INDEX, Kept::Value(&ROOT)),
+    ];
+    put_file(&mut files, 5, record(alloc, (5, 5, 3), &root)?)?;
     put_file(&mut files, 24, file(alloc)?)?;
     Ok(files)
 }
