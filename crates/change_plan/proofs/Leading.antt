@@ -43,7 +43,7 @@ use Rattle.change_plan.specs.declared.plan.ChangePlan.{ChangePlan}
 use Rattle.change_plan.specs.declared.fault.PlanFault.{PlanFault}
 use Rattle.change_plan.specs.declared.fault.PlanFault.TheVariants.{Fault, Memory, Unknown}
 use Rattle.change_plan.specs.Faults.{plan_cause, of_lookup}
-use Rattle.change_plan.specs.States.{is_data_change, IsStateOf, HasFewClusters}
+use Rattle.change_plan.specs.States.{is_data_change, IsPlannable, HasFewClusters}
 use Rattle.change_plan.specs.Plans.{Plans, PlansFrom, IsKnown, KnowsFrom}
 use Rattle.change_plan.specs.Drafting.{IsAnswer, PlansFound, KnowsFound, PlansBy, KnowsBy}
 use Rattle.change_plan.specs.Laws.{FilesAreRead}
@@ -126,16 +126,16 @@ place_known (Some c) m s o directory name number result is = λ g clusters mappe
 
 -- ---- from the tree
 
-has_change : (c : Content) (g : Geometry) (clusters : ℕ) (v : Volume) (upper : List ℕ) (s : VolumeStreams) (o : Op) → is_data_change o ≡ true → IsStateOf c g clusters v upper s → HasChange c g clusters v o
+has_change : (c : Content) (g : Geometry) (clusters : ℕ) (v : Volume) (upper : List ℕ) (s : VolumeStreams) (o : Op) → is_data_change o ≡ true → IsPlannable c g clusters v upper s → HasChange c g clusters v o
 has_change c g clusters v upper s o changes state = record { stands = state.stands; eight = state.eight; journal = state.journal; changes = file_change o changes }
 
 Answered : List ℕ → Op → Result Found LookupFault → Tree → Type 0
 Answered upper o answer t = AnswersOrFails answer (λ found. ComesTo upper o t found)
 
-on_tree : (c : Content) (g : Geometry) (clusters : ℕ) (v : Volume) (upper : List ℕ) (s : VolumeStreams) (P : Tree → Type 0) → IsStateOf c g clusters v upper s → IfSome (known_tree upper v (Some c)) P → P (tree_of c v)
+on_tree : (c : Content) (g : Geometry) (clusters : ℕ) (v : Volume) (upper : List ℕ) (s : VolumeStreams) (P : Tree → Type 0) → IsPlannable c g clusters v upper s → IfSome (known_tree upper v (Some c)) P → P (tree_of c v)
 on_tree c g clusters v upper s P state holds = subst (λ (x : Option Tree). IfSome x P) (known_where (Some c) upper v state.stands.kept state.table) holds
 
-finds_there : (c : Content) (g : Geometry) (clusters : ℕ) (v : Volume) (upper : List ℕ) (s : VolumeStreams) (o : Op) (found : Found) → IsStateOf c g clusters v upper s → IfSome (known_tree upper v (Some c)) (λ t. ComesTo upper o t found) → Finds c v o found
+finds_there : (c : Content) (g : Geometry) (clusters : ℕ) (v : Volume) (upper : List ℕ) (s : VolumeStreams) (o : Op) (found : Found) → IsPlannable c g clusters v upper s → IfSome (known_tree upper v (Some c)) (λ t. ComesTo upper o t found) → Finds c v o found
 finds_there c g clusters v upper s o found state holds =
     subst (λ (u : List ℕ). ComesTo u o (tree_of c v) found) state.table (on_tree c g clusters v upper s (λ (t : Tree). ComesTo upper o t found) state holds)
 

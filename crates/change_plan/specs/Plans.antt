@@ -21,7 +21,7 @@ use Rattle.step_model.specs.Steps.{Answer, Done, answer_of, Step}
 use Rattle.change_plan.specs.declared.plan.ChangePlan.{ChangePlan}
 use Rattle.change_plan.specs.declared.fault.PlanFault.{PlanFault}
 use Rattle.change_plan.specs.declared.fault.PlanFault.TheVariants.{Fault, Memory, Unknown}
-use Rattle.change_plan.specs.States.{IsStateOf, HasFewClusters}
+use Rattle.change_plan.specs.States.{IsPlannable, HasFewClusters}
 
 -- ---- the changes
 
@@ -67,7 +67,7 @@ Plans (Err Unknown) c g clusters v op stamp = ⊤
 
 -- so it is from a content that is a state of the volume
 abbrev pub PlansFrom : List ℕ → Volume → VolumeStreams → Op → ℕ → Result ChangePlan PlanFault → Content → Type 0
-PlansFrom upper v s op stamp result c = (g : Geometry) (clusters : ℕ) → IsStateOf c g clusters v upper s → Plans result c g clusters v op stamp
+PlansFrom upper v s op stamp result c = (g : Geometry) (clusters : ℕ) → IsPlannable c g clusters v upper s → Plans result c g clusters v op stamp
 
 -- there is a plan, a failure or want of memory
 abbrev pub IsKnown : Result ChangePlan PlanFault → Type 0
@@ -78,4 +78,4 @@ IsKnown (Err Unknown) = ⊥
 
 -- so it is from a state whose files can be mapped
 abbrev pub KnowsFrom : List ℕ → Volume → VolumeStreams → Result ChangePlan PlanFault → Content → Type 0
-KnowsFrom upper v s result c = (g : Geometry) (clusters : ℕ) → IsStateOf c g clusters v upper s → HasFewClusters clusters → IsKnown result
+KnowsFrom upper v s result c = (g : Geometry) (clusters : ℕ) → IsPlannable c g clusters v upper s → HasFewClusters clusters → IsKnown result

@@ -20,7 +20,7 @@ is_data_change other = false
 
 -- The content is a state of this volume, without a change journal and of eight sectors a cluster; the table of upper-case units and the streams
 -- are the volume's.
-pub record IsStateOf (c : Content) (g : Geometry) (clusters : ℕ) (v : Volume) (upper : List ℕ) (s : VolumeStreams) : Type 0 where
+pub record IsPlannable (c : Content) (g : Geometry) (clusters : ℕ) (v : Volume) (upper : List ℕ) (s : VolumeStreams) : Type 0 where
   pub stands : Stands c g clusters v
   pub eight : g.per_cluster ≡ 8
   pub table : upper ≡ upper_of c v
