@@ -13,7 +13,7 @@ use Rattle.made_data.specs.Made.{made_record, has_data}
 use Rattle.file_puts.specs.declared.streams.VolumeStreams.{VolumeStreams}
 use Rattle.file_writes.specs.Writing.{MayWrite}
 use Rattle.file_changes.specs.Calls.{IsAsked}
-use Rattle.written_made.specs.Made.{record_with_data}
+use Rattle.made_data.specs.Made.{record_with_data}
 use Rattle.written_values.proofs.Owning.{is_owned}
 use Rattle.found_files.specs.Found.{IsFoundFile, FoundMayWrite}
 use Rattle.change_plan.specs.declared.fault.PlanFault.TheVariants.{Unknown}

@@ -5,7 +5,7 @@ use Rattle.file_tree.specs.declared.node.Node.{Node}
 use Rattle.tree_model.specs.declared.script.Op.{Op}
 use Rattle.file_puts.specs.declared.streams.VolumeStreams.{VolumeStreams}
 use Rattle.file_writes.specs.Writing.{MayWrite}
-use Rattle.written_made.specs.Made.{record_with_data}
+use Rattle.made_data.specs.Made.{record_with_data}
 
 -- The file has fewer than 1,024 attributes, and may be written by its record, or by the one with data that is empty.
 pub record MayChange (clusters n : ℕ) (s : VolumeStreams) (r : Record) (op : Op) (a : Node) : Type 0 where

@@ -70,7 +70,7 @@ Ends content op touched (Err write.Memory) result = result ≡ Err Memory
 
 -- it is a plan from each state in which the operation is asked so, of a file with this record
 abbrev pub PlansAsked : VolumeStreams → Op → Node → ℕ → Record → List Bool → Result ChangePlan PlanFault → Content → Type 0
-PlansAsked s op node stamp r bits result c = (g : Geometry) (clusters : ℕ) (v : Volume) (a : Node) → IsAsked c g clusters v s op node a r bits → Plans result c g clusters v op stamp
+PlansAsked s op node stamp r bits result c = (g : Geometry) (clusters : ℕ) (v : Volume) (a : Node) → IsAsked c g clusters v s op node a r bits → Plans result c g clusters v s op stamp
 
 -- the same of the record that the state has
 abbrev pub PlansFound : VolumeStreams → Op → Node → ℕ → List Bool → Result ChangePlan PlanFault → Content → Type 0
@@ -87,7 +87,7 @@ KnowsFound s op node bits result c = (r : Record) → KnowsAsked s op node r bit
 
 -- it is a plan from each state that this is the map of, in which this is found for the operation
 abbrev pub PlansBy : VolumeMap → VolumeStreams → Op → Found → ℕ → Result ChangePlan PlanFault → Content → Type 0
-PlansBy m s op found stamp result c = (g : Geometry) (clusters : ℕ) → IsMapOf c m → HasSizes c → HasChange c g clusters (volume_in m) op → Finds c (volume_in m) op found → AreStreamsOf (volume_in m) s → Plans result c g clusters (volume_in m) op stamp
+PlansBy m s op found stamp result c = (g : Geometry) (clusters : ℕ) → IsMapOf c m → HasSizes c → HasChange c g clusters (volume_in m) op → Finds c (volume_in m) op found → AreStreamsOf (volume_in m) s → Plans result c g clusters (volume_in m) s op stamp
 
 abbrev pub KnowsBy : VolumeMap → VolumeStreams → Op → Found → Result ChangePlan PlanFault → Content → Type 0
 KnowsBy m s op found result c =

@@ -51,6 +51,22 @@ pub record WritesFile (c : Content) (g : Geometry) (clusters : ℕ) (v : Volume)
   pub is : IsChange (growth_of (cluster_bits c v) r op a) r op a change
   pub put : PutsChange c s n op a stamp r change [] new
 
+-- A state without a change journal, with a file that the operation changes. The draft that touched nothing has put what comes of the
+-- data of this record: the file's own, or one with data that is empty where the file has none.
+pub record WritesBy (c : Content) (g : Geometry) (clusters : ℕ) (v : Volume) (s : VolumeStreams) (op : Op) (n stamp : ℕ) (a : Node) (r by : Record) (change : DataChange) (new : List Touched) : Type 0 where
+  pub sized : HasSizes c
+  pub eight : g.per_cluster ≡ 8
+  pub few : clusters ≤ cluster_limit
+  pub stands : Stands c g clusters v
+  pub journal : (tree_of c v).journal ≡ None
+  pub streams : AreStreamsOf v s
+  pub file : IsChangeable c v n r a
+  pub changes : changes_file op a ≡ true
+  pub soon : stamp < 2 ^ 64
+  pub has : HasData clusters by
+  pub is : IsChange (growth_of (cluster_bits c v) by op a) by op a change
+  pub put : PutsChange c s n op a stamp by change [] new
+
 -- The draft then stands for a state, to which its bodies lead as those of a plan do. The operation has changed the tree, as its growth
 -- says of the content.
 pub record HasWritten (c : Content) (g : Geometry) (clusters : ℕ) (v : Volume) (op : Op) (n stamp : ℕ) (a : Node) (growth : Growth) (new : List Touched) : Type 0 where

@@ -1,5 +1,5 @@
 -- A file without unnamed data that gets it.
-use Rattle.std.specs.Prelude.{ℕ, Bool, [], insert}
+use Rattle.std.specs.Prelude.{ℕ, Bool, if◌then◌else◌, [], insert}
 use Rattle.std.specs.List.{list_any}
 use Rattle.record_model.specs.declared.attribute.Attr.{Attr}
 use Rattle.record_model.specs.declared.attribute.OwnForm.TheVariants.{Resident}
@@ -28,3 +28,7 @@ with_empty_data r = record { head = with_next_id r.head; attrs = insert r.attrs 
 -- the same as it is written
 abbrev pub made_record : Record → Record
 made_record r = written_record (with_empty_data r)
+
+-- the record by which a file is written or cut: its own, or the one with data that is empty
+abbrev pub record_with_data : Record → Record
+record_with_data r = if has_data r then r else made_record r

@@ -21,8 +21,9 @@ use Rattle.plan_spares.specs.Plans.{HasOwnLists}
 use Rattle.plans_keep.specs.Keeping.{AreFinished}
 use Rattle.data_plan.specs.declared.change.DataChange.{DataChange}
 use Rattle.data_plan.specs.Changes.{growth_of}
+use Rattle.made_data.specs.Made.{record_with_data}
 use Rattle.file_puts.specs.declared.streams.VolumeStreams.{VolumeStreams}
-use Rattle.file_puts.specs.Written.{WritesFile, HasWritten}
+use Rattle.file_puts.specs.Written.{WritesBy, HasWritten}
 use Rattle.writes_keep.specs.Writes.{HasWholeSectors, IsOffLog}
 use Rattle.txn_model.specs.Values.{StoreFacts}
 use Rattle.txn_core.specs.Views.{present_on}
@@ -36,7 +37,7 @@ use Rattle.volume_core.specs.Changes.{MayLog, AreApart, LeadsOn}
 -- those of the draft. No attribute list has a part in another record, and no sector by which the state is judged is torn.
 pub record IsFilePlan (m : MapParts) (table : List ℕ) (c : Content) (s : VolumeStreams) (op : Op) (n stamp : ℕ) (a : Node) (r : Record) (x : DataChange) (new : List Touched) (changes : List Change) : Type 0 where
   pub state : IsStateOf m table c
-  pub writes : WritesFile c (geometry_of m) m.volume.clusters m.volume s op n stamp a r x new
+  pub writes : WritesBy c (geometry_of m) m.volume.clusters m.volume s op n stamp a r (record_with_data r) x new
   pub written : HasWritten c (geometry_of m) m.volume.clusters m.volume op n stamp a (growth_of (cluster_bits c m.volume) r op a) new
   pub finished : AreFinished c new changes
   pub lists : HasOwnLists c m.volume

@@ -23,8 +23,9 @@ use Rattle.plan_spares.specs.Plans.{HasOwnLists}
 use Rattle.plans_keep.specs.Keeping.{AreFinished, ChangesKeep}
 use Rattle.data_plan.specs.declared.change.DataChange.{DataChange}
 use Rattle.data_plan.specs.Changes.{growth_of}
+use Rattle.made_data.specs.Made.{record_with_data}
 use Rattle.file_puts.specs.declared.streams.VolumeStreams.{VolumeStreams}
-use Rattle.file_puts.specs.Written.{WritesFile, HasWritten}
+use Rattle.file_puts.specs.Written.{WritesBy, HasWritten}
 
 -- no sector by which the state is judged is torn
 abbrev pub HasWholeSectors : Content → Volume → Type 0
@@ -46,7 +47,7 @@ pub record WriteKeeps (c : Content) (g : Geometry) (v : Volume) (bodies : List N
   pub off : AllByRecursion (λ x. IsOffLog v x.block) changes
   pub second : AllByRecursion (λ x. overlap x.block (boot_block g 2) ≡ false) changes
 
--- So do those of a draft that has put what comes of a file's data, where no attribute list has a part in another record, and no sector by which the state is judged is torn.
+-- So do those of a draft that has put what comes of a file's data, by its record or by that with data which is empty, where no attribute list has a part in another record, and no sector by which the state is judged is torn.
 abbrev pub WritesKeep : Type 0
-WritesKeep = (c : Content) (g : Geometry) (clusters : ℕ) (v : Volume) (s : VolumeStreams) (op : Op) (n stamp : ℕ) (a : Node) (r : Record) (change : DataChange) (new : List Touched) (changes : List Change) → WritesFile c g clusters v s op n stamp a r change new
+WritesKeep = (c : Content) (g : Geometry) (clusters : ℕ) (v : Volume) (s : VolumeStreams) (op : Op) (n stamp : ℕ) (a : Node) (r : Record) (change : DataChange) (new : List Touched) (changes : List Change) → WritesBy c g clusters v s op n stamp a r (record_with_data r) change new
     → (h : HasWritten c g clusters v op n stamp a (growth_of (cluster_bits c v) r op a) new) → AreFinished c new changes → HasOwnLists c v → HasWholeSectors c v → WriteKeeps c g v h.bodies changes h.after

@@ -1,5 +1,5 @@
 -- An operation that writes or cuts a file without unnamed data, by the record of that file with data that is empty.
-use Rattle.std.specs.Prelude.{◌≡◌, ℕ, ◌<◌, ◌≤◌, ◌^◌, true, false, if◌then◌else◌, List, [], length, None}
+use Rattle.std.specs.Prelude.{◌≡◌, ℕ, ◌<◌, ◌≤◌, ◌^◌, true, false, List, [], length, None}
 use Rattle.disk_model.specs.Content.{Content, HasSizes}
 use Rattle.record_model.specs.Pairs.{cluster_limit}
 use Rattle.record_model.specs.Records.{Record}
@@ -39,10 +39,6 @@ pub record WritesMade (c : Content) (g : Geometry) (clusters : ℕ) (v : Volume)
   pub has : HasData clusters (made_record r)
   pub is : IsChange (growth_of (cluster_bits c v) (made_record r) op a) (made_record r) op a change
   pub put : PutsChange c s n op a stamp (made_record r) change [] new
-
--- the record by which a file is written or cut: its own, or the one with data that is empty
-abbrev pub record_with_data : Record → Record
-record_with_data r = if has_data r then r else made_record r
 
 -- Where as many clusters are clear as its data comes to take, what the draft has put leads to a state, and the operation has changed the tree
 -- and left the content as the growth of the file without data says.

@@ -13,7 +13,7 @@ use Rattle.plan_changes.specs.Files.{IsChangeable}
 use Rattle.record_streams.specs.Fitting.{FitsButRoom}
 use Rattle.data_plan.specs.Changes.{ShowsData, HasData}
 use Rattle.state_files.specs.Files.{HasFewRuns}
-use Rattle.written_made.specs.Made.{record_with_data}
+use Rattle.made_data.specs.Made.{record_with_data}
 
 -- In a state, a file of which the bytes can be changed has by that record the data that a write asks for, where its own record has a spelling
 -- but for its room, fewer than 1,024 attributes and few runs of data. The node shows that data as its own, and there is standard information.

@@ -10,7 +10,7 @@ ghost use Rattle.file_writes.specs.Faults.{write_cause, IsShortOf, StaysWhereRef
 ghost use Rattle.file_writes.specs.Writing.{MayWrite};
 ghost use Rattle.file_changes.specs.Calls.{StepsFrom};
 ghost use Rattle.file_changes.specs.Written.{WrittenFrom};
-ghost use Rattle.written_made.specs.Made.{record_with_data};
+ghost use Rattle.made_data.specs.Made.{record_with_data};
 
 use crate::laws::{made_is_done, made_is_step};
 use block_view::View;
