@@ -9,11 +9,10 @@ use Rattle.state_model.specs.declared.geometry.Geometry.{Geometry}
 use Rattle.volume_model.specs.Volumes.{Volume}
 use Rattle.tree_model.specs.declared.script.Op.{Op}
 use Rattle.tree_model.specs.Steps.{IsWithinBounds}
-use Rattle.made_data.specs.Made.{made_record, has_data}
+use Rattle.made_data.specs.Made.{made_record, has_data, record_with_data}
 use Rattle.file_puts.specs.declared.streams.VolumeStreams.{VolumeStreams}
 use Rattle.file_writes.specs.Writing.{MayWrite}
 use Rattle.file_changes.specs.Calls.{IsAsked}
-use Rattle.made_data.specs.Made.{record_with_data}
 use Rattle.written_values.proofs.Owning.{is_owned}
 use Rattle.found_files.specs.Found.{IsFoundFile, FoundMayWrite}
 use Rattle.change_plan.specs.declared.fault.PlanFault.TheVariants.{Unknown}

@@ -9,7 +9,7 @@ use Rattle.disk_model.specs.Content.{Content, HasSizes}
 use Rattle.record_model.specs.Records.{Record}
 use Rattle.file_tree.specs.declared.node.Node.{Node}
 use Rattle.state_model.specs.declared.geometry.Geometry.{Geometry}
-use Rattle.volume_model.specs.Volumes.{Volume, cluster_bits}
+use Rattle.volume_model.specs.Volumes.{Volume}
 use Rattle.tree_model.specs.declared.script.Op.{Op}
 use Rattle.tree_model.specs.declared.script.Op.TheVariants as op
 use Rattle.tree_model.specs.declared.reply.Reply.{Reply}
@@ -20,14 +20,13 @@ use Rattle.plan_draft.specs.declared.touched.Touched.{Touched}
 use Rattle.plan_draft.specs.Drafts.{drafted}
 use Rattle.plan_draft.specs.Touching.{IsOldOf, rises}
 use Rattle.plan_draft.specs.Finishing.{change_keys, WasOld}
-use Rattle.data_plan.specs.Changes.{growth_of}
+use Rattle.made_data.specs.Made.{record_with_data}
 use Rattle.file_puts.specs.declared.streams.VolumeStreams.{VolumeStreams}
-use Rattle.file_puts.specs.Written.{HasWritten}
 use Rattle.file_writes.specs.declared.fault.WriteFault.{WriteFault}
 use Rattle.file_writes.specs.declared.fault.WriteFault.TheVariants as write
 use Rattle.file_writes.specs.Faults.{write_cause}
 use Rattle.file_changes.specs.Calls.{IsAsked, StepsTo, StepsFrom}
-use Rattle.file_changes.specs.Written.{WrittenFrom}
+use Rattle.file_changes.specs.Written.{IsWritten, WrittenFrom}
 use Rattle.step_model.specs.Steps.{Answer, Done, answer_of, Step}
 use Rattle.change_steps.specs.Changes.{change_reply, ChangesAreSteps}
 use Rattle.change_steps.specs.Found.{HasChange}
@@ -55,8 +54,8 @@ none_changed None = record { fit = All-nil Fits; in_order = refl; olds = tt }
 none_changed (Some c) = record { fit = All-nil Fits; in_order = refl; olds = All-nil (WasOld c) }
 
 -- an answer that is a step is a plan
-pub answer_plans : (c : Content) (g : Geometry) (clusters : ℕ) (v : Volume) (o : Op) (stamp : ℕ) (said : Reply) (plan : ChangePlan) → HasSizes c → Step g clusters o stamp said c c → IsAnswer said plan → IsPlan c g clusters v o stamp plan
-answer_plans c g clusters v o stamp said plan sized step k = record {
+pub answer_plans : (c : Content) (g : Geometry) (clusters : ℕ) (v : Volume) (s : VolumeStreams) (o : Op) (stamp : ℕ) (said : Reply) (plan : ChangePlan) → HasSizes c → Step g clusters o stamp said c c → IsAnswer said plan → IsPlan c g clusters v s o stamp plan
+answer_plans c g clusters v s o stamp said plan sized step k = record {
   step =
       subst (λ (x : Reply). Step g clusters o stamp x c (content_after plan.changes.items c)) (sym k.reply_is)
       (subst (λ (l : List Change). Step g clusters o stamp said c (content_after l c)) (sym k.none) (subst (λ (d : Content). Step g clusters o stamp said c d) (sym (none_after c sized)) step));
@@ -91,46 +90,45 @@ finished_sound content o touched plan changes k = record {
   kept_on = ap is_given_up k.reply_is ∙ kept_on o changes;
 }
 
-finished_plans : (c : Content) (g : Geometry) (clusters : ℕ) (v : Volume) (s : VolumeStreams) (o : Op) (stamp : ℕ) (node a : Node) (r : Record) (bits : List Bool) (new : List Touched) (plan : ChangePlan) → IsAsked c g clusters v s o node a r bits
-    → Step g clusters o stamp (change_reply o) c (drafted new c) → HasWritten c g clusters v o node.number stamp a (growth_of bits r o a) new → IsFinished (Some c) o new plan → IsPlan c g clusters v o stamp plan
-finished_plans c g clusters v s o stamp node a r bits new plan asked step written k = record {
+finished_plans : (c : Content) (g : Geometry) (clusters : ℕ) (v : Volume) (s : VolumeStreams) (o : Op) (stamp number : ℕ) (a : Node) (r : Record) (new : List Touched) (plan : ChangePlan) → Step g clusters o stamp (change_reply o) c (drafted new c) → IsWritten c g clusters v s o number stamp a r (record_with_data r) new
+    → IsFinished (Some c) o new plan → IsPlan c g clusters v s o stamp plan
+finished_plans c g clusters v s o stamp number a r new plan step written k = record {
   step =
       subst (λ (x : Reply). Step g clusters o stamp x c (content_after plan.changes.items c)) (sym k.reply_is)
       (subst (λ (d : Content). Step g clusters o stamp (change_reply o) c d) (sym k.after) step);
   draft = λ some. record {
-    number = node.number;
+    number = number;
     r = r;
     a = a;
-    file = asked.file;
     touched = new;
     in_order = k.over.in_order;
     whole = k.over.whole;
     olds = k.over.olds;
     are = k.are;
-    written = subst (λ (l : List Bool). HasWritten c g clusters v o node.number stamp a (growth_of l r o a) new) asked.of_volume written;
+    written = written;
   };
 }
 
 -- ---- all ends
 
-same_end : (c : Content) (g : Geometry) (clusters : ℕ) (v : Volume) (o : Op) (stamp : ℕ) (x result : Result ChangePlan PlanFault) → result ≡ x → Plans x c g clusters v o stamp → Plans result c g clusters v o stamp
-same_end c g clusters v o stamp x result is plans = subst (λ (y : Result ChangePlan PlanFault). Plans y c g clusters v o stamp) (sym is) plans
+same_end : (c : Content) (g : Geometry) (clusters : ℕ) (v : Volume) (s : VolumeStreams) (o : Op) (stamp : ℕ) (x result : Result ChangePlan PlanFault) → result ≡ x → Plans x c g clusters v s o stamp → Plans result c g clusters v s o stamp
+same_end c g clusters v s o stamp x result is plans = subst (λ (y : Result ChangePlan PlanFault). Plans y c g clusters v s o stamp) (sym is) plans
 
-memory_plans : (c : Content) (g : Geometry) (clusters : ℕ) (v : Volume) (o : Op) (stamp : ℕ) (e : PlanFault) → e ≡ Memory → Step g clusters o stamp reply.Memory c c → Plans (Err e) c g clusters v o stamp
-memory_plans c g clusters v o stamp e is step = same_end c g clusters v o stamp (Err Memory) (Err e) (ap (λ (x : PlanFault). Err x) is) step
+memory_plans : (c : Content) (g : Geometry) (clusters : ℕ) (v : Volume) (s : VolumeStreams) (o : Op) (stamp : ℕ) (e : PlanFault) → e ≡ Memory → Step g clusters o stamp reply.Memory c c → Plans (Err e) c g clusters v s o stamp
+memory_plans c g clusters v s o stamp e is step = same_end c g clusters v s o stamp (Err Memory) (Err e) (ap (λ (x : PlanFault). Err x) is) step
 
 ends_plan : ChangesAreSteps → (c : Content) (g : Geometry) (clusters : ℕ) (v : Volume) (s : VolumeStreams) (o : Op) (stamp : ℕ) (node a : Node) (r : Record) (bits : List Bool) (new : List Touched) (written : Result (Unit {0}) WriteFault) (result : Result ChangePlan PlanFault)
-    → IsAsked c g clusters v s o node a r bits → StepsTo written c g clusters o stamp new → OnOk written (HasWritten c g clusters v o node.number stamp a (growth_of bits r o a) new) → Ends (Some c) o new written result → Plans result c g clusters v o stamp
-ends_plan steps c g clusters v s o stamp node a r bits new (Ok u) (Ok plan) asked step has ends = finished_plans c g clusters v s o stamp node a r bits new plan asked step has ends
-ends_plan steps c g clusters v s o stamp node a r bits new (Ok u) (Err e) asked step has ends = memory_plans c g clusters v o stamp e ends (steps.given_up c g clusters v o stamp reply.Memory asked.has refl)
-ends_plan steps c g clusters v s o stamp node a r bits new (Err (write.Full used)) (Ok plan) asked step has ends = answer_plans c g clusters v o stamp (reply.RecordFull used) plan asked.sized step ends
+    → IsAsked c g clusters v s o node a r bits → StepsTo written c g clusters o stamp new → OnOk written (IsWritten c g clusters v s o node.number stamp a r (record_with_data r) new) → Ends (Some c) o new written result → Plans result c g clusters v s o stamp
+ends_plan steps c g clusters v s o stamp node a r bits new (Ok u) (Ok plan) asked step has ends = finished_plans c g clusters v s o stamp node.number a r new plan step has ends
+ends_plan steps c g clusters v s o stamp node a r bits new (Ok u) (Err e) asked step has ends = memory_plans c g clusters v s o stamp e ends (steps.given_up c g clusters v o stamp reply.Memory asked.has refl)
+ends_plan steps c g clusters v s o stamp node a r bits new (Err (write.Full used)) (Ok plan) asked step has ends = answer_plans c g clusters v s o stamp (reply.RecordFull used) plan asked.sized step ends
 ends_plan steps c g clusters v s o stamp node a r bits new (Err (write.Full used)) (Err e) asked step has ends = absurd ends
 ends_plan steps c g clusters v s o stamp node a r bits new (Err (write.Short room)) result asked step has ends = absurd step
-ends_plan steps c g clusters v s o stamp node a r bits new (Err write.Fault) result asked step has ends = same_end c g clusters v o stamp (Err Fault) result ends step
-ends_plan steps c g clusters v s o stamp node a r bits new (Err write.Memory) result asked step has ends = same_end c g clusters v o stamp (Err Memory) result ends step
+ends_plan steps c g clusters v s o stamp node a r bits new (Err write.Fault) result asked step has ends = same_end c g clusters v s o stamp (Err Fault) result ends step
+ends_plan steps c g clusters v s o stamp node a r bits new (Err write.Memory) result asked step has ends = same_end c g clusters v s o stamp (Err Memory) result ends step
 
 pub plans_asked : ChangesAreSteps → (content : Option Content) (s : VolumeStreams) (o : Op) (node : Node) (stamp : ℕ) (r : Record) (bits : List Bool) (old new : List Touched) (written : Result (Unit {0}) WriteFault) (result : Result ChangePlan PlanFault) → old ≡ []
-    → IfSome content (StepsFrom s o node stamp r bits old new written) → IfSome content (WrittenFrom s o node stamp r bits old new written) → Ends content o new written result → IfSome content (PlansAsked s o node stamp r bits result)
+    → IfSome content (StepsFrom s o node stamp r bits old new written) → IfSome content (WrittenFrom s o node stamp r (record_with_data r) bits old new written) → Ends content o new written result → IfSome content (PlansAsked s o node stamp r bits result)
 plans_asked steps None s o node stamp r bits old new written result none step has ends = tt
 plans_asked steps (Some c) s o node stamp r bits old new written result none step has ends =
     λ g clusters v a asked. ends_plan steps c g clusters v s o stamp node a r bits new written result asked (step g clusters v a asked none) (has g clusters v a asked none) ends
@@ -170,18 +168,18 @@ ends_known c g clusters o stamp new (Err write.Memory) result step ends = subst 
 
 -- ---- a failure
 
-fault_plans : ChangesAreSteps → (c : Content) (g : Geometry) (clusters : ℕ) (v : Volume) (o : Op) (stamp : ℕ) (e : PlanFault) → HasChange c g clusters v o → Plans (Err e) c g clusters v o stamp
-fault_plans steps c g clusters v o stamp Fault has = steps.given_up c g clusters v o stamp reply.Fault has refl
-fault_plans steps c g clusters v o stamp Memory has = steps.given_up c g clusters v o stamp reply.Memory has refl
-fault_plans steps c g clusters v o stamp Unknown has = tt
+fault_plans : ChangesAreSteps → (c : Content) (g : Geometry) (clusters : ℕ) (v : Volume) (s : VolumeStreams) (o : Op) (stamp : ℕ) (e : PlanFault) → HasChange c g clusters v o → Plans (Err e) c g clusters v s o stamp
+fault_plans steps c g clusters v s o stamp Fault has = steps.given_up c g clusters v o stamp reply.Fault has refl
+fault_plans steps c g clusters v s o stamp Memory has = steps.given_up c g clusters v o stamp reply.Memory has refl
+fault_plans steps c g clusters v s o stamp Unknown has = tt
 
 pub fault_asked : ChangesAreSteps → (content : Option Content) (s : VolumeStreams) (o : Op) (node : Node) (stamp : ℕ) (r : Record) (bits : List Bool) (e : PlanFault) → IfSome content (PlansAsked s o node stamp r bits (Err e))
 fault_asked steps None s o node stamp r bits e = tt
-fault_asked steps (Some c) s o node stamp r bits e = λ g clusters v a asked. fault_plans steps c g clusters v o stamp e asked.has
+fault_asked steps (Some c) s o node stamp r bits e = λ g clusters v a asked. fault_plans steps c g clusters v s o stamp e asked.has
 
 pub fault_found : ChangesAreSteps → (content : Option Content) (s : VolumeStreams) (o : Op) (node : Node) (stamp : ℕ) (bits : List Bool) (e : PlanFault) → IfSome content (PlansFound s o node stamp bits (Err e))
 fault_found steps None s o node stamp bits e = tt
-fault_found steps (Some c) s o node stamp bits e = λ r g clusters v a asked. fault_plans steps c g clusters v o stamp e asked.has
+fault_found steps (Some c) s o node stamp bits e = λ r g clusters v a asked. fault_plans steps c g clusters v s o stamp e asked.has
 
 is_fault : (x result : Result ChangePlan PlanFault) → result ≡ x → IsKnown x → IsKnown result
 is_fault x result is known = subst IsKnown (sym is) known

@@ -55,13 +55,13 @@ use Rattle.change_plan.proofs.Ending.{answer_plans}
 pub refused_plans : ChangesAreSteps → (content : Option Content) (m : VolumeMap) (s : VolumeStreams) (o : Op) (said : Reply) (stamp : ℕ) (plan : ChangePlan) → IsAnswer said plan → IfSome content (PlansBy m s o (Refused said) stamp (Ok plan))
 refused_plans steps None m s o said stamp plan k = tt
 refused_plans steps (Some c) m s o said stamp plan k =
-    λ g clusters mapped sized has finds streams. answer_plans c g clusters (volume_in m) o stamp said plan sized (steps.refused c g clusters (volume_in m) o stamp said has finds) k
+    λ g clusters mapped sized has finds streams. answer_plans c g clusters (volume_in m) s o stamp said plan sized (steps.refused c g clusters (volume_in m) o stamp said has finds) k
 
 pub stays_plans : ChangesAreSteps → (content : Option Content) (m : VolumeMap) (s : VolumeStreams) (o : Op) (node : Node) (changes : Bool) (stamp : ℕ) (plan : ChangePlan) → changes ≡ false → IsAnswer (change_reply o) plan → IfSome content (PlansBy m s o (File node changes) stamp (Ok plan))
 stays_plans steps None m s o node changes stamp plan is k = tt
 stays_plans steps (Some c) m s o node true stamp plan is k = absurd cc
 stays_plans steps (Some c) m s o node false stamp plan is k =
-    λ g clusters mapped sized has finds streams. answer_plans c g clusters (volume_in m) o stamp (change_reply o) plan sized (steps.stays c g clusters (volume_in m) o stamp node has finds) k
+    λ g clusters mapped sized has finds streams. answer_plans c g clusters (volume_in m) s o stamp (change_reply o) plan sized (steps.stays c g clusters (volume_in m) o stamp node has finds) k
 
 pub answer_known : (content : Option Content) (m : VolumeMap) (s : VolumeStreams) (o : Op) (found : Found) (plan : ChangePlan) → IfSome content (KnowsBy m s o found (Ok plan))
 answer_known None m s o found plan = tt
@@ -153,14 +153,14 @@ found_known (Some c) upper m s o found result changes sized mapped finds known =
 
 -- ---- a failure
 
-fault_plans : ChangesAreSteps → (c : Content) (g : Geometry) (clusters : ℕ) (v : Volume) (o : Op) (stamp : ℕ) (e : LookupFault) → HasChange c g clusters v o → Plans (Err (of_lookup e)) c g clusters v o stamp
-fault_plans steps c g clusters v o stamp lookup.Outside has = steps.given_up c g clusters v o stamp reply.Fault has refl
-fault_plans steps c g clusters v o stamp lookup.Memory has = steps.given_up c g clusters v o stamp reply.Memory has refl
-fault_plans steps c g clusters v o stamp lookup.Broken has = tt
+fault_plans : ChangesAreSteps → (c : Content) (g : Geometry) (clusters : ℕ) (v : Volume) (s : VolumeStreams) (o : Op) (stamp : ℕ) (e : LookupFault) → HasChange c g clusters v o → Plans (Err (of_lookup e)) c g clusters v s o stamp
+fault_plans steps c g clusters v s o stamp lookup.Outside has = steps.given_up c g clusters v o stamp reply.Fault has refl
+fault_plans steps c g clusters v s o stamp lookup.Memory has = steps.given_up c g clusters v o stamp reply.Memory has refl
+fault_plans steps c g clusters v s o stamp lookup.Broken has = tt
 
 pub failed_plans : ChangesAreSteps → (content : Option Content) (upper : List ℕ) (v : Volume) (s : VolumeStreams) (o : Op) (stamp : ℕ) (e : LookupFault) → is_data_change o ≡ true → IfSome content (PlansFrom upper v s o stamp (Err (of_lookup e)))
 failed_plans steps None upper v s o stamp e changes = tt
-failed_plans steps (Some c) upper v s o stamp e changes = λ g clusters state. fault_plans steps c g clusters v o stamp e (has_change c g clusters v upper s o changes state)
+failed_plans steps (Some c) upper v s o stamp e changes = λ g clusters state. fault_plans steps c g clusters v s o stamp e (has_change c g clusters v upper s o changes state)
 
 fault_known : (e : LookupFault) (holds : Found → Type 0) → AnswersOrFails (Err e) holds → IsKnown (Err (of_lookup e))
 fault_known lookup.Outside holds answered = tt

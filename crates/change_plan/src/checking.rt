@@ -2,8 +2,7 @@
 ghost use Rattle.std.specs.Prelude.{◌≡◌, ◌<◌, ◌^◌, ◌↔◌, true, IfOk, length};
 ghost use Rattle.record_streams.specs.Fitting.{FitsButRoom};
 ghost use Rattle.file_writes.specs.Writing.{MayWrite};
-ghost use Rattle.made_data.specs.Made.{made_record};
-ghost use Rattle.made_data.specs.Made.{record_with_data};
+ghost use Rattle.made_data.specs.Made.{made_record, record_with_data};
 ghost use Rattle.change_plan.specs.Checking.{MayChange};
 
 use file_puts::VolumeStreams;

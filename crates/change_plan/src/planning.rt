@@ -65,7 +65,8 @@ fn planned<V: View>(
 /// `up` is its table of upper-case units, and `streams` are those of its file table, of the table's
 /// mirror and of the bits of its clusters. `stamp` is the time of the change, in units of 100 ns
 /// since 1601-01-01. From each content that is a state of the volume the reply and the changes are
-/// a step of the operation, and the changes come of a draft that leads to a state as a plan does.
+/// a step of the operation, and the changes come of a draft that has put what comes of the file's
+/// data, by its record or by that with data which is empty, and leads to a state as a plan does.
 /// A reply other than that of an operation that is done comes with no changes. Nothing is changed:
 /// neither what the view gives nor the map.
 ///

@@ -1,24 +1,20 @@
 -- A file that is written or cut takes its step.
-use Rattle.std.proofs.Common.{◌≡◌, ℕ, ◌<◌, ◌≤◌, ◌^◌, Bool, true, false, List, [], length, Option, Some, None, Result, Ok, Err, refl, sym, ap, subst, ◌∙◌, inl, inr, arith}
+use Rattle.std.proofs.Common.{◌≡◌, ℕ, ◌<◌, ◌≤◌, ◌^◌, Bool, List, [], length, Option, Some, None, Result, Ok, Err, refl, sym, subst, ◌∙◌, inl, inr}
 use Rattle.std.specs.Prelude.{IfSome, OnOk, not, count_by}
 use Rattle.std.proofs.lemmas.Bool.{cases_lt}
 use Rattle.disk_model.specs.Content.{Content}
 use Rattle.record_model.specs.Pairs.{cluster_limit}
 use Rattle.record_model.specs.Records.{Record}
 use Rattle.file_tree.specs.declared.node.Node.{Node}
-use Rattle.file_tree.specs.Trees.{without_bytes}
 use Rattle.state_model.specs.declared.geometry.Geometry.{Geometry}
 use Rattle.volume_model.specs.Volumes.{Volume, cluster_bits}
 use Rattle.tree_model.specs.declared.script.Op.{Op}
 use Rattle.tree_model.specs.declared.reply.Reply.{Reply}
 use Rattle.tree_model.specs.declared.reply.Reply.TheVariants as reply
 use Rattle.plan_draft.specs.declared.touched.Touched.{Touched}
-use Rattle.step_model.specs.Placing.{Growth, more_of}
-use Rattle.data_plan.specs.declared.change.DataChange.{DataChange}
-use Rattle.data_plan.specs.Changes.{HasData, growth_of, row_of, IsChange}
+use Rattle.step_model.specs.Placing.{more_of}
+use Rattle.data_plan.specs.Changes.{HasData, growth_of, row_of}
 use Rattle.file_puts.specs.declared.streams.VolumeStreams.{VolumeStreams}
-use Rattle.file_puts.specs.Puts.{PutsChange}
-use Rattle.file_puts.specs.Written.{WritesFile}
 use Rattle.file_writes.specs.declared.fault.WriteFault.{WriteFault}
 use Rattle.file_writes.specs.declared.fault.WriteFault.TheVariants.{Full, Short, Fault, Memory}
 use Rattle.file_writes.specs.Faults.{IsShortOf, HasRow}
@@ -27,6 +23,7 @@ use Rattle.change_steps.specs.Changes.{ChangesAreSteps}
 use Rattle.change_steps.specs.Ready.{BareIsEnough, FilesAreReady}
 use Rattle.file_changes.specs.Steps.{WritesAreSteps}
 use Rattle.file_changes.specs.Calls.{IsAsked, StepsTo, StepsFrom}
+use Rattle.file_changes.proofs.Writing.{row_now, enough_now, writes_now, own_writes}
 
 -- a refused row is that of the step, and where none is, there are clusters enough
 pub row_is : (bits : List Bool) (more : ℕ) (row : Option Reply) (used : ℕ) → (count_by not bits < more → IsShortOf {T = Unit {0}} (count_by not bits) (Err (Full used))) → (more ≤ count_by not bits → HasRow {T = Unit {0}} row (Err (Full used))) → row ≡ Some (reply.RecordFull used)
@@ -46,42 +43,17 @@ never_short : (bits : List Bool) (more : ℕ) (row : Option Reply) (room : ℕ) 
 never_short bits more row room full enough = full enough
 
 module _ (done : WritesAreSteps) (steps : ChangesAreSteps) (bare : BareIsEnough) (ready : FilesAreReady) (c : Content) (g : Geometry) (clusters : ℕ) (v : Volume) (s : VolumeStreams) (op : Op) (node a : Node) (stamp : ℕ) (r : Record) (bits : List Bool) (asked : IsAsked c g clusters v s op node a r bits) where
-  growth_now : growth_of bits r op node ≡ growth_of (cluster_bits c v) r op a
-  growth_now = ap (λ (x : Node). growth_of bits r op x) asked.bare ∙ bare.growth bits r op a ∙ ap (λ (l : List Bool). growth_of l r op a) asked.of_volume
-
-  row_now : row_of bits r op node ≡ row_of (cluster_bits c v) r op a
-  row_now = ap (λ (x : Node). row_of bits r op x) asked.bare ∙ bare.row bits r op a ∙ ap (λ (l : List Bool). row_of l r op a) asked.of_volume
-
-  is_now : (what : DataChange) → IsChange (growth_of bits r op node) r op node what → IsChange (growth_of (cluster_bits c v) r op a) r op a what
-  is_now what is =
-      subst (λ (x : Growth). IsChange x r op a what) growth_now
-      (bare.change (growth_of bits r op node) r op a what (subst (λ (x : Node). IsChange (growth_of bits r op node) r op x what) asked.bare is))
-
-  puts_now : (what : DataChange) (old new : List Touched) → PutsChange c s node.number op node stamp r what old new → PutsChange c s node.number op a stamp r what old new
-  puts_now what old new put = bare.puts c s node.number op a stamp r what old new (subst (λ (x : Node). PutsChange c s node.number op x stamp r what old new) asked.bare put)
+  row_here : row_of bits r op node ≡ row_of (cluster_bits c v) r op a
+  row_here = row_now bare c g clusters v s op node a stamp r r bits asked
 
   pub ok_steps : (old new : List Touched) (u : Unit {0}) → stamp < 2 ^ 64 → length bits ≤ cluster_limit → HasData (length bits) r → old ≡ [] → PutsWrite c bits s node.number op node stamp r old new → more_of (growth_of bits r op node) ≤ count_by not bits → row_of bits r op node ≡ None
       → StepsTo (Ok u) c g clusters op stamp new
   ok_steps old new u soon few has none put enough row =
-      done c g clusters v s op stamp node a r put.change new asked.has asked.finds (sym row_now ∙ row)
-      (subst (λ (l : List Bool). more_of (growth_of (cluster_bits c v) r op a) ≤ count_by not l) asked.of_volume (subst (λ (x : Growth). more_of x ≤ count_by not bits) growth_now enough))
-      (record {
-        sized = asked.sized;
-        eight = asked.has.eight;
-        few = subst (λ (x : ℕ). x ≤ cluster_limit) asked.count few;
-        stands = asked.has.stands;
-        journal = asked.has.journal;
-        streams = asked.streams;
-        file = asked.file;
-        changes = asked.changes;
-        soon = soon;
-        has = subst (λ (x : ℕ). HasData x r) asked.count has;
-        is = is_now put.change put.is;
-        put = subst (λ (l : List Touched). PutsChange c s node.number op a stamp r put.change l new) none (puts_now put.change old new put.put);
-      })
+      done c g clusters v s op stamp node a r put.change new asked.has asked.finds (sym row_here ∙ row) (enough_now bare c g clusters v s op node a stamp r r bits asked enough)
+      (own_writes c g clusters v s op node.number stamp a r put.change new (writes_now bare c g clusters v s op node a stamp r r bits asked old new soon few has none put))
 
   pub full_steps : (used : ℕ) (new : List Touched) → row_of bits r op node ≡ Some (reply.RecordFull used) → StepsTo (Err (Full used)) c g clusters op stamp new
-  full_steps used new row = steps.full c g clusters v op stamp node a r (reply.RecordFull used) asked.has asked.finds asked.file (sym row_now ∙ row)
+  full_steps used new row = steps.full c g clusters v op stamp node a r (reply.RecordFull used) asked.has asked.finds asked.file (sym row_here ∙ row)
 
   pub short_steps : (room : ℕ) (new : List Touched) → (more_of (growth_of bits r op node) ≤ count_by not bits → HasRow {T = Unit {0}} (row_of bits r op node) (Err (Short room))) → StepsTo (Err (Short room)) c g clusters op stamp new
   short_steps room new full =

@@ -1,4 +1,5 @@
 mod Joined
 mod Stepping
+pub mod Writing
 mod Calling
 mod Giving

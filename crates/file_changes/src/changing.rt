@@ -27,12 +27,12 @@ use tree_model::Op;
 /// (Linux-NTFS documentation, "FILE Record", "$DATA"): as [`write_file`] does it, with its errors,
 /// conditions and costs. `file` is the record of the node, as it was read, and `bits` are those of
 /// the volume's clusters. Where the view's content is a state, the draft stands for the content that
-/// the step of the operation leaves, of which the reply is how many bytes were written, or the size,
-/// and what it put leads there as the bodies of a plan do, none of which is of a rival of an owned
-/// block;
-/// after [`WriteFault::Full`] the step is that the record is too full, and after a failure or want
-/// of memory that it was given up. [`WriteFault::Short`] doesn't come there, since an operation for
-/// which clusters lack isn't found to change the file.
+/// the step of the operation leaves, of which the reply is how many bytes were written, or the size.
+/// What it put is what comes of the data of this record, and leads there as the bodies of a plan do,
+/// none of which is of a rival of an owned block. After [`WriteFault::Full`] the step is that the
+/// record is too full, and after a failure or want of memory that it was given up.
+/// [`WriteFault::Short`] doesn't come there, since an operation for which clusters lack isn't found
+/// to change the file.
 pub fn change_file<V: View, B: FreeBits>(
     draft: &mut Draft<'_, V>,
     alloc: Global,
@@ -47,7 +47,7 @@ pub fn change_file<V: View, B: FreeBits>(
     requires per { per ≡ 8 }
     requires may { MayWrite (length (B.bits bits.old)) node.now.number streams.now file.now op.now node.now }
     ensures step { IfSome (V.content draft.old.view.now) (StepsFrom streams.now op.now node.now stamp file.now (B.bits bits.old) draft.old.touched.items draft.new.touched.items result) }
-    ensures written { IfSome (V.content draft.old.view.now) (WrittenFrom streams.now op.now node.now stamp file.now (B.bits bits.old) draft.old.touched.items draft.new.touched.items result) }
+    ensures written { IfSome (V.content draft.old.view.now) (WrittenFrom streams.now op.now node.now stamp file.now file.now (B.bits bits.old) draft.old.touched.items draft.new.touched.items result) }
     ensures bits { OnOk result (B.bits bits.new ≡ with_runs (growth_of (B.bits bits.old) file.now op.now node.now).runs (B.bits bits.old)) }
     ensures short { count_by not (B.bits bits.old) < more_of (growth_of (B.bits bits.old) file.now op.now node.now) → IsShortOf (count_by not (B.bits bits.old)) result }
     ensures refused { IfErr result (StaysWhereRefused draft.old.touched.items draft.new.touched.items) }

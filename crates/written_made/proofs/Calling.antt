@@ -1,5 +1,5 @@
 -- A call that writes or cuts a file without unnamed data takes the step of the operation, and has written the file.
-use Rattle.std.proofs.Common.{◌≡◌, ℕ, ◌<◌, ◌≤◌, ◌^◌, Bool, false, List, [], length, Option, Some, None, Result, Ok, Err, refl, sym, ap, subst, ◌∙◌, inl, inr}
+use Rattle.std.proofs.Common.{◌≡◌, ℕ, ◌<◌, ◌≤◌, ◌^◌, Bool, false, List, [], length, Option, Some, None, Result, Ok, Err, refl, sym, subst, ◌∙◌, inl, inr}
 use Rattle.std.specs.Prelude.{IfSome, OnOk, not, count_by}
 use Rattle.std.proofs.lemmas.Bool.{cases_lt}
 use Rattle.disk_model.specs.Content.{Content}
@@ -7,29 +7,26 @@ use Rattle.record_model.specs.Pairs.{cluster_limit}
 use Rattle.record_model.specs.Records.{Record}
 use Rattle.file_tree.specs.declared.node.Node.{Node}
 use Rattle.state_model.specs.declared.geometry.Geometry.{Geometry}
-use Rattle.volume_model.specs.Volumes.{Volume, cluster_bits}
+use Rattle.volume_model.specs.Volumes.{Volume}
 use Rattle.tree_model.specs.declared.script.Op.{Op}
 use Rattle.tree_model.specs.declared.reply.Reply.{Reply}
 use Rattle.tree_model.specs.declared.reply.Reply.TheVariants as reply
 use Rattle.plan_draft.specs.declared.touched.Touched.{Touched}
 use Rattle.record_streams.specs.Fitting.{FitsButRoom}
 use Rattle.step_model.specs.Placing.{Growth, more_of}
-use Rattle.data_plan.specs.declared.change.DataChange.{DataChange}
-use Rattle.data_plan.specs.Changes.{HasData, growth_of, row_of, IsChange}
+use Rattle.data_plan.specs.Changes.{HasData, growth_of, row_of}
 use Rattle.made_data.specs.Laws.{MadeIsCounted}
 use Rattle.made_data.specs.Made.{made_record, has_data}
 use Rattle.file_puts.specs.declared.streams.VolumeStreams.{VolumeStreams}
-use Rattle.file_puts.specs.Puts.{PutsChange}
-use Rattle.file_puts.specs.Written.{HasWritten}
 use Rattle.file_writes.specs.declared.fault.WriteFault.{WriteFault}
 use Rattle.file_writes.specs.declared.fault.WriteFault.TheVariants.{Full, Short, Fault, Memory}
 use Rattle.file_writes.specs.Faults.{IsShortOf, HasRow}
 use Rattle.file_writes.specs.Writing.{PutsWrite}
-use Rattle.written_clusters.specs.Done.{HasClusters}
 use Rattle.change_steps.specs.Changes.{ChangesAreSteps}
 use Rattle.change_steps.specs.Ready.{BareIsEnough, FilesAreReady}
 use Rattle.file_changes.specs.Calls.{IsAsked, StepsFrom}
 use Rattle.file_changes.specs.Written.{WrittenFrom}
+use Rattle.file_changes.proofs.Writing.{row_now, enough_now, writes_now}
 use Rattle.written_made.specs.Made.{WritesMade, MadeIsDone}
 use Rattle.written_made.specs.Steps.{MadeIsStep}
 
@@ -70,48 +67,14 @@ pub record IsBare (clusters : ℕ) (r : Record) (stamp : ℕ) : Type 0 where
   pub few : clusters ≤ cluster_limit
   pub has : HasData clusters (made_record r)
 
-module _ (bare : BareIsEnough) (c : Content) (g : Geometry) (clusters : ℕ) (v : Volume) (s : VolumeStreams) (op : Op) (node a : Node) (stamp : ℕ) (r : Record) (bits : List Bool) (asked : IsAsked c g clusters v s op node a r bits) (of_file : IsBare (length bits) r stamp) where
-  abbrev q : Record
-  q = made_record r
-
-  growth_now : growth_of bits r op node ≡ growth_of (cluster_bits c v) r op a
-  growth_now = ap (λ (x : Node). growth_of bits r op x) asked.bare ∙ bare.growth bits r op a ∙ ap (λ (l : List Bool). growth_of l r op a) asked.of_volume
-
-  pub row_now : row_of bits r op node ≡ row_of (cluster_bits c v) r op a
-  row_now = ap (λ (x : Node). row_of bits r op x) asked.bare ∙ bare.row bits r op a ∙ ap (λ (l : List Bool). row_of l r op a) asked.of_volume
-
-  made_now : growth_of bits q op node ≡ growth_of (cluster_bits c v) q op a
-  made_now = ap (λ (x : Node). growth_of bits q op x) asked.bare ∙ bare.growth bits q op a ∙ ap (λ (l : List Bool). growth_of l q op a) asked.of_volume
-
-  is_now : (what : DataChange) → IsChange (growth_of bits q op node) q op node what → IsChange (growth_of (cluster_bits c v) q op a) q op a what
-  is_now what is =
-      subst (λ (x : Growth). IsChange x q op a what) made_now
-      (bare.change (growth_of bits q op node) q op a what (subst (λ (x : Node). IsChange (growth_of bits q op node) q op x what) asked.bare is))
-
-  puts_now : (what : DataChange) (old new : List Touched) → PutsChange c s node.number op node stamp q what old new → PutsChange c s node.number op a stamp q what old new
-  puts_now what old new put = bare.puts c s node.number op a stamp q what old new (subst (λ (x : Node). PutsChange c s node.number op x stamp q what old new) asked.bare put)
-
-  pub enough_now : more_of (growth_of bits r op node) ≤ count_by not bits → HasClusters c v op a r
-  enough_now enough = subst (λ (l : List Bool). more_of (growth_of (cluster_bits c v) r op a) ≤ count_by not l) asked.of_volume (subst (λ (x : Growth). more_of x ≤ count_by not bits) growth_now enough)
-
-  pub writes_now : (old new : List Touched) → old ≡ [] → (put : PutsWrite c bits s node.number op node stamp (made_record r) old new) → WritesMade c g clusters v s op node.number stamp a r put.change new
-  writes_now old new none put = record {
-    sized = asked.sized;
-    eight = asked.has.eight;
-    few = subst (λ (x : ℕ). x ≤ cluster_limit) asked.count of_file.few;
-    stands = asked.has.stands;
-    journal = asked.has.journal;
-    streams = asked.streams;
-    file = asked.file;
-    none = of_file.none;
-    fits = of_file.fits;
-    short = of_file.short;
-    changes = asked.changes;
-    soon = of_file.soon;
-    has = subst (λ (x : ℕ). HasData x q) asked.count of_file.has;
-    is = is_now put.change put.is;
-    put = subst (λ (l : List Touched). PutsChange c s node.number op a stamp q put.change l new) none (puts_now put.change old new put.put);
-  }
+made_now : BareIsEnough → (c : Content) (g : Geometry) (clusters : ℕ) (v : Volume) (s : VolumeStreams) (op : Op) (node a : Node) (stamp : ℕ) (r : Record) (bits : List Bool) → IsAsked c g clusters v s op node a r bits → IsBare (length bits) r stamp → (old new : List Touched) → old ≡ []
+    → (put : PutsWrite c bits s node.number op node stamp (made_record r) old new) → WritesMade c g clusters v s op node.number stamp a r put.change new
+made_now bare c g clusters v s op node a stamp r bits asked of_file old new none put = record {
+  puts = writes_now bare c g clusters v s op node a stamp r (made_record r) bits asked old new of_file.soon of_file.few of_file.has none put;
+  none = of_file.none;
+  fits = of_file.fits;
+  short = of_file.short;
+}
 
 -- ---- the steps
 
@@ -121,11 +84,11 @@ module _ (done : MadeIsStep) (steps : ChangesAreSteps) (bare : BareIsEnough) (re
   call_steps None old new result put says = tt
   call_steps (Some c) old new (Ok u) put says =
       let is = done_is bits (more_of (growth_of bits r op node)) (row_of bits r op node) u says.short says.full in
-      λ g clusters v a asked none. done c g clusters v s op stamp node a r put.change new asked.has asked.finds (sym (row_now bare c g clusters v s op node a stamp r bits asked of_file) ∙ is.1) (enough_now bare c g clusters v s op node a stamp r bits asked of_file is.0)
-      (writes_now bare c g clusters v s op node a stamp r bits asked of_file old new none put)
+      λ g clusters v a asked none. done c g clusters v s op stamp node a r put.change new asked.has asked.finds (sym (row_now bare c g clusters v s op node a stamp r r bits asked) ∙ is.1) (enough_now bare c g clusters v s op node a stamp r r bits asked is.0)
+      (made_now bare c g clusters v s op node a stamp r bits asked of_file old new none put)
   call_steps (Some c) old new (Err (Full used)) put says =
       let row = row_is bits (more_of (growth_of bits r op node)) (row_of bits r op node) used says.short says.full in
-      λ g clusters v a asked none. steps.full c g clusters v op stamp node a r (reply.RecordFull used) asked.has asked.finds asked.file (sym (row_now bare c g clusters v s op node a stamp r bits asked of_file) ∙ row)
+      λ g clusters v a asked none. steps.full c g clusters v op stamp node a r (reply.RecordFull used) asked.has asked.finds asked.file (sym (row_now bare c g clusters v s op node a stamp r r bits asked) ∙ row)
   call_steps (Some c) old new (Err (Short room)) put says =
       λ g clusters v a asked none. never_short bits (more_of (growth_of bits r op node)) (row_of bits r op node) room says.full
       (subst (λ (l : List Bool). more_of (growth_of l r op node) ≤ count_by not l) (sym asked.of_volume) (ready.room c g clusters v op node a r asked.has asked.finds asked.file))
@@ -135,12 +98,17 @@ module _ (done : MadeIsStep) (steps : ChangesAreSteps) (bare : BareIsEnough) (re
 -- ---- what is written
 
 pub call_gives : MadeIsDone → BareIsEnough → (s : VolumeStreams) (op : Op) (node : Node) (stamp : ℕ) (r : Record) (bits : List Bool) → IsBare (length bits) r stamp → (content : Option Content) (old new : List Touched) (result : Result (Unit {0}) WriteFault)
-    → OnOk result (IfSome content (λ c. PutsWrite c bits s node.number op node stamp (made_record r) old new)) → SaysWhy bits r op node result → IfSome content (WrittenFrom s op node stamp r bits old new result)
+    → OnOk result (IfSome content (λ c. PutsWrite c bits s node.number op node stamp (made_record r) old new)) → SaysWhy bits r op node result → IfSome content (WrittenFrom s op node stamp r (made_record r) bits old new result)
 call_gives done bare s op node stamp r bits of_file None old new result put says = tt
 call_gives done bare s op node stamp r bits of_file (Some c) old new (Ok u) put says =
     let is = done_is bits (more_of (growth_of bits r op node)) (row_of bits r op node) u says.short says.full in
-    λ g clusters v a asked none. subst (λ (l : List Bool). HasWritten c g clusters v op node.number stamp a (growth_of l r op a) new) (sym asked.of_volume)
-    (done c g clusters v s op node.number stamp a r put.change new (enough_now bare c g clusters v s op node a stamp r bits asked of_file is.0) (writes_now bare c g clusters v s op node a stamp r bits asked of_file old new none put))
+    λ g clusters v a asked none.
+    (let k = made_now bare c g clusters v s op node a stamp r bits asked of_file old new none put in
+    record {
+      written = done c g clusters v s op node.number stamp a r put.change new (enough_now bare c g clusters v s op node a stamp r r bits asked is.0) k;
+      change = put.change;
+      puts = k.puts;
+    })
 call_gives done bare s op node stamp r bits of_file (Some c) old new (Err why) put says = λ g clusters v a asked none. tt
 
 -- ---- by the record that was given
@@ -159,7 +127,7 @@ made_steps counted done steps bare ready content s op node stamp r q bits old ne
 
 pub made_gives : MadeIsCounted → MadeIsDone → BareIsEnough → (content : Option Content) (s : VolumeStreams) (op : Op) (node : Node) (stamp : ℕ) (r q : Record) (bits : List Bool) (old new : List Touched) (result : Result (Unit {0}) WriteFault) → IsBare (length bits) r stamp → q ≡ made_record r
     → OnOk result (IfSome content (λ c. PutsWrite c bits s node.number op node stamp q old new)) → (count_by not bits < more_of (growth_of bits q op node) → IsShortOf (count_by not bits) result)
-    → (more_of (growth_of bits q op node) ≤ count_by not bits → HasRow (row_of bits q op node) result) → IfSome content (WrittenFrom s op node stamp r bits old new result)
+    → (more_of (growth_of bits q op node) ≤ count_by not bits → HasRow (row_of bits q op node) result) → IfSome content (WrittenFrom s op node stamp r (made_record r) bits old new result)
 made_gives counted done bare content s op node stamp r q bits old new result of_file is put short full =
     call_gives done bare s op node stamp r bits of_file content old new result (subst (λ (y : Record). OnOk result (IfSome content (λ c. PutsWrite c bits s node.number op node stamp y old new))) is put)
     (says_why counted bits r q op node result of_file.none is short full)

@@ -101,13 +101,13 @@ module _ (counted : MadeIsCounted) (c : Content) (g : Geometry) (clusters : ℕ)
   base = bodies_of (touch_made c s n r)
 
   gets : GetsData c g clusters v s n a r
-  gets = gets_data counted c g clusters v s n a r (record { sized = k.sized; eight = k.eight; stands = k.stands; streams = k.streams; file = k.file; none = k.none; fits = k.fits; short = k.short; room = room })
+  gets = gets_data counted c g clusters v s n a r (record { sized = k.puts.sized; eight = k.puts.eight; stands = k.puts.stands; streams = k.puts.streams; file = k.puts.file; none = k.none; fits = k.fits; short = k.short; room = room })
 
   long : length (record_spelling q) ≡ 1024
   long = long_of (with_empty_data r) (but_room_fits (with_empty_data r) (counted.fits r k.fits k.short)) (ap (λ (b : Bool). needs b (written_bytes (with_empty_data r))) (le-leb (written_bytes (with_empty_data r)) 1024 room))
 
   pub kept_first : IsKept (touch_made c s n r)
-  kept_first = kept_both c 8 s.table s.mirror n (record_spelling q) [] (has_mirror s.mirror n) k.sized long nothing_kept
+  kept_first = kept_both c 8 s.table s.mirror n (record_spelling q) [] (has_mirror s.mirror n) k.puts.sized long nothing_kept
 
   pub are_first : AreBodies (bodies_of (touch_made c s n r))
   are_first = are_bodies (touch_made c s n r) kept_first.rises kept_first.whole
@@ -126,61 +126,61 @@ module _ (counted : MadeIsCounted) (c : Content) (g : Geometry) (clusters : ℕ)
   -- the same is written
   pub writes_then : (more : List Touched) → PutsChange (with_made c s n r) s n op a stamp (made_record r) what [] more → WritesFile (with_made c s n r) g clusters (made_volume v n r) s op n stamp a (made_record r) what more
   writes_then more put = record {
-    sized = sized_with c base k.sized;
-    eight = k.eight;
-    few = k.few;
+    sized = sized_with c base k.puts.sized;
+    eight = k.puts.eight;
+    few = k.puts.few;
     stands = gets.stands;
-    journal = gets.node.journal ∙ k.journal;
+    journal = gets.node.journal ∙ k.puts.journal;
     streams = gets.streams;
     file = gets.file;
-    changes = k.changes;
-    soon = k.soon;
-    has = k.has;
-    is = subst (λ (l : List Bool). IsChange (growth_of l q op a) q op a what) (sym gets.bits) k.is;
+    changes = k.puts.changes;
+    soon = k.puts.soon;
+    has = k.puts.has;
+    is = subst (λ (l : List Bool). IsChange (growth_of l q op a) q op a what) (sym gets.bits) k.puts.is;
     put = put;
   }
 
   stream : (growth_of (cluster_bits c v) r op a).stream ≡ data_of n
-  stream = (growth_is (cluster_bits c v) r op a).stream ∙ ap data_of (files_are.shows c v n r a k.file).number
+  stream = (growth_is (cluster_bits c v) r op a).stream ∙ ap data_of (files_are.shows c v n r a k.puts.file).number
 
   pub done_before : (more : List Touched) → AreAlike (bodies_of (touch_made c s n r)) new more → HasWritten (with_made c s n r) g clusters (made_volume v n r) op n stamp a (growth_of (cluster_bits (with_made c s n r) (made_volume v n r)) (made_record r) op a) more
       → HasWritten c g clusters v op n stamp a (growth_of (cluster_bits c v) r op a) new
   done_before more alike is =
-      written_before c g clusters v s op n stamp a r (growth_of (cluster_bits c v) r op a) new more k.sized k.eight k.stands k.streams.table k.journal k.changes (is_owned c g clusters v n r a k.stands k.file).user stream kept_first gets alike
+      written_before c g clusters v s op n stamp a r (growth_of (cluster_bits c v) r op a) new more k.puts.sized k.puts.eight k.puts.stands k.puts.streams.table k.puts.journal k.puts.changes (is_owned c g clusters v n r a k.puts.stands k.puts.file).user stream kept_first gets alike
       (subst (λ (y : Growth). HasWritten d g clusters x op n stamp a y more) growth_then is)
 
 -- ---- the two cases that come
 
 module _ (counted : MadeIsCounted) (c : Content) (g : Geometry) (clusters : ℕ) (v : Volume) (s : VolumeStreams) (op : Op) (n stamp : ℕ) (a : Node) (r : Record) (size : ℕ) (new : List Touched) (enough : HasClusters c v op a r) (k : WritesMade c g clusters v s op n stamp a r (change.Stays size) new) where
   abbrev p : Record
-  p = timed_record stamp (valued_record data_type [] (bytes_after op (with_bytes k.put.value a)) (made_record r))
+  p = timed_record stamp (valued_record data_type [] (bytes_after op (with_bytes k.puts.put.value a)) (made_record r))
 
   abbrev bytes : List ℕ
   bytes = record_spelling (written_record p)
 
   room_kept : written_bytes (with_empty_data r) ≤ 1024
-  room_kept = stays_room counted (growth_of (cluster_bits c v) (made_record r) op a) op a r k.none size k.is
+  room_kept = stays_room counted (growth_of (cluster_bits c v) (made_record r) op a) op a r k.none size k.puts.is
 
   abbrev more : List Touched
   more = touch_record (with_made c s n r) 8 s.table s.mirror n bytes []
 
   alike : AreAlike (bodies_of (touch_made c s n r)) new more
   alike =
-      subst (λ (t : List Touched). AreAlike (bodies_of (touch_made c s n r)) t more) (sym k.put.put.put)
-      (first_alike c (with_made c s n r) 8 s.table s.mirror n (record_spelling (made_record r)) bytes k.sized (long_of p k.put.put.fits k.put.put.room))
+      subst (λ (t : List Touched). AreAlike (bodies_of (touch_made c s n r)) t more) (sym k.puts.put.put.put)
+      (first_alike c (with_made c s n r) 8 s.table s.mirror n (record_spelling (made_record r)) bytes k.puts.sized (long_of p k.puts.put.put.fits k.puts.put.put.room))
 
   stays_done : ValuesAreDone → HasWritten c g clusters v op n stamp a (growth_of (cluster_bits c v) r op a) new
   stays_done values =
       done_before counted c g clusters v s op n stamp a r (change.Stays size) new enough k room_kept more alike
       (values (with_made c s n r) g clusters (made_volume v n r) s op n stamp a (made_record r) size more
-      (writes_then counted c g clusters v s op n stamp a r (change.Stays size) new enough k room_kept more (record { value = k.put.value; held = k.put.held; put = record { fits = k.put.put.fits; room = k.put.put.room; put = refl } })))
+      (writes_then counted c g clusters v s op n stamp a r (change.Stays size) new enough k room_kept more (record { value = k.puts.put.value; held = k.puts.put.held; put = record { fits = k.puts.put.put.fits; room = k.puts.put.put.room; put = refl } })))
 
 module _ (counted : MadeIsCounted) (c : Content) (g : Geometry) (clusters : ℕ) (v : Volume) (s : VolumeStreams) (op : Op) (n stamp : ℕ) (a : Node) (r : Record) (z : Resized) (new : List Touched) (enough : HasClusters c v op a r) (k : WritesMade c g clusters v s op n stamp a r (change.Leaves z) new) where
   abbrev new_value : List ℕ
-  new_value = bytes_after op (with_bytes k.put.value a)
+  new_value = bytes_after op (with_bytes k.puts.put.value a)
 
   room_left : written_bytes (with_empty_data r) ≤ 1024
-  room_left = leaves_room counted (growth_of (cluster_bits c v) (made_record r) op a) op a r k.none z k.is
+  room_left = leaves_room counted (growth_of (cluster_bits c v) (made_record r) op a) op a r k.none z k.puts.is
 
   abbrev put_base : List NewBody
   put_base = bodies_of (touch_made c s n r)
@@ -189,23 +189,23 @@ module _ (counted : MadeIsCounted) (c : Content) (g : Geometry) (clusters : ℕ)
   base_are = are_first counted c g clusters v s op n stamp a r (change.Leaves z) new enough k room_left
 
   begun : AreAlike put_base (touch_record c 8 s.table s.mirror n (resized_bytes z) []) (touch_record (with_made c s n r) 8 s.table s.mirror n (resized_bytes z) [])
-  begun = first_alike c (with_made c s n r) 8 s.table s.mirror n (record_spelling (made_record r)) (resized_bytes z) k.sized (long_of z.file k.put.moved.fits k.put.moved.room)
+  begun = first_alike c (with_made c s n r) 8 s.table s.mirror n (record_spelling (made_record r)) (resized_bytes z) k.puts.sized (long_of z.file k.puts.put.moved.fits k.puts.put.moved.room)
 
-  moved : (more : List Touched) × (PutsMoved (with_made c s n r) 8 s.bitmap s.table s.mirror n z new_value [] more × AreAlike put_base k.put.mid more)
-  moved = moved_alike c put_base k.sized base_are 8 s.bitmap s.table s.mirror n z new_value [] k.put.mid [] k.put.moved.put begun
+  moved : (more : List Touched) × (PutsMoved (with_made c s n r) 8 s.bitmap s.table s.mirror n z new_value [] more × AreAlike put_base k.puts.put.mid more)
+  moved = moved_alike c put_base k.puts.sized base_are 8 s.bitmap s.table s.mirror n z new_value [] k.puts.put.mid [] k.puts.put.moved.put begun
 
   timed : (more : List Touched) × (PutsFileRecord (with_made c s n r) s n (timed_record stamp (written_record z.file)) moved.0 more × AreAlike put_base new more)
-  timed = file_alike c put_base k.sized base_are s n (timed_record stamp (written_record z.file)) k.put.mid new moved.0 k.put.times moved.1.1
+  timed = file_alike c put_base k.puts.sized base_are s n (timed_record stamp (written_record z.file)) k.puts.put.mid new moved.0 k.puts.put.times moved.1.1
 
   leaves_done : LeavingIsDone → HasWritten c g clusters v op n stamp a (growth_of (cluster_bits c v) r op a) new
   leaves_done leaving =
       done_before counted c g clusters v s op n stamp a r (change.Leaves z) new enough k room_left timed.0 timed.1.1
       (leaving (with_made c s n r) g clusters (made_volume v n r) s op n stamp a (made_record r) z timed.0 (enough_then counted c g clusters v s op n stamp a r (change.Leaves z) new enough k room_left)
       (writes_then counted c g clusters v s op n stamp a r (change.Leaves z) new enough k room_left timed.0 (record {
-        value = k.put.value;
-        held = k.put.held;
+        value = k.puts.put.value;
+        held = k.puts.put.held;
         mid = moved.0;
-        moved = record { fits = k.put.moved.fits; room = k.put.moved.room; put = moved.1.0 };
+        moved = record { fits = k.puts.put.moved.fits; room = k.puts.put.moved.room; put = moved.1.0 };
         times = timed.1.0;
       })))
 
@@ -217,6 +217,6 @@ never_placed o e held placed = (let clash : Some (Held []) ≡ Some (Placed e) =
 pub made_done : MadeIsCounted → ValuesAreDone → LeavingIsDone → MadeIsDone
 made_done counted values leaving c g clusters v s op n stamp a r (change.Stays size) new enough k = stays_done counted c g clusters v s op n stamp a r size new enough k values
 made_done counted values leaving c g clusters v s op n stamp a r (change.Leaves z) new enough k = leaves_done counted c g clusters v s op n stamp a r z new enough k leaving
-made_done counted values leaving c g clusters v s op n stamp a r (change.Grows z) new enough k = absurd (never_placed (data_in (made_record r)) k.is.e (counted.holds r k.none) k.is.placed)
-made_done counted values leaving c g clusters v s op n stamp a r (change.Cut z) new enough k = absurd (never_placed (data_in (made_record r)) k.is.e (counted.holds r k.none) k.is.placed)
-made_done counted values leaving c g clusters v s op n stamp a r (change.Sized z) new enough k = absurd (never_placed (data_in (made_record r)) k.is.e (counted.holds r k.none) k.is.placed)
+made_done counted values leaving c g clusters v s op n stamp a r (change.Grows z) new enough k = absurd (never_placed (data_in (made_record r)) k.puts.is.e (counted.holds r k.none) k.puts.is.placed)
+made_done counted values leaving c g clusters v s op n stamp a r (change.Cut z) new enough k = absurd (never_placed (data_in (made_record r)) k.puts.is.e (counted.holds r k.none) k.puts.is.placed)
+made_done counted values leaving c g clusters v s op n stamp a r (change.Sized z) new enough k = absurd (never_placed (data_in (made_record r)) k.puts.is.e (counted.holds r k.none) k.puts.is.placed)

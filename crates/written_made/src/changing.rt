@@ -5,12 +5,11 @@ ghost use Rattle.space_model.specs.Choosing.{with_runs};
 ghost use Rattle.record_streams.specs.Fitting.{FitsButRoom};
 ghost use Rattle.step_model.specs.Placing.{more_of};
 ghost use Rattle.data_plan.specs.Changes.{growth_of};
-ghost use Rattle.made_data.specs.Made.{made_record, has_data};
+ghost use Rattle.made_data.specs.Made.{made_record, has_data, record_with_data};
 ghost use Rattle.file_writes.specs.Faults.{write_cause, IsShortOf, StaysWhereRefused};
 ghost use Rattle.file_writes.specs.Writing.{MayWrite};
 ghost use Rattle.file_changes.specs.Calls.{StepsFrom};
 ghost use Rattle.file_changes.specs.Written.{WrittenFrom};
-ghost use Rattle.made_data.specs.Made.{record_with_data};
 
 use crate::laws::{made_is_done, made_is_step};
 use block_view::View;
@@ -47,7 +46,7 @@ fn change_made<V: View, B: FreeBits>(
     requires made { made.now ≡ made_record file.now }
     requires may { MayWrite (length (B.bits bits.old)) node.now.number streams.now (made_record file.now) op.now node.now }
     ensures step { IfSome (V.content draft.old.view.now) (StepsFrom streams.now op.now node.now stamp file.now (B.bits bits.old) draft.old.touched.items draft.new.touched.items result) }
-    ensures written { IfSome (V.content draft.old.view.now) (WrittenFrom streams.now op.now node.now stamp file.now (B.bits bits.old) draft.old.touched.items draft.new.touched.items result) }
+    ensures written { IfSome (V.content draft.old.view.now) (WrittenFrom streams.now op.now node.now stamp file.now (made_record file.now) (B.bits bits.old) draft.old.touched.items draft.new.touched.items result) }
     ensures bits { OnOk result (B.bits bits.new ≡ with_runs (growth_of (B.bits bits.old) file.now op.now node.now).runs (B.bits bits.old)) }
     ensures short { count_by not (B.bits bits.old) < more_of (growth_of (B.bits bits.old) file.now op.now node.now) → IsShortOf (count_by not (B.bits bits.old)) result }
     ensures refused { IfErr result (StaysWhereRefused draft.old.touched.items draft.new.touched.items) }
@@ -82,8 +81,8 @@ fn change_made<V: View, B: FreeBits>(
 /// [`make_data`] gives. `file` is the record of the node, as it was read, which has a spelling but for
 /// its room and fewer than 1,024 attributes, and `bits` are those of the volume's clusters. Where the
 /// view's content is a state, the draft stands for the content that the step of the operation leaves,
-/// and what it put leads there as the bodies of a plan do: the file has unnamed data then, in its
-/// record or in clusters.
+/// and what it put is what comes of the empty data, and leads there as the bodies of a plan do: the
+/// file has unnamed data then, in its record or in clusters.
 pub fn change_without_data<V: View, B: FreeBits>(
     draft: &mut Draft<'_, V>,
     alloc: Global,
@@ -101,7 +100,7 @@ pub fn change_without_data<V: View, B: FreeBits>(
     requires attrs { length file.now.attrs < 2 ^ 10 }
     requires may { MayWrite (length (B.bits bits.old)) node.now.number streams.now (made_record file.now) op.now node.now }
     ensures step { IfSome (V.content draft.old.view.now) (StepsFrom streams.now op.now node.now stamp file.now (B.bits bits.old) draft.old.touched.items draft.new.touched.items result) }
-    ensures written { IfSome (V.content draft.old.view.now) (WrittenFrom streams.now op.now node.now stamp file.now (B.bits bits.old) draft.old.touched.items draft.new.touched.items result) }
+    ensures written { IfSome (V.content draft.old.view.now) (WrittenFrom streams.now op.now node.now stamp file.now (made_record file.now) (B.bits bits.old) draft.old.touched.items draft.new.touched.items result) }
     ensures bits { OnOk result (B.bits bits.new ≡ with_runs (growth_of (B.bits bits.old) file.now op.now node.now).runs (B.bits bits.old)) }
     ensures short { count_by not (B.bits bits.old) < more_of (growth_of (B.bits bits.old) file.now op.now node.now) → IsShortOf (count_by not (B.bits bits.old)) result }
     ensures refused { IfErr result (StaysWhereRefused draft.old.touched.items draft.new.touched.items) }
@@ -139,7 +138,7 @@ pub fn change_any_file<V: View, B: FreeBits>(
     requires attrs { length file.now.attrs < 2 ^ 10 }
     requires may { MayWrite (length (B.bits bits.old)) node.now.number streams.now (record_with_data file.now) op.now node.now }
     ensures step { IfSome (V.content draft.old.view.now) (StepsFrom streams.now op.now node.now stamp file.now (B.bits bits.old) draft.old.touched.items draft.new.touched.items result) }
-    ensures written { IfSome (V.content draft.old.view.now) (WrittenFrom streams.now op.now node.now stamp file.now (B.bits bits.old) draft.old.touched.items draft.new.touched.items result) }
+    ensures written { IfSome (V.content draft.old.view.now) (WrittenFrom streams.now op.now node.now stamp file.now (record_with_data file.now) (B.bits bits.old) draft.old.touched.items draft.new.touched.items result) }
     ensures bits { OnOk result (B.bits bits.new ≡ with_runs (growth_of (B.bits bits.old) file.now op.now node.now).runs (B.bits bits.old)) }
     ensures short { count_by not (B.bits bits.old) < more_of (growth_of (B.bits bits.old) file.now op.now node.now) → IsShortOf (count_by not (B.bits bits.old)) result }
     ensures refused { IfErr result (StaysWhereRefused draft.old.touched.items draft.new.touched.items) }
