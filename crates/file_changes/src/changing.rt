@@ -1,13 +1,9 @@
 //! A file that is written or cut.
-ghost use Rattle.std.specs.Prelude.{◌≡◌, ◌<◌, IfErr, IfSome, OnOk, not, count_by, length};
+ghost use Rattle.std.specs.Prelude.{◌≡◌, length};
 ghost use Rattle.block_view.specs.Views.{AsksView};
-ghost use Rattle.space_model.specs.Choosing.{with_runs};
-ghost use Rattle.step_model.specs.Placing.{more_of};
-ghost use Rattle.data_plan.specs.Changes.{growth_of};
-ghost use Rattle.file_writes.specs.Faults.{write_cause, IsShortOf, StaysWhereRefused};
+ghost use Rattle.file_writes.specs.Faults.{write_cause};
 ghost use Rattle.file_writes.specs.Writing.{MayWrite};
-ghost use Rattle.file_changes.specs.Calls.{IsAsked, StepsTo, StepsFrom};
-ghost use Rattle.file_changes.specs.Written.{WrittenFrom};
+ghost use Rattle.file_changes.specs.Changes.{ChangesFile};
 
 use crate::laws::{writes_are_done, writes_are_steps};
 use block_view::View;
@@ -46,11 +42,7 @@ pub fn change_file<V: View, B: FreeBits>(
 ) -> Result<(), WriteFault>
     requires per { per ≡ 8 }
     requires may { MayWrite (length (B.bits bits.old)) node.now.number streams.now file.now op.now node.now }
-    ensures step { IfSome (V.content draft.old.view.now) (StepsFrom streams.now op.now node.now stamp file.now (B.bits bits.old) draft.old.touched.items draft.new.touched.items result) }
-    ensures written { IfSome (V.content draft.old.view.now) (WrittenFrom streams.now op.now node.now stamp file.now file.now (B.bits bits.old) draft.old.touched.items draft.new.touched.items result) }
-    ensures bits { OnOk result (B.bits bits.new ≡ with_runs (growth_of (B.bits bits.old) file.now op.now node.now).runs (B.bits bits.old)) }
-    ensures short { count_by not (B.bits bits.old) < more_of (growth_of (B.bits bits.old) file.now op.now node.now) → IsShortOf (count_by not (B.bits bits.old)) result }
-    ensures refused { IfErr result (StaysWhereRefused draft.old.touched.items draft.new.touched.items) }
+    ensures changes { ChangesFile (V.content draft.old.view.now) streams.now op.now node.now stamp file.now file.now (B.bits bits.old) (B.bits bits.new) draft.old.touched.items draft.new.touched.items result }
     ensures asks { AsksView V.content V.kept V.faults write_cause draft.old.view.now draft.new.view.now result }
     ensures reference { draft.new.view.ghost_name ≡ draft.old.view.ghost_name }
 {

@@ -1,6 +1,6 @@
 -- A call that writes or cuts a file without unnamed data takes the step of the operation, and has written the file.
-use Rattle.std.proofs.Common.{◌≡◌, ℕ, ◌<◌, ◌≤◌, ◌^◌, Bool, false, List, [], length, Option, Some, None, Result, Ok, Err, refl, sym, subst, ◌∙◌, inl, inr}
-use Rattle.std.specs.Prelude.{IfSome, OnOk, not, count_by}
+use Rattle.std.proofs.Common.{◌≡◌, ℕ, ◌<◌, ◌≤◌, ◌^◌, Bool, false, List, [], length, Option, Some, None, Result, Ok, Err, refl, sym, ap, subst, ◌∙◌, inl, inr}
+use Rattle.std.specs.Prelude.{IfSome, OnOk, IfErr, not, count_by}
 use Rattle.std.proofs.lemmas.Bool.{cases_lt}
 use Rattle.disk_model.specs.Content.{Content}
 use Rattle.record_model.specs.Pairs.{cluster_limit}
@@ -12,6 +12,7 @@ use Rattle.tree_model.specs.declared.script.Op.{Op}
 use Rattle.tree_model.specs.declared.reply.Reply.{Reply}
 use Rattle.tree_model.specs.declared.reply.Reply.TheVariants as reply
 use Rattle.plan_draft.specs.declared.touched.Touched.{Touched}
+use Rattle.space_model.specs.Choosing.{with_runs}
 use Rattle.record_streams.specs.Fitting.{FitsButRoom}
 use Rattle.step_model.specs.Placing.{Growth, more_of}
 use Rattle.data_plan.specs.Changes.{HasData, growth_of, row_of}
@@ -20,12 +21,13 @@ use Rattle.made_data.specs.Made.{made_record, has_data}
 use Rattle.file_puts.specs.declared.streams.VolumeStreams.{VolumeStreams}
 use Rattle.file_writes.specs.declared.fault.WriteFault.{WriteFault}
 use Rattle.file_writes.specs.declared.fault.WriteFault.TheVariants.{Full, Short, Fault, Memory}
-use Rattle.file_writes.specs.Faults.{IsShortOf, HasRow}
+use Rattle.file_writes.specs.Faults.{IsShortOf, HasRow, StaysWhereRefused}
 use Rattle.file_writes.specs.Writing.{PutsWrite}
 use Rattle.change_steps.specs.Changes.{ChangesAreSteps}
 use Rattle.change_steps.specs.Ready.{BareIsEnough, FilesAreReady}
 use Rattle.file_changes.specs.Calls.{IsAsked, StepsFrom}
 use Rattle.file_changes.specs.Written.{WrittenFrom}
+use Rattle.file_changes.specs.Changes.{ChangesFile}
 use Rattle.file_changes.proofs.Writing.{row_now, enough_now, writes_now}
 use Rattle.written_made.specs.Made.{WritesMade, MadeIsDone}
 use Rattle.written_made.specs.Steps.{MadeIsStep}
@@ -97,7 +99,7 @@ module _ (done : MadeIsStep) (steps : ChangesAreSteps) (bare : BareIsEnough) (re
 
 -- ---- what is written
 
-pub call_gives : MadeIsDone → BareIsEnough → (s : VolumeStreams) (op : Op) (node : Node) (stamp : ℕ) (r : Record) (bits : List Bool) → IsBare (length bits) r stamp → (content : Option Content) (old new : List Touched) (result : Result (Unit {0}) WriteFault)
+call_gives : MadeIsDone → BareIsEnough → (s : VolumeStreams) (op : Op) (node : Node) (stamp : ℕ) (r : Record) (bits : List Bool) → IsBare (length bits) r stamp → (content : Option Content) (old new : List Touched) (result : Result (Unit {0}) WriteFault)
     → OnOk result (IfSome content (λ c. PutsWrite c bits s node.number op node stamp (made_record r) old new)) → SaysWhy bits r op node result → IfSome content (WrittenFrom s op node stamp r (made_record r) bits old new result)
 call_gives done bare s op node stamp r bits of_file None old new result put says = tt
 call_gives done bare s op node stamp r bits of_file (Some c) old new (Ok u) put says =
@@ -118,16 +120,17 @@ says_why : MadeIsCounted → (bits : List Bool) (r q : Record) (op : Op) (node :
     → (more_of (growth_of bits q op node) ≤ count_by not bits → HasRow (row_of bits q op node) result) → SaysWhy bits r op node result
 says_why counted bits r q op node result none is short full = same_reasons counted bits r op node result none (subst (λ (y : Record). SaysWhy bits y op node result) is (record { short = short; full = full }))
 
-pub made_steps : MadeIsCounted → MadeIsStep → ChangesAreSteps → BareIsEnough → FilesAreReady → (content : Option Content) (s : VolumeStreams) (op : Op) (node : Node) (stamp : ℕ) (r q : Record) (bits : List Bool) (old new : List Touched) (result : Result (Unit {0}) WriteFault) → IsBare (length bits) r stamp → q ≡ made_record r
-    → OnOk result (IfSome content (λ c. PutsWrite c bits s node.number op node stamp q old new)) → (count_by not bits < more_of (growth_of bits q op node) → IsShortOf (count_by not bits) result)
-    → (more_of (growth_of bits q op node) ≤ count_by not bits → HasRow (row_of bits q op node) result) → IfSome content (StepsFrom s op node stamp r bits old new result)
-made_steps counted done steps bare ready content s op node stamp r q bits old new result of_file is put short full =
-    call_steps done steps bare ready s op node stamp r bits of_file content old new result (subst (λ (y : Record). OnOk result (IfSome content (λ c. PutsWrite c bits s node.number op node stamp y old new))) is put)
-    (says_why counted bits r q op node result of_file.none is short full)
-
-pub made_gives : MadeIsCounted → MadeIsDone → BareIsEnough → (content : Option Content) (s : VolumeStreams) (op : Op) (node : Node) (stamp : ℕ) (r q : Record) (bits : List Bool) (old new : List Touched) (result : Result (Unit {0}) WriteFault) → IsBare (length bits) r stamp → q ≡ made_record r
-    → OnOk result (IfSome content (λ c. PutsWrite c bits s node.number op node stamp q old new)) → (count_by not bits < more_of (growth_of bits q op node) → IsShortOf (count_by not bits) result)
-    → (more_of (growth_of bits q op node) ≤ count_by not bits → HasRow (row_of bits q op node) result) → IfSome content (WrittenFrom s op node stamp r (made_record r) bits old new result)
-made_gives counted done bare content s op node stamp r q bits old new result of_file is put short full =
-    call_gives done bare s op node stamp r bits of_file content old new result (subst (λ (y : Record). OnOk result (IfSome content (λ c. PutsWrite c bits s node.number op node stamp y old new))) is put)
-    (says_why counted bits r q op node result of_file.none is short full)
+pub made_changes : MadeIsCounted → MadeIsStep → MadeIsDone → ChangesAreSteps → BareIsEnough → FilesAreReady → (content : Option Content) (s : VolumeStreams) (op : Op) (node : Node) (stamp : ℕ) (r q : Record) (bits left : List Bool) (old new : List Touched) (result : Result (Unit {0}) WriteFault) → IsBare (length bits) r stamp → q ≡ made_record r
+    → OnOk result (IfSome content (λ c. PutsWrite c bits s node.number op node stamp q old new)) → OnOk result (left ≡ with_runs (growth_of bits q op node).runs bits) → (count_by not bits < more_of (growth_of bits q op node) → IsShortOf (count_by not bits) result)
+    → (more_of (growth_of bits q op node) ≤ count_by not bits → HasRow (row_of bits q op node) result) → IfErr result (StaysWhereRefused old new) → ChangesFile content s op node stamp r (made_record r) bits left old new result
+made_changes counted step done steps bare ready content s op node stamp r q bits left old new result of_file is put taken short full refused =
+    let puts = subst (λ (y : Record). OnOk result (IfSome content (λ c. PutsWrite c bits s node.number op node stamp y old new))) is put in
+    let says = says_why counted bits r q op node result of_file.none is short full in
+    let same = ap (λ (y : Record). growth_of bits y op node) is ∙ counted.growth bits r op node of_file.none in
+    record {
+      step = call_steps step steps bare ready s op node stamp r bits of_file content old new result puts says;
+      written = call_gives done bare s op node stamp r bits of_file content old new result puts says;
+      bits = subst (λ (x : Growth). OnOk result (left ≡ with_runs x.runs bits)) same taken;
+      short = says.short;
+      refused = refused;
+    }

@@ -1,15 +1,11 @@
 //! A file without unnamed data that is written or cut.
-ghost use Rattle.std.specs.Prelude.{◌≡◌, ◌<◌, ◌^◌, false, IfErr, IfSome, OnOk, not, count_by, length};
+ghost use Rattle.std.specs.Prelude.{◌≡◌, ◌<◌, ◌^◌, false, length};
 ghost use Rattle.block_view.specs.Views.{AsksView};
-ghost use Rattle.space_model.specs.Choosing.{with_runs};
 ghost use Rattle.record_streams.specs.Fitting.{FitsButRoom};
-ghost use Rattle.step_model.specs.Placing.{more_of};
-ghost use Rattle.data_plan.specs.Changes.{growth_of};
 ghost use Rattle.made_data.specs.Made.{made_record, has_data, record_with_data};
-ghost use Rattle.file_writes.specs.Faults.{write_cause, IsShortOf, StaysWhereRefused};
+ghost use Rattle.file_writes.specs.Faults.{write_cause};
 ghost use Rattle.file_writes.specs.Writing.{MayWrite};
-ghost use Rattle.file_changes.specs.Calls.{StepsFrom};
-ghost use Rattle.file_changes.specs.Written.{WrittenFrom};
+ghost use Rattle.file_changes.specs.Changes.{ChangesFile};
 
 use crate::laws::{made_is_done, made_is_step};
 use block_view::View;
@@ -45,11 +41,7 @@ fn change_made<V: View, B: FreeBits>(
     requires attrs { length file.now.attrs < 2 ^ 10 }
     requires made { made.now ≡ made_record file.now }
     requires may { MayWrite (length (B.bits bits.old)) node.now.number streams.now (made_record file.now) op.now node.now }
-    ensures step { IfSome (V.content draft.old.view.now) (StepsFrom streams.now op.now node.now stamp file.now (B.bits bits.old) draft.old.touched.items draft.new.touched.items result) }
-    ensures written { IfSome (V.content draft.old.view.now) (WrittenFrom streams.now op.now node.now stamp file.now (made_record file.now) (B.bits bits.old) draft.old.touched.items draft.new.touched.items result) }
-    ensures bits { OnOk result (B.bits bits.new ≡ with_runs (growth_of (B.bits bits.old) file.now op.now node.now).runs (B.bits bits.old)) }
-    ensures short { count_by not (B.bits bits.old) < more_of (growth_of (B.bits bits.old) file.now op.now node.now) → IsShortOf (count_by not (B.bits bits.old)) result }
-    ensures refused { IfErr result (StaysWhereRefused draft.old.touched.items draft.new.touched.items) }
+    ensures changes { ChangesFile (V.content draft.old.view.now) streams.now op.now node.now stamp file.now (made_record file.now) (B.bits bits.old) (B.bits bits.new) draft.old.touched.items draft.new.touched.items result }
     ensures asks { AsksView V.content V.kept V.faults write_cause draft.old.view.now draft.new.view.now result }
     ensures reference { draft.new.view.ghost_name ≡ draft.old.view.ghost_name }
 {
@@ -99,11 +91,7 @@ pub fn change_without_data<V: View, B: FreeBits>(
     requires fits { FitsButRoom file.now }
     requires attrs { length file.now.attrs < 2 ^ 10 }
     requires may { MayWrite (length (B.bits bits.old)) node.now.number streams.now (made_record file.now) op.now node.now }
-    ensures step { IfSome (V.content draft.old.view.now) (StepsFrom streams.now op.now node.now stamp file.now (B.bits bits.old) draft.old.touched.items draft.new.touched.items result) }
-    ensures written { IfSome (V.content draft.old.view.now) (WrittenFrom streams.now op.now node.now stamp file.now (made_record file.now) (B.bits bits.old) draft.old.touched.items draft.new.touched.items result) }
-    ensures bits { OnOk result (B.bits bits.new ≡ with_runs (growth_of (B.bits bits.old) file.now op.now node.now).runs (B.bits bits.old)) }
-    ensures short { count_by not (B.bits bits.old) < more_of (growth_of (B.bits bits.old) file.now op.now node.now) → IsShortOf (count_by not (B.bits bits.old)) result }
-    ensures refused { IfErr result (StaysWhereRefused draft.old.touched.items draft.new.touched.items) }
+    ensures changes { ChangesFile (V.content draft.old.view.now) streams.now op.now node.now stamp file.now (made_record file.now) (B.bits bits.old) (B.bits bits.new) draft.old.touched.items draft.new.touched.items result }
     ensures asks { AsksView V.content V.kept V.faults write_cause draft.old.view.now draft.new.view.now result }
     ensures reference { draft.new.view.ghost_name ≡ draft.old.view.ghost_name }
 {
@@ -137,11 +125,7 @@ pub fn change_any_file<V: View, B: FreeBits>(
     requires fits { FitsButRoom file.now }
     requires attrs { length file.now.attrs < 2 ^ 10 }
     requires may { MayWrite (length (B.bits bits.old)) node.now.number streams.now (record_with_data file.now) op.now node.now }
-    ensures step { IfSome (V.content draft.old.view.now) (StepsFrom streams.now op.now node.now stamp file.now (B.bits bits.old) draft.old.touched.items draft.new.touched.items result) }
-    ensures written { IfSome (V.content draft.old.view.now) (WrittenFrom streams.now op.now node.now stamp file.now (record_with_data file.now) (B.bits bits.old) draft.old.touched.items draft.new.touched.items result) }
-    ensures bits { OnOk result (B.bits bits.new ≡ with_runs (growth_of (B.bits bits.old) file.now op.now node.now).runs (B.bits bits.old)) }
-    ensures short { count_by not (B.bits bits.old) < more_of (growth_of (B.bits bits.old) file.now op.now node.now) → IsShortOf (count_by not (B.bits bits.old)) result }
-    ensures refused { IfErr result (StaysWhereRefused draft.old.touched.items draft.new.touched.items) }
+    ensures changes { ChangesFile (V.content draft.old.view.now) streams.now op.now node.now stamp file.now (record_with_data file.now) (B.bits bits.old) (B.bits bits.new) draft.old.touched.items draft.new.touched.items result }
     ensures asks { AsksView V.content V.kept V.faults write_cause draft.old.view.now draft.new.view.now result }
     ensures reference { draft.new.view.ghost_name ≡ draft.old.view.ghost_name }
 {

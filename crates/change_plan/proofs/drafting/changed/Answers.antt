@@ -9,9 +9,9 @@ returns-then-not-branch-clause-known g c =
 pub returns-clause-plans : goal.returns-clause-plans
 returns-clause-plans g c =
     plans_asked c.changes_are_steps.ensures (g.V.View.content c.args.draft.now.view.now) c.args.streams.now c.args.op.now c.args.node.now c.args.stamp c.args.file.now (g.B.FreeBits.bits c.args.bits.now) c.args.draft.now.touched.items c.change_any_file-written.new.draft.touched.items c.change_any_file-written.result c.ended.result
-    c.requires.none c.change_any_file-written.ensures.step c.change_any_file-written.ensures.written (rw c.change_any_file-written.ensures.asks.same at c.ended.ensures)
+    c.requires.none c.change_any_file-written.ensures.changes.step c.change_any_file-written.ensures.changes.written (rw c.change_any_file-written.ensures.asks.same at c.ended.ensures)
 
 pub returns-clause-known : goal.returns-clause-known
 returns-clause-known g c =
     ends_known_asked (g.V.View.content c.args.draft.now.view.now) c.args.streams.now c.args.op.now c.args.node.now c.args.stamp c.args.file.now (g.B.FreeBits.bits c.args.bits.now) c.args.draft.now.touched.items c.change_any_file-written.new.draft.touched.items c.change_any_file-written.result c.ended.result
-    c.requires.none c.change_any_file-written.ensures.step (rw c.change_any_file-written.ensures.asks.same at c.ended.ensures)
+    c.requires.none c.change_any_file-written.ensures.changes.step (rw c.change_any_file-written.ensures.asks.same at c.ended.ensures)
