@@ -27,7 +27,7 @@ use Rattle.image_open.specs.Volumes.{data_of}
 use Rattle.image_open.specs.Writing.{OpenedToWrite, opened_to_write_in}
 use Rattle.image_read.specs.Errors.{broken_refusal}
 use Rattle.image_read.specs.Checks.{volume_on, has_version, tree_on}
-use Rattle.volume_mount.specs.Mounts.{Said, unless_said, is_there, begun_sectors, or_all, front_sectors, lying_pages, lies_whole, pages_needed, whole_pages, has_pages, has_no_journal, unshadowed, placed, ruled, settled, paged, unjournaled, tried, loaded_on, MountedVolume, content_behind, mounted_as, mounted_by, mounted_in}
+use Rattle.volume_mount.specs.Mounts.{Said, unless_said, is_there, begun_sectors, or_all, front_sectors, lying_pages, pages_lie, holds_boot, has_single_lists, may_be_changed, pages_needed, whole_pages, has_pages, has_no_journal, unshadowed, placed, ruled, settled, paged, unjournaled, tried, loaded_on, MountedVolume, content_behind, mounted_as, mounted_by, mounted_in}
 use Rattle.volume_shadows.specs.Live.{least_live}
 use Rattle.mount_laws.specs.Laws.{MountedOnRing, LiesByRecord, MountedByRecord}
 use Rattle.mount_laws.proofs.Opened.{OpenedParts, opened_parts, IsWhole, its_place, lies_in_ring}
@@ -80,9 +80,11 @@ module _ (c : Content) (sectors : ℕ) (o : OpenedToWrite) (v : Volume) (small :
   unfolding has_pages
   as_pages is = leb-true (pages_needed o.place) (whole_pages o.place) (needed _ _ tt is)
 
-  as_lying : (w : Volume) → lies_whole o.place w ≡ Ok tt → o.place.pages ≤ lying_pages o.place w
-  unfolding lies_whole
-  as_lying w is = leb-true o.place.pages (lying_pages o.place w) (needed _ _ tt is)
+  as_lying : (w : Volume) → may_be_changed o.place w ≡ Ok tt → o.place.pages ≤ lying_pages o.place w
+  unfolding may_be_changed pages_lie
+  as_lying w is =
+      let lying = steps_from_ok (pages_lie o.place w) (λ _. holds_boot w >>= λ _. has_single_lists w) tt is in
+      leb-true o.place.pages (lying_pages o.place w) (needed _ _ lying.0 lying.1)
 
   whole : (w : Volume) → pages_needed o.place ≤ whole_pages o.place → o.place.pages ≤ lying_pages o.place w → (IsWhole o.place) × ((f : Record) × (file_in w log_file ≡ Some f))
   whole w enough lying =
@@ -126,12 +128,12 @@ module _ (c : Content) (sectors : ℕ) (o : OpenedToWrite) (v : Volume) (small :
       let journal = steps_from_ok (has_no_journal (upper_of after w) w) (λ _. paged said o.place after w) v version.2 in
       let pages = steps_from_ok (has_pages o.place) (λ _. settled said o.place after w) v journal.2 in
       let rules = steps_from_ok (ruled after w) (placed said o.place) v pages.2 in
-      let lying = steps_from_ok (lies_whole o.place rules.0) (λ _. unshadowed said rules.0) v rules.2 in
+      let lying = steps_from_ok (may_be_changed o.place rules.0) (λ _. unshadowed said rules.0) v rules.2 in
       let kept = unbroken w rules.0 rules.1 in
       record {
         same = kept.1 ∙ same_unless (least_live said rules.0) rules.0 v lying.2;
         state = stands w (unrefused map_refusal (volume_of after o.geometry o.total) w loaded) kept.0;
-        its = whole w (as_pages (unit_is (has_pages o.place) pages.0 pages.1)) (subst (λ (x : Volume). o.place.pages ≤ lying_pages o.place x) (sym kept.1) (as_lying rules.0 (unit_is (lies_whole o.place rules.0) lying.0 lying.1)));
+        its = whole w (as_pages (unit_is (has_pages o.place) pages.0 pages.1)) (subst (λ (x : Volume). o.place.pages ≤ lying_pages o.place x) (sym kept.1) (as_lying rules.0 (unit_is (may_be_changed o.place rules.0) lying.0 lying.1)));
       }
 
   pub tried_ring : (w : Volume) → volume_on after o.geometry o.total ≡ Ok w → tried said o.place after w ≡ Ok v → IsRingPlace o.place
