@@ -1,4 +1,4 @@
--- A volume in memory: its store, and what it keeps of the state that the store shows.
+-- What a volume keeps in memory of the state that its store shows.
 use Rattle.std.specs.Prelude.{◌≡◌, ℕ, ◌^◌, ◌≤◌, false, List, Option, IfSome}
 use Rattle.disk_model.specs.declared.block.Block.{Block}
 use Rattle.disk_model.specs.Content.{Content}
@@ -12,15 +12,8 @@ use Rattle.store_claims.specs.Windows.{StoreWindow}
 use Rattle.txn_model.specs.Values.{StoreFacts}
 use Rattle.txn_laws.specs.Windows.{HasWindow}
 use Rattle.txn_state.specs.States.{StateOf, facts_of}
-use Rattle.txn_core.specs.Seen.{Seen}
 use Rattle.txn_core.specs.Views.{present_on, present_content}
 use Rattle.turn_laws.specs.Sparing.{IsSpared}
-
--- Its store, the parts of its map, and its table of upper-case units.
-pub record VolumeOf (D : Type 0) : Type 0 where
-  pub store : Seen D
-  pub map : MapParts
-  pub upper : List ℕ
 
 -- where the file table of a map's volume is found
 abbrev pub geometry_of : MapParts → Geometry

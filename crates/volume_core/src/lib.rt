@@ -1,5 +1,5 @@
-//! A volume on a device, of which the map in memory follows the content: lists of changes that lead
-//! from a state to a state go through its store, each list as one transaction.
+//! Lists of changes that lead from a state to a state, through a store of a device's blocks that shows
+//! a state, of which the map in memory follows the content: each list as one transaction.
 //!
 //! The contract: the present content of the store is a state, of which the map is the map. After a
 //! call that answers `Ok` it is the content after the changes, with one commit more; after any error
@@ -7,18 +7,16 @@
 //! written out, leaves them too, whatever it answers: it takes no body from which the state is read.
 #![tactic(auto)]
 
-mod closing;
 mod fault;
 mod logging;
 mod preparing;
 mod putting;
 mod rooms;
 mod turning;
-mod volume;
 
 pub use disk_model::Change;
 pub use fault::PutFault;
 pub use flush_policy::StoreStep;
 pub use host_base::Failed;
-pub use txn_close::CloseFault;
-pub use volume::Volume;
+pub use putting::put_changes;
+pub use turning::turn_store;

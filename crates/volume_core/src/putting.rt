@@ -20,7 +20,6 @@ use crate::fault::PutFault;
 use crate::logging::log_changes;
 use crate::preparing::prepare_changes;
 use crate::rooms::find_room;
-use crate::volume::Volume;
 use disk_model::Change;
 use map_change::{LiveMap, MapChange, apply};
 use sector_device::Device;
@@ -155,8 +154,21 @@ fn put_some<D: Device>(
     }
 }
 
-// Puts changes through a store that shows a state with this map and this table of upper-case units.
-fn put_list<D: Device>(
+/// Puts changes through a store that shows a state, with no transaction open, of which this is the
+/// map, and this the table of upper-case units: as one transaction, which leads to another state. No
+/// change begins none.
+///
+/// - [`PutFault::NeedsRoom`]: the changes and their commit begin more pages of the log than are
+///   free; it comes exactly then, unless memory is wanted before.
+/// - [`PutFault::Fault`]: the device failed.
+/// - [`PutFault::Memory`]: want of memory.
+/// - [`PutFault::Broken`]: the content after the changes is no volume's; it comes only where what
+///   the device gives isn't known.
+///
+/// After each of them content, map and commits are as before. The device is only read: for the map,
+/// as [`map_change::prepare`] does it, and once for each change whose block the store doesn't keep.
+/// Time and memory are near-linear in the changes, beside those of the map.
+pub fn put_changes<D: Device>(
     store: &mut Store<D>,
     live: &mut LiveMap,
     upper: &Upcase,
@@ -182,34 +194,4 @@ fn put_list<D: Device>(
         return Ok(());
     }
     put_some(store, live, alloc, changes)
-}
-
-impl<D: Device> Volume<D> {
-    /// Puts changes, which lead from the state of the volume to another one, as one transaction. No
-    /// change begins none.
-    ///
-    /// - [`PutFault::NeedsRoom`]: the changes and their commit begin more pages of the log than are
-    ///   free; it comes exactly then, unless memory is wanted before.
-    /// - [`PutFault::Fault`]: the device failed.
-    /// - [`PutFault::Memory`]: want of memory.
-    /// - [`PutFault::Broken`]: the content after the changes is no volume's; it comes only where
-    ///   what the device gives isn't known.
-    ///
-    /// After each of them content, map and commits are as before. The device is only read: for the
-    /// map, as [`map_change::prepare`] does it, and once for each change whose block the store
-    /// doesn't keep. Time and memory are near-linear in the changes, beside those of the map.
-    pub fn put(&mut self, alloc: Global, changes: &[Change]) -> Result<(), PutFault>
-        requires number { MayNumber (facts_of self.old.store.state) }
-        requires each { All (MayLog (facts_of self.old.store.state)) changes.now }
-        requires apart { AreApart changes.now }
-        requires leads { IfSome (present_content (D.gives self.old.store.device) self.old.store.state) (LeadsOn self.old.map self.old.upper changes.now) }
-        ensures put { HasPut D.gives D.changes_of result changes.now self.old.store self.new.store self.old.map self.new.map }
-        ensures upper { self.new.upper ≡ self.old.upper }
-        ensures sectors { D.sector_count self.new.store.device ≡ D.sector_count self.old.store.device }
-        ensures answer { 0 < length changes.now → GivesOrFails (λ u. u) room_cause result (room_in (facts_of self.old.store.state) changes.now) }
-        ensures broken { IsUnknownWhereBroken result (D.gives self.old.store.device) }
-        ensures causes { HasPutCauses D.fault_count D.moment_of result self.old.store self.new.store }
-    {
-        put_list(&mut self.store, &mut self.live, &self.upper, alloc, changes)
-    }
 }

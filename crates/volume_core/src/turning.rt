@@ -9,7 +9,6 @@ ghost use Rattle.txn_core.specs.Views.{present_content};
 ghost use Rattle.volume_core.specs.Turns.{AgreeWhereKnown, TurnsVolume};
 ghost use Rattle.volume_core.specs.Volumes.{HoldsState};
 
-use crate::volume::Volume;
 use flush_policy::StoreStep;
 use host_base::Failed;
 use map_change::LiveMap;
@@ -19,8 +18,15 @@ use turn_laws::steps_spare;
 use txn_core::Store;
 use upcase_order::Upcase;
 
-// Takes a step of a store that shows a state with this map and this table of upper-case units.
-fn turn_store<D: Device>(
+/// Takes a step of a store that shows a state with this map and this table of upper-case units, as
+/// [`flush_policy::next_step`] chooses it by the store's facts: a page of the log is sealed or
+/// written, the device is synced, a block is written out, or a checkpoint begins or ends.
+///
+/// The error is a failure of the device: then the step wasn't taken, and may be taken again. Whether
+/// it was or not, the present content is the same state, with the same map, as many lists of changes
+/// were put, and the store has a window that follows. The costs are those of [`Store::turn`]; it
+/// takes no memory.
+pub fn turn_store<D: Device>(
     store: &mut Store<D>,
     live: &LiveMap,
     upper: &Upcase,
@@ -43,29 +49,4 @@ fn turn_store<D: Device>(
     let result = store.turn(step);
     store.state().known();
     result
-}
-
-impl<D: Device> Volume<D> {
-    /// Takes a step of the volume's store, as [`flush_policy::next_step`] chooses it by
-    /// [`Volume::facts`]: a page of the log is sealed or written, the device is synced, a block is
-    /// written out, or a checkpoint begins or ends.
-    ///
-    /// The error is a failure of the device: then the step wasn't taken, and may be taken again.
-    /// Whether it was or not, the present content is the same state, with the same map, as many
-    /// lists of changes were put, and the store has a window that follows. The costs are those of
-    /// [`Store::turn`]; it takes no memory.
-    pub fn turn(&mut self, step: StoreStep) -> Result<(), Failed>
-        requires may { MayTurn (facts_of self.old.store.state) step }
-        ensures content { AgreeWhereKnown self.old.map.volume (present_content (D.gives self.old.store.device) self.old.store.state) (present_content (D.gives self.new.store.device) self.new.store.state) }
-        ensures map { self.new.map ≡ self.old.map }
-        ensures upper { self.new.upper ≡ self.old.upper }
-        ensures commits { self.new.store.state.commits ≡ self.old.store.state.commits }
-        ensures facts { HasTurned step result (facts_of self.old.store.state) (facts_of self.new.store.state) }
-        ensures sent { TurnsDevice D.gives D.changes_of D.moment_of step result (facts_of self.old.store.state) (facts_of self.new.store.state) self.old.store.words self.new.store.words self.old.store.device self.new.store.device }
-        ensures sectors { D.sector_count self.new.store.device ≡ D.sector_count self.old.store.device }
-        ensures cause { FailsByCause (D.fault_count self.old.store.device) (D.fault_count self.new.store.device) (D.moment_of self.new.store.device) result }
-        ensures step { TakesStep D.sector_count D.moment_of D.changes_of (AfterTurn step result (facts_of self.old.store.state)) self.old.store self.new.store }
-    {
-        turn_store(&mut self.store, &self.live, &self.upper, step)
-    }
 }

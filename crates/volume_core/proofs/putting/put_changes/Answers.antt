@@ -8,7 +8,7 @@ use Rattle.txn_core.specs.Views.{present_content}
 use Rattle.volume_core.specs.Changes.{MayLog}
 use Rattle.volume_core.proofs.Sparing.{some_length}
 use Rattle.volume_core.proofs.Outcomes.{nothing_put, all_maps, all_writable, holds_again}
-use Rattle.volume_core.proofs.putting.put_list.Goals as goal
+use Rattle.volume_core.proofs.putting.put_changes.Goals as goal
 
 pub returns-then-is_empty-clause-put : goal.returns-then-is_empty-clause-put
 returns-then-is_empty-clause-put g c =
