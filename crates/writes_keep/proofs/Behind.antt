@@ -64,7 +64,7 @@ use Rattle.step_model.specs.Streams.{data_of}
 use Rattle.data_plan.specs.declared.change.DataChange.{DataChange}
 use Rattle.data_plan.specs.Changes.{growth_of}
 use Rattle.file_puts.specs.declared.streams.VolumeStreams.{VolumeStreams}
-use Rattle.file_puts.specs.Written.{WritesFile, HasWritten}
+use Rattle.file_puts.specs.Written.{WritesBy, HasWritten}
 use Rattle.written_values.proofs.Growths.{growth_is}
 use Rattle.written_values.proofs.Owning.{IsOwned, is_owned}
 use Rattle.written_values.proofs.Sparing.{elsewhere}
@@ -102,7 +102,7 @@ pub record IsTouched (w : Volume) (n : ℕ) (b : Block) : Type 0 where
   pub own : Owns w b
   pub which : ((own.stream ≡ table_key) × (own.number ≡ n)) ⊎ ((own.stream ≡ bitmap_key) ⊎ (own.stream ≡ data_of n))
 
-module _ (c : Content) (g : Geometry) (clusters : ℕ) (v : Volume) (s : VolumeStreams) (op : Op) (n stamp : ℕ) (a : Node) (r : Record) (x : DataChange) (new : List Touched) (k : WritesFile c g clusters v s op n stamp a r x new) (h : HasWritten c g clusters v op n stamp a (growth_of (cluster_bits c v) r op a) new) where
+module _ (c : Content) (g : Geometry) (clusters : ℕ) (v : Volume) (s : VolumeStreams) (op : Op) (n stamp : ℕ) (a : Node) (r via : Record) (x : DataChange) (new : List Touched) (k : WritesBy c g clusters v s op n stamp a r via x new) (h : HasWritten c g clusters v op n stamp a (growth_of (cluster_bits c v) r op a) new) where
   abbrev w : Volume
   w = h.after
 

@@ -62,15 +62,18 @@ use Rattle.plan_edits.specs.Edits.{bitmap_key}
 use Rattle.step_model.specs.Placing.{Growth, more_of, runs_after}
 use Rattle.step_model.specs.Streams.{data_of}
 use Rattle.data_plan.specs.declared.change.DataChange.{DataChange}
-use Rattle.data_plan.specs.Changes.{data_in, growth_of, Grows, StandsBelow}
+use Rattle.data_plan.specs.Changes.{data_in, growth_of, Grows, StandsBelow, IsChange}
+use Rattle.made_data.specs.Laws.{MadeIsCounted}
+use Rattle.made_data.specs.Made.{record_with_data}
 use Rattle.file_puts.specs.declared.streams.VolumeStreams.{VolumeStreams}
 use Rattle.file_puts.specs.Puts.{first_fresh}
-use Rattle.file_puts.specs.Written.{WritesFile, HasWritten}
+use Rattle.file_puts.specs.Written.{WritesBy, HasWritten}
 use Rattle.written_values.proofs.Growths.{growth_is}
 use Rattle.plan_spares.specs.Plans.{HasOwnLists}
 use Rattle.plans_keep.specs.Keeping.{AreFinished, TouchesWell, ChangesKeep, PlansKeep}
 use Rattle.plans_keep.proofs.Keeping.{each_change}
-use Rattle.writes_keep.specs.Writes.{HasWholeSectors, IsOffLog, WriteKeeps}
+use Rattle.writes_keep.specs.Writes.{HasWholeSectors, IsOffLog, WriteKeeps, WritesKeep}
+use Rattle.writes_keep.proofs.Given.{IsDataOf, is_data_of}
 use Rattle.writes_keep.proofs.Touching.{IsWell, AreSectors, IsRecord}
 use Rattle.writes_keep.proofs.Putting.{judged_sector, grown_sector, GoesTo, AllWell, change_well}
 use Rattle.writes_keep.proofs.Second.{off_second}
@@ -88,8 +91,8 @@ goes_in P Q (t ∷ touched) f all = (f t all.0, goes_in P Q touched f all.1)
 is_data_name : file_name ≢ data_type
 is_data_name is = omega (arith, is)
 
-module _ (keeps : PlansKeep) (body : RecordIsBody) (c : Content) (g : Geometry) (clusters : ℕ) (v : Volume) (s : VolumeStreams) (op : Op) (n stamp : ℕ) (a : Node) (r : Record) (x : DataChange) (new : List Touched) (changes : List Change) (k : WritesFile c g clusters v s op n stamp a r x new)
-    (h : HasWritten c g clusters v op n stamp a (growth_of (cluster_bits c v) r op a) new) (done : AreFinished c new changes) (lists : HasOwnLists c v) (sectors_whole : HasWholeSectors c v) where
+module _ (keeps : PlansKeep) (body : RecordIsBody) (c : Content) (g : Geometry) (clusters : ℕ) (v : Volume) (s : VolumeStreams) (op : Op) (n stamp : ℕ) (a : Node) (r via : Record) (x : DataChange) (new : List Touched) (changes : List Change) (k : WritesBy c g clusters v s op n stamp a r via x new)
+    (h : HasWritten c g clusters v op n stamp a (growth_of (cluster_bits c v) r op a) new) (given : IsDataOf (cluster_bits c v) op a r via) (done : AreFinished c new changes) (lists : HasOwnLists c v) (sectors_whole : HasWholeSectors c v) where
   abbrev w : Volume
   w = h.after
 
@@ -103,10 +106,10 @@ module _ (keeps : PlansKeep) (body : RecordIsBody) (c : Content) (g : Geometry) 
   runs_now = runs_after (growth_of (cluster_bits c v) r op a)
 
   eight : v.per ≡ 8
-  eight = v_per c g clusters v s op n stamp a r x new k h
+  eight = v_per c g clusters v s op n stamp a r via x new k h
 
   other_number : (m : ℕ) → m < 16 → m ≢ n
-  other_number m low = not_user c g clusters v s op n stamp a r x new k h m (omega (arith, low))
+  other_number m low = not_user c g clusters v s op n stamp a r via x new k h m (omega (arith, low))
 
   -- ---- blocks by which the state before is judged
 
@@ -137,7 +140,7 @@ module _ (keeps : PlansKeep) (body : RecordIsBody) (c : Content) (g : Geometry) 
       }
 
   no_mirror : has_mirror s.mirror n ≡ false
-  no_mirror = (let user = (user_is c g clusters v s op n stamp a r x new k h).user in ap (λ (t : Bool). t && ltb n (s.mirror.real / 1024)) (le-ltb n 4 (omega (arith, user))))
+  no_mirror = (let user = (user_is c g clusters v s op n stamp a r via x new k h).user in ap (λ (t : Bool). t && ltb n (s.mirror.real / 1024)) (le-ltb n 4 (omega (arith, user))))
 
   record_is : IsRecord (GoesTo s n runs_now) (IsJudged v) s.table s.mirror n
   record_is = record { alone = no_mirror; goes = λ b at. inl at; begun = record_begun }
@@ -148,13 +151,13 @@ module _ (keeps : PlansKeep) (body : RecordIsBody) (c : Content) (g : Geometry) 
   fresh_are : AreSectors (GoesTo s n runs_now) (IsJudged v) runs_now 0
   fresh_are i b at = (inr (inr (i, at)), λ lt. absurd (omega (arith, lt)))
 
-  data_at : (e : Extents) → data_in r ≡ Some (Placed e) → stream_at v (data_of n) ≡ Some (Placed e)
-  data_at e placed = ap (file_stream data_type []) k.file.file ∙ placed
+  data_at : (e : Extents) → data_in via ≡ Some (Placed e) → stream_at v (data_of n) ≡ Some (Placed e)
+  data_at e placed = ap (file_stream data_type []) k.file.file ∙ given.placed e placed
 
-  data_judged : (e : Extents) (i : ℕ) (b : Block) → data_in r ≡ Some (Placed e) → block_at 8 e.runs Plain i ≡ Some b → 512 * i < e.initialised → IsJudged v b
-  data_judged e i b placed at below = judged_sector v (data_of n) e i b eight (data_at e placed) (data_kind c g clusters v s op n stamp a r x new k h) (other_file (data_of n) log_key (λ is. other_number log_file (omega arith) (sym is))) at below
+  data_judged : (e : Extents) (i : ℕ) (b : Block) → data_in via ≡ Some (Placed e) → block_at 8 e.runs Plain i ≡ Some b → 512 * i < e.initialised → IsJudged v b
+  data_judged e i b placed at below = judged_sector v (data_of n) e i b eight (data_at e placed) (data_kind c g clusters v s op n stamp a r via x new k h) (other_file (data_of n) log_key (λ is. other_number log_file (omega arith) (sym is))) at below
 
-  stays_are : (e : Extents) → data_in r ≡ Some (Placed e) → e.runs ≡ runs_now → AreSectors (GoesTo s n runs_now) (IsJudged v) runs_now (first_fresh e)
+  stays_are : (e : Extents) → data_in via ≡ Some (Placed e) → e.runs ≡ runs_now → AreSectors (GoesTo s n runs_now) (IsJudged v) runs_now (first_fresh e)
   stays_are e placed runs i b at = (inr (inr (i, at)), λ lt. data_judged e i b placed (ap (λ (l : List Run). block_at 8 l Plain i) runs ∙ at) (omega (arith, lt)))
 
   -- ---- data that takes clusters
@@ -162,10 +165,10 @@ module _ (keeps : PlansKeep) (body : RecordIsBody) (c : Content) (g : Geometry) 
   same_count : clusters ≡ v.clusters
   same_count = (volume_parts c g clusters v k.stands.loaded).count
 
-  placed_in : (e : Extents) → data_in r ≡ Some (Placed e) → IsPlacedIn v n data_type [] e
-  placed_in e placed = record { file = r; is_file = k.file.file; no_name = is_data_name; stream = placed }
+  placed_in : (e : Extents) → data_in via ≡ Some (Placed e) → IsPlacedIn v n data_type [] e
+  placed_in e placed = record { file = r; is_file = k.file.file; no_name = is_data_name; stream = given.placed e placed }
 
-  high : (e : Extents) → data_in r ≡ Some (Placed e) → e.initialised ≤ total_clusters e.runs * 4096
+  high : (e : Extents) → data_in via ≡ Some (Placed e) → e.initialised ≤ total_clusters e.runs * 4096
   high e placed =
       let sizes = sizes_are c g clusters v n data_type [] e k.stands (placed_in e placed) in
       let one = sizes.initialised in
@@ -177,24 +180,24 @@ module _ (keeps : PlansKeep) (body : RecordIsBody) (c : Content) (g : Geometry) 
   unfolding cluster_bits
   length_bits = length-bits_of_bytes (bytes_or c v.per (cluster_bitmap v)) v.clusters
 
-  after_file : file_in w n ≡ Some (q c g clusters v s op n stamp a r x new k h)
-  after_file = q_file c g clusters v s op n stamp a r x new k h
+  after_file : file_in w n ≡ Some (q c g clusters v s op n stamp a r via x new k h)
+  after_file = q_file c g clusters v s op n stamp a r via x new k h
 
   few_data : total_clusters runs_now ≤ cluster_limit
   few_data =
       let most : total_clusters runs_now ≤ w.clusters =
       few_runs (file_stream data_type [] (file_in w n)) runs_now w.clusters
       (λ e is. few_there d g clusters w n data_type [] e h.draft.stands
-      (record { file = q c g clusters v s op n stamp a r x new k h; is_file = after_file; no_name = is_data_name; stream = sym (ap (file_stream data_type []) after_file) ∙ is })
-      (ap has_hole (sym is ∙ ap (file_stream data_type []) after_file) ∙ (q_user c g clusters v s op n stamp a r x new k h).whole))
-      (data_after c g clusters v s op n stamp a r x new k h)
+      (record { file = q c g clusters v s op n stamp a r via x new k h; is_file = after_file; no_name = is_data_name; stream = sym (ap (file_stream data_type []) after_file) ∙ is })
+      (ap has_hole (sym is ∙ ap (file_stream data_type []) after_file) ∙ (q_user c g clusters v s op n stamp a r via x new k h).whole))
+      (data_after c g clusters v s op n stamp a r via x new k h)
       in
-      let same = same_clusters c g clusters v s op n stamp a r x new k h in
+      let same = same_clusters c g clusters v s op n stamp a r via x new k h in
       let count = same_count in
       let few = k.few in
       omega (arith, most, same, count, few)
 
-  grows_are : (z : Resized) → Grows growth r z → AreSectors (GoesTo s n runs_now) (IsJudged v) runs_now (first_fresh z.extents)
+  grows_are : (z : Resized) → Grows growth via z → AreSectors (GoesTo s n runs_now) (IsJudged v) runs_now (first_fresh z.extents)
   grows_are z is i b at = (inr (inr (i, at)), λ lt. data_judged is.e i b is.placed (sym (grown_sector is.e growth.runs i spelled more_spelled room (high is.e is.placed) (omega (arith, lt, begun))) ∙ ap (λ (l : List Run). block_at 8 l Plain i) (sym runs) ∙ at) (omega (arith, lt, begun)))
     where
       runs : runs_now ≡ grown is.e.runs growth.runs
@@ -226,8 +229,11 @@ module _ (keeps : PlansKeep) (body : RecordIsBody) (c : Content) (g : Geometry) 
 
   -- ---- what is touched
 
+  change_is : IsChange growth via op a x
+  change_is = subst (λ (y : Growth). IsChange y via op a x) given.growth k.is
+
   all_well : AllWell v s n runs_now new
-  all_well = change_well body v s n runs_now record_is bits_are c op a stamp r growth refl fresh_are grows_are stays_are x k.is [] new k.put tt
+  all_well = change_well body v s n runs_now record_is bits_are c op a stamp via growth refl fresh_are grows_are stays_are x change_is [] new k.put tt
 
   each : AllByRecursion (λ (p : NewBody). GoesTo s n runs_now p.block) h.bodies
   each = all_same (GoesTo s n runs_now) h.bodies (bodies_of new) (λ b. sym (h.same b)) (goes_in (GoesTo s n runs_now) (IsWell (GoesTo s n runs_now) (IsJudged v)) new (λ t is. is.goes) all_well)
@@ -237,7 +243,7 @@ module _ (keeps : PlansKeep) (body : RecordIsBody) (c : Content) (g : Geometry) 
   judged_of b (inr listed) = listed_judged c v b listed (lists listed.number listed.file listed.is_file)
 
   own : OwnRecord c v n r
-  own = own_record c g clusters v n r k.stands k.file.file (user_is c g clusters v s op n stamp a r x new k h).own.no_list
+  own = own_record c g clusters v n r k.stands k.file.file (user_is c g clusters v s op n stamp a r via x new k h).own.no_list
 
   whole_record_at : (b : Block) → record_block 8 s.table n ≡ Some b → (c b).torn ≡ false
   unfolding slot_of
@@ -262,15 +268,15 @@ module _ (keeps : PlansKeep) (body : RecordIsBody) (c : Content) (g : Geometry) 
   )
 
   lists_then : HasOwnLists d w
-  lists_then = lists_after c g clusters v s op n stamp a r x new k h each lists
+  lists_then = lists_after c g clusters v s op n stamp a r via x new k h each lists
 
   -- ---- off the log
 
   off : (b : Block) → GoesTo s n runs_now b → IsOffLog v b
-  off b goes = by (is_touched c g clusters v s op n stamp a r x new k h b goes)
+  off b goes = by (is_touched c g clusters v s op n stamp a r via x new k h b goes)
     where
       per : w.per ≡ 8
-      per = w_per c g clusters v s op n stamp a r x new k h
+      per = w_per c g clusters v s op n stamp a r via x new k h
 
       other : (t : StreamKey) (i : ℕ) → ((t ≡ table_key) × (i ≡ n)) ⊎ ((t ≡ bitmap_key) ⊎ (t ≡ data_of n)) → t ≢ log_key
       other t i (inl its) is = other_file table_key log_key (λ e. omega (arith, e)) (sym its.0 ∙ is)
@@ -286,10 +292,10 @@ module _ (keeps : PlansKeep) (body : RecordIsBody) (c : Content) (g : Geometry) 
       by touched =
           let first : b.first < b.first + sectors b.kind = (let some = some_sectors b.kind in omega (arith, some)) in
           let used : 1 ≤ uses (runs_in (stream_at w touched.own.stream)) (b.first / 8) = subst (λ (p : ℕ). 1 ≤ uses (runs_in (stream_at w touched.own.stream)) (b.first / p)) per (lies_in_used w.per (runs_in (stream_at w touched.own.stream)) (stream_kind touched.own.stream) touched.own.number b h.draft.stands.some touched.own.lies b.first (omega arith, first)) in
-          let apart : uses (runs_in (stream_at w touched.own.stream)) (b.first / 8) + uses (runs_in (stream_at w log_key)) (b.first / 8) ≤ 1 = streams_apart w touched.own.stream log_key (w_once c g clusters v s op n stamp a r x new k h) (other touched.own.stream touched.own.number touched.which) (b.first / 8) in
-          let same : uses (runs_in (stream_at w log_key)) (b.first / 8) ≡ uses (runs_in (stream_at v log_key)) (b.first / 8) = ap (λ (l : List Run). uses l (b.first / 8)) (log_stays c g clusters v s op n stamp a r x new k h) in
+          let apart : uses (runs_in (stream_at w touched.own.stream)) (b.first / 8) + uses (runs_in (stream_at w log_key)) (b.first / 8) ≤ 1 = streams_apart w touched.own.stream log_key (w_once c g clusters v s op n stamp a r via x new k h) (other touched.own.stream touched.own.number touched.which) (b.first / 8) in
+          let same : uses (runs_in (stream_at w log_key)) (b.first / 8) ≡ uses (runs_in (stream_at v log_key)) (b.first / 8) = ap (λ (l : List Run). uses l (b.first / 8)) (log_stays c g clusters v s op n stamp a r via x new k h) in
           let low = inside d g clusters w b.kind (cluster_of b) h.draft.stands (owned_as w b per touched.own) in
-          let count = same_clusters c g clusters v s op n stamp a r x new k h in
+          let count = same_clusters c g clusters v s op n stamp a r via x new k h in
           record { grid = in_grid w b per touched.own; inside = omega (arith, low, count); apart = omega (arith, used, apart, same) }
 
   -- ---- all of it
@@ -297,16 +303,20 @@ module _ (keeps : PlansKeep) (body : RecordIsBody) (c : Content) (g : Geometry) 
   kept_of : WriteKeeps c g v h.bodies (changes_of new) w
   kept_of = record {
     keeps = subst (λ (xs : List Change). ChangesKeep c v h.bodies xs w) done.are
-        (keeps c g clusters v w h.bodies h.gave new changes k.sized k.eight k.stands h.draft h.same done (touches_well new done.olds all_well) (log_stays c g clusters v s op n stamp a r x new k h) lists
+        (keeps c g clusters v w h.bodies h.gave new changes k.sized k.eight k.stands h.draft h.same done (touches_well new done.olds all_well) (log_stays c g clusters v s op n stamp a r via x new k h) lists
         (λ b listed. inr (listed_judged d w b listed (lists_then listed.number listed.file listed.is_file))));
     lists = lists_then;
-    upper = upper_stays c g clusters v s op n stamp a r x new k h each lists;
-    log = log_stays c g clusters v s op n stamp a r x new k h;
+    upper = upper_stays c g clusters v s op n stamp a r via x new k h each lists;
+    log = log_stays c g clusters v s op n stamp a r via x new k h;
     off = each_change (λ (y : Change). IsOffLog v y.block) new
         (all_by (IsWell (GoesTo s n runs_now) (IsJudged v)) (λ (t : Touched). change_start t < change_end t → IsOffLog v t.block) (λ t is lt. off t.block is.goes) new all_well);
     second = each_change (λ (y : Change). overlap y.block (boot_block g 2) ≡ false) new
-        (all_by (IsWell (GoesTo s n runs_now) (IsJudged v)) (λ (t : Touched). change_start t < change_end t → overlap t.block (boot_block g 2) ≡ false) (λ t is lt. off_second d g clusters w h.draft.stands n (user_is c g clusters v s op n stamp a r x new k h).user t.block (is_touched c g clusters v s op n stamp a r x new k h t.block is.goes)) new all_well);
+        (all_by (IsWell (GoesTo s n runs_now) (IsJudged v)) (λ (t : Touched). change_start t < change_end t → overlap t.block (boot_block g 2) ≡ false) (λ t is lt. off_second d g clusters w h.draft.stands n (user_is c g clusters v s op n stamp a r via x new k h).user t.block (is_touched c g clusters v s op n stamp a r via x new k h t.block is.goes)) new all_well);
   }
 
-  pub kept : WriteKeeps c g v h.bodies changes w
+  kept : WriteKeeps c g v h.bodies changes w
   kept = subst (λ (xs : List Change). WriteKeeps c g v h.bodies xs w) (sym done.are) kept_of
+
+pub all_kept : MadeIsCounted → PlansKeep → RecordIsBody → WritesKeep
+all_kept counted keeps body c g clusters v s op n stamp a r x new changes k h =
+    kept keeps body c g clusters v s op n stamp a r (record_with_data r) x new changes k h (is_data_of counted (cluster_bits c v) op a r)

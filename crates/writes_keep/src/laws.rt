@@ -1,15 +1,18 @@
 //! The laws of these definitions.
 ghost use Rattle.writes_keep.specs.Writes.{WritesKeep};
 
+use made_data::made_is_counted;
 use plans_keep::plans_keep;
 use record_model::record_is_body;
 
 /// Law: the changes of a draft that has put what comes of a file's data lead from the state before
 /// to the one behind as a volume asks, keep the table of upper-case units and the attribute lists
-/// of the other files, and stay off the clusters of the log.
+/// of the other files, and stay off the clusters of the log. A file without unnamed data is put by
+/// its record with data that is empty.
 pub fn writes_keep()
     ensures { WritesKeep }
 {
+    made_is_counted();
     plans_keep();
     record_is_body();
 }
