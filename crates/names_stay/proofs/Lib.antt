@@ -1,0 +1,6 @@
+pub mod Naming
+pub mod Holding
+pub mod Kept
+pub mod Going
+pub mod Listing
+pub mod Behind

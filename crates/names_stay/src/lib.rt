@@ -1,0 +1,9 @@
+//! The names of a volume's files, and the ways up from them, stay where an operation writes or cuts
+//! a file: what a volume keeps of them is what is told of the next state too.
+//!
+//! The contracts: the laws of these definitions, as functions with no body of their own.
+#![tactic(auto)]
+
+mod laws;
+
+pub use laws::{names_stay, same_names, writes_keep_names};
