@@ -76,7 +76,7 @@ use Rattle.file_puts.specs.Written.{WritesBy, HasWritten}
 use Rattle.written_values.proofs.Growths.{growth_is}
 use Rattle.written_values.proofs.Owning.{IsOwned, is_owned}
 use Rattle.written_values.proofs.Sparing.{elsewhere}
-use Rattle.names_stay.specs.Names.{IsNamedAlike, SameNames}
+use Rattle.same_names.specs.Names.{IsNamedAlike, SameNames}
 use Rattle.names_stay.specs.Writes.{WritesKeepNames}
 use Rattle.names_stay.proofs.Kept.{KeepsNames, kept_links, twice, written_kept, by_kept, LastPut, change_last}
 use Rattle.names_stay.proofs.Going.{GoesTo, bodies_go, change_goes}

@@ -2,7 +2,7 @@
 use Rattle.std.proofs.Common.{◌≡◌, subst, ℕ, ◌<◌, length, map, sym, ap₂, ◌∙◌}
 use Rattle.std.specs.List.{range_with_len}
 use Rattle.names_stay.specs.Held.{NamesStay}
-use Rattle.names_stay.proofs.Naming.{links_are, counts_are, parents_are, rooted_are, in_system_are}
+use Rattle.same_names.proofs.Naming.{links_are, counts_are, parents_are, rooted_are, in_system_are}
 
 by_number : {X : Type 0} (f g : ℕ → X) (count more : ℕ) → g ≡ f → more ≡ count → map g (range_with_len 0 more) ≡ map f (range_with_len 0 count)
 by_number {X = X} f g count more same long = ap₂ (λ (h : ℕ → X) (k : ℕ). map h (range_with_len 0 k)) same long

@@ -1,4 +1,3 @@
-pub mod Naming
 pub mod Holding
 pub mod Kept
 pub mod Going

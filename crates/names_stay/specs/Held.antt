@@ -3,7 +3,7 @@ use Rattle.std.specs.Prelude.{List, Option}
 use Rattle.record_model.specs.Records.{Record}
 use Rattle.volume_tree.specs.declared.names.Names.{Names}
 use Rattle.volume_tree.specs.Named.{AreNamesOf}
-use Rattle.names_stay.specs.Names.{SameNames}
+use Rattle.same_names.specs.Names.{SameNames}
 
 -- The names of records, how many stand in each, and the ways up are those of other records of which the files have the same names.
 abbrev pub NamesStay : Type 0

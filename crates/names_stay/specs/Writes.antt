@@ -12,7 +12,7 @@ use Rattle.data_plan.specs.Changes.{growth_of}
 use Rattle.made_data.specs.Made.{record_with_data}
 use Rattle.file_puts.specs.declared.streams.VolumeStreams.{VolumeStreams}
 use Rattle.file_puts.specs.Written.{WritesBy, HasWritten}
-use Rattle.names_stay.specs.Names.{SameNames}
+use Rattle.same_names.specs.Names.{SameNames}
 
 -- Where a draft has put what comes of a file's data, by its record or by that with data which is empty, and the operation is done, the files of the volume behind it have the names of before.
 abbrev pub WritesKeepNames : Type 0

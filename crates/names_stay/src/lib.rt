@@ -6,4 +6,4 @@
 
 mod laws;
 
-pub use laws::{names_stay, same_names, writes_keep_names};
+pub use laws::{names_stay, writes_keep_names};

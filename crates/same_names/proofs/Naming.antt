@@ -1,5 +1,5 @@
 -- What is told by names is the same where the names are.
-use Rattle.std.proofs.Common.{◌≡◌, ℕ, zero, suc, ◌+◌, ◌||◌, eqb, Bool, List, length, map, Option, Some, None, refl, ap, ap₂, ◌∙◌}
+use Rattle.std.proofs.Common.{◌≡◌, ℕ, zero, suc, ◌+◌, ◌||◌, eqb, Bool, List, length, map, Option, Some, None, refl, sym, ap, ap₂, ◌∙◌}
 use Rattle.std.specs.List.{range_with_len}
 use mathlib.Core.Path.{fun_ext}
 use Rattle.host_base.specs.declared.file_ref.FileRef.{FileRef}
@@ -12,7 +12,9 @@ use Rattle.state_model.specs.Rules.{count_in, names_in}
 use Rattle.state_model.specs.Trees.{first_parent, parent_at, leads, is_in_system}
 use Rattle.record_rules.specs.Counts.{names_for, names_at}
 use Rattle.record_rules.specs.Links.{links_in}
-use Rattle.names_stay.specs.Names.{IsNamedAlike, SameNames, NamesTellSame}
+use Rattle.record_rules.specs.Ways.{AreWaysOf}
+use Rattle.record_rules.specs.declared.climbing.Ways.{Ways}
+use Rattle.same_names.specs.Names.{IsNamedAlike, SameNames, NamesTellSame}
 
 -- ---- one file
 
@@ -75,5 +77,12 @@ module _ (records others : List (Option Record)) (same : SameNames records other
   pub in_system_are : is_in_system q (length others) ≡ is_in_system p (length records)
   in_system_are = ap₂ (λ (f : ℕ → Option ℕ) (count : ℕ). passes_system f count) parents_are same.count
 
+  pub ways_are : (ways : Ways) → AreWaysOf ways records → AreWaysOf ways others
+  ways_are ways are = record {
+    parents = are.parents ∙ sym (ap₂ (λ (f : ℕ → Option ℕ) (count : ℕ). map f (range_with_len 0 count)) parents_are same.count);
+    rooted = are.rooted ∙ sym (ap₂ (λ (f : ℕ → Bool) (count : ℕ). map f (range_with_len 0 count)) rooted_are same.count);
+    in_system = are.in_system ∙ sym (ap₂ (λ (f : ℕ → Bool) (count : ℕ). map f (range_with_len 0 count)) in_system_are same.count);
+  }
+
 pub tell_same : NamesTellSame
-tell_same = record { links = links_are; counts = λ records others n same. counts_are records others same n; parents = parents_are; rooted = rooted_are; in_system = in_system_are }
+tell_same = record { links = links_are; counts = λ records others n same. counts_are records others same n; parents = parents_are; rooted = rooted_are; in_system = in_system_are; ways = λ ways records others same are. ways_are records others same ways are }

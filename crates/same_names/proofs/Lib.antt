@@ -1,0 +1,4 @@
+pub mod Naming
+pub mod Links
+pub mod Alike
+pub mod Kept
