@@ -1,7 +1,6 @@
 -- The blocks by which a log is found, which no call of a store writes: their sectors are as they were at first, whatever a crash leaves.
-use Rattle.std.specs.Prelude.{◌≡◌, ◌⊎◌, ℕ, ◌<◌, ◌≤◌, Bool, true, false, List, [], Some, IfSome, Result}
+use Rattle.std.specs.Prelude.{◌≡◌, ◌⊎◌, ℕ, ◌<◌, Bool, true, false, List, [], IfSome}
 use Rattle.std.specs.List.{list_any}
-use Rattle.host_base.specs.declared.outside.Failed.{Failed}
 use Rattle.disk_model.specs.declared.block.Block.{Block}
 use Rattle.disk_model.specs.Sectors.{sectors, sector_of, same_block}
 use Rattle.disk_model.specs.Content.{content_of}
