@@ -31,7 +31,7 @@ pub record ImagesBear : Type 0 where
   pub reads : (found : List Block) (first : SectorBytes) (disk : Disk) → HasFirst found first disk → BearsFirst found first (seen disk)
   pub given : (found : List Block) (first : SectorBytes) (gives : Option (List (List ℕ))) (changes : Changes) → SeesDisk gives changes.disk → StaysFirst found first changes → IfSome gives (λ disk. BearsFirst found first (sector_of disk))
 
--- A call that changes nothing on the device leaves these sectors, and so does one on a disk that isn't known, nor then; and calls one behind the other of which each does. Whatever is left then, since a moment at which each disk of before was over, bears what was there at first.
+-- A call that changes nothing on the device leaves these sectors, and so does one on a disk that is known neither before it nor behind it; and so do calls one behind the other, where each does. Whatever is left then, since a moment at which each disk of before was over, bears what was there at first.
 pub record CallsJoin : Type 0 where
   pub none : (count : ℕ) (found : List Block) (first : SectorBytes) (old now : Changes) → now ≡ old → StaysOver count found first old now
   pub unknown : (count : ℕ) (found : List Block) (first : SectorBytes) (old now : Changes) → old.disk ≡ None → now.disk ≡ None → StaysOver count found first old now
