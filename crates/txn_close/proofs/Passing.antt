@@ -11,7 +11,9 @@ use Rattle.txn_model.specs.Values.{StoreFacts, own_of, is_own}
 use Rattle.txn_state.specs.States.{facts_of}
 use Rattle.txn_laws.specs.Windows.{RecoversWithin, Simulates}
 use Rattle.txn_core.specs.Seen.{Seen, TakesStep}
-use Rattle.txn_close.specs.Passing.{IsSpared, Spares, LeavesWithin, Passes, Fewer, Goes}
+use Rattle.found_stays.specs.Found.{AreOffLog, StaysOver}
+use Rattle.found_stays.proofs.Bearing.{none_stays, both_stay}
+use Rattle.txn_close.specs.Passing.{IsSpared, Spares, LeavesWithin, LeavesFound, Passes, Fewer, Goes}
 
 -- ---- windows
 
@@ -52,15 +54,16 @@ here f g w image place found x =
     subst (λ (bs : List Block). RecoversWithin f.place (is_own f.place bs) w image) found (subst (λ (p : LogPlace). RecoversWithin p (is_own p g.found) w image) place x)
 
 pub passes_none : (base : StoreFacts) (count moment : ℕ) (c : Changes) (f : StoreFacts) → Passes base count moment c c f f
-passes_none base count moment c f = record { known = λ e is. (e, is); place = refl; found = refl; steps = λ w has. (w, has, spares_same base w, λ t image le left. inl left) }
+passes_none base count moment c f = record { known = λ e is. (e, is); place = refl; found = refl; steps = λ w has. (w, has, spares_same base w, λ t image le left. inl left); stays = λ w first has off. none_stays count f.found first c c refl }
 
 pub passes_step : (base : StoreFacts) (count moment : ℕ) (old now : Changes) (f g : StoreFacts) (After : StoreWindow → StoreWindow → Type 0) → ((w v : StoreWindow) → After w v → Spares base w v)
-    → Simulates count moment old now f g After → Passes base count moment old now f g
-passes_step base count moment old now f g After spares s = record {
+    → LeavesFound count old now f → Simulates count moment old now f g After → Passes base count moment old now f g
+passes_step base count moment old now f g After spares stays s = record {
   known = s.known;
   place = s.place;
   found = s.found;
   steps = λ w has. let x = s.steps w has in (x.0, x.1, spares w x.0 x.2, λ t image le left. by w x.0 image t (spares w x.0 x.2) (x.3 t image le left));
+  stays = stays;
 }
   where
     by : (w v : StoreWindow) (image : List (List ℕ)) (t : ℕ) → Spares base w v → LeftSince count old t image ⊎ (RecoversWithin f.place (own_of f) w (sector_of image) ⊎ RecoversWithin f.place (own_of f) v (sector_of image))
@@ -68,6 +71,10 @@ passes_step base count moment old now f g After spares s = record {
     by w v image t follows (inl before) = inl before
     by w v image t follows (inr (inl recovers)) = inr (w, spares_same base w, recovers)
     by w v image t follows (inr (inr recovers)) = inr (v, follows, recovers)
+
+found_here : (f g : StoreFacts) (count : ℕ) (first : SectorBytes) (old now : Changes) → g.place ≡ f.place → g.found ≡ f.found → (AreOffLog g.place g.found → StaysOver count g.found first old now) → AreOffLog f.place f.found → StaysOver count f.found first old now
+found_here f g count first old now place found stays off =
+    subst (λ (bs : List Block). StaysOver count bs first old now) found (stays (subst (λ (p : LogPlace). AreOffLog p g.found) (sym place) (subst (λ (bs : List Block). AreOffLog f.place bs) (sym found) off)))
 
 pub passes_joined : (base next : StoreFacts) (count early late : ℕ) (old mid now : Changes) (f g h : StoreFacts) → early ≤ late → ((b : Block) → IsSpared base b → IsSpared next b)
     → Passes base count early old mid f g → Passes next count late mid now g h → Passes base count early old now f h
@@ -79,6 +86,7 @@ passes_joined base next count early late old mid now f g h later spared one two 
       let x = one.steps w has in
       let y = two.steps x.0 x.1 in
       (y.0, y.1, spares_joined base w x.0 y.0 x.2 (wider base next x.0 y.0 spared y.2), λ t image le left. by w x.0 t image le x.2 x.3 y.3 left);
+  stays = λ w first has off. let x = one.steps w has in both_stay count f.found first old mid now (one.stays w first has off) (found_here f g count first mid now one.place one.found (two.stays x.0 first x.1) off);
 }
   where
     by : (w u : StoreWindow) (t : ℕ) (image : List (List ℕ)) → t ≤ early → Spares base w u → LeavesWithin base count early old mid f w → LeavesWithin next count late mid now g u → LeftSince count now t image
@@ -96,12 +104,13 @@ goes_none count moment changes base s fewer =
     record { later = omega arith; sectors = refl; fewer = fewer; passes = passes_none base (count s.device) (moment s.device) (changes s.device) (facts_of s.state) }
 
 pub goes_step : {D : Type 0} (count moment : D → ℕ) (changes : D → Changes) (base : StoreFacts) (After : StoreWindow → StoreWindow → Type 0) (old new : Seen D) → moment old.device ≤ moment new.device → count new.device ≡ count old.device
-    → Fewer base (facts_of new.state) → ((w v : StoreWindow) → After w v → Spares base w v) → TakesStep count moment changes After old new → Goes count moment changes base old new
-goes_step count moment changes base After old new later sectors fewer spares step = record {
+    → Fewer base (facts_of new.state) → ((w v : StoreWindow) → After w v → Spares base w v) → LeavesFound (count old.device) (changes old.device) (changes new.device) (facts_of old.state) → TakesStep count moment changes After old new
+    → Goes count moment changes base old new
+goes_step count moment changes base After old new later sectors fewer spares stays step = record {
   later = later;
   sectors = sectors;
   fewer = fewer;
-  passes = passes_step base (count old.device) (moment old.device) (changes old.device) (changes new.device) (facts_of old.state) (facts_of new.state) After spares step;
+  passes = passes_step base (count old.device) (moment old.device) (changes old.device) (changes new.device) (facts_of old.state) (facts_of new.state) After spares stays step;
 }
 
 pub goes_joined : {D : Type 0} (count moment : D → ℕ) (changes : D → Changes) (base : StoreFacts) (old mid new : Seen D) → Goes count moment changes base old mid → Goes count moment changes (facts_of mid.state) mid new

@@ -6,7 +6,7 @@ use Rattle.host_base.specs.declared.outside.Failed.{Failed}
 use Rattle.disk_model.specs.declared.block.Block.{Block}
 use Rattle.disk_model.specs.declared.block.Body.{Body}
 use Rattle.disk_model.specs.Sectors.{same_block, are_rivals}
-use Rattle.sector_device.specs.Moments.{moment_after, Changes}
+use Rattle.sector_device.specs.Moments.{moment_after, Changes, Syncs}
 use Rattle.log_area.specs.Calls.{sending_moment, IsSentOrNot}
 use Rattle.store_claims.specs.Windows.{StoreWindow}
 use Rattle.store_model.proofs.Told.{true≢false}
@@ -29,6 +29,9 @@ use Rattle.txn_laws.specs.Windows.{AfterGiveUp}
 use Rattle.txn_core.specs.Seen.{Seen, TakesStep}
 use Rattle.txn_core.specs.Turns.{restart_facts, SendsRestartPage}
 use Rattle.txn_close.specs.Passing.{IsSpared, Spares, Fewer, Goes}
+use Rattle.found_stays.proofs.Bearing.{none_stays}
+use Rattle.found_stays.proofs.Writing.{sync_stays}
+use Rattle.found_stays.proofs.Turning.{restart_stays, turn_stays, window_machine}
 use Rattle.txn_close.proofs.Passing.{fewer_same, goes_step}
 
 -- ---- marks
@@ -202,19 +205,22 @@ module _ {D : Type 0} (gives : D → Option (List (List ℕ))) (count moment : D
   g = facts_of new.state
 
   pub goes_in_memory : (base : StoreFacts) (After : StoreWindow → StoreWindow → Type 0) → new.device ≡ old.device → Fewer base g → ((w v : StoreWindow) → After w v → Spares base w v) → TakesStep count moment changes After old new → Goes count moment changes base old new
-  goes_in_memory base After same fewer spares step = goes_step count moment changes base After old new (let e = ap moment same in omega (arith, e)) (ap count same) fewer spares step
+  goes_in_memory base After same fewer spares step = goes_step count moment changes base After old new (let e = ap moment same in omega (arith, e)) (ap count same) fewer spares (λ w first has off. none_stays (count old.device) f.found first (changes old.device) (changes new.device) (ap changes same)) step
 
   pub goes_turned : (step : StoreStep) (result : Result (Unit {0}) Failed) → ((c : Block) → (f.mark c).dirty ≡ true → is_some (f.body c) ≡ true) → MayTurn f step → HasTurned step result f g
       → TurnsDevice gives changes moment step result f g old.words new.words old.device new.device → count new.device ≡ count old.device → TakesStep count moment changes (AfterTurn step result f) old new → Goes count moment changes f old new
   goes_turned step result kept may turned sent sectors takes =
       goes_step count moment changes f (AfterTurn step result f) old new (later_turned gives changes moment old.device new.device step result f g old.words new.words kept may sent) sectors (fewer_turned step result f g turned)
-      (spares_turned f f step result (fewer_same f) may) takes
+      (spares_turned f f step result (fewer_same f) may)
+      (λ w first has off. turn_stays gives changes moment (count old.device) first f g old.device new.device (window_machine (changes old.device) f w has) off step result old.words new.words kept may sent) takes
 
   pub goes_restarted : (clean : Bool) (result : Result (Unit {0}) Failed) → g ≡ restart_facts result new.state.log.sent f → SendsRestartPage gives changes moment clean f g result old.device new.device → count new.device ≡ count old.device
       → TakesStep count moment changes AfterWrite old new → Goes count moment changes f old new
   goes_restarted clean result facts sent sectors takes =
-      goes_step count moment changes f AfterWrite old new (later_sent gives changes moment old.device new.device _ _ _ _ result sent) sectors (fewer_turned WriteRestart result f g facts) (spares_written f) takes
+      goes_step count moment changes f AfterWrite old new (later_sent gives changes moment old.device new.device _ _ _ _ result sent) sectors (fewer_turned WriteRestart result f g facts) (spares_written f)
+      (λ w first has off. restart_stays gives changes moment (count old.device) first f g old.device new.device (window_machine (changes old.device) f w has) off clean result sent) takes
 
-  pub goes_synced : (result : Result (Unit {0}) Failed) → g ≡ sync_facts result f → moment new.device ≡ moment_after (moment old.device) → count new.device ≡ count old.device → TakesStep count moment changes (AfterSync result f) old new → Goes count moment changes f old new
-  goes_synced result facts later sectors takes =
-      goes_step count moment changes f (AfterSync result f) old new (begun_later (moment old.device) (moment old.device) (moment new.device) (omega arith) later) sectors (fewer_turned SyncDevice result f g facts) (spares_synced f f result (fewer_same f)) takes
+  pub goes_synced : (result : Result (Unit {0}) Failed) → g ≡ sync_facts result f → Syncs (moment old.device) result (changes old.device) (changes new.device) → moment new.device ≡ moment_after (moment old.device) → count new.device ≡ count old.device → TakesStep count moment changes (AfterSync result f) old new → Goes count moment changes f old new
+  goes_synced result facts syncs later sectors takes =
+      goes_step count moment changes f (AfterSync result f) old new (begun_later (moment old.device) (moment old.device) (moment new.device) (omega arith) later) sectors (fewer_turned SyncDevice result f g facts) (spares_synced f f result (fewer_same f))
+      (λ w first has off. sync_stays (count old.device) (moment old.device) result f.found first (changes old.device) (changes new.device) syncs) takes

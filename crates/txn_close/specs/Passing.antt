@@ -4,11 +4,13 @@ use Rattle.disk_model.specs.declared.block.Block.{Block}
 use Rattle.disk_model.specs.Sectors.{sector_of, are_rivals}
 use Rattle.sector_device.specs.Disks.{Disk}
 use Rattle.sector_device.specs.Moments.{Changes, LeftSince}
+use Rattle.store_model.specs.Geometry.{SectorBytes}
 use Rattle.store_claims.specs.Windows.{StoreWindow}
 use Rattle.txn_model.specs.Values.{StoreFacts, own_of}
 use Rattle.txn_state.specs.States.{facts_of}
 use Rattle.txn_laws.specs.Windows.{HasWindow, RecoversWithin}
 use Rattle.txn_core.specs.Seen.{Seen}
+use Rattle.found_stays.specs.Found.{AreOffLog, StaysOver}
 
 -- The block isn't dead, and no rival of it is dirty: so neither a sync nor the write-out of a rival drops its body.
 pub record IsSpared (f : StoreFacts) (b : Block) : Type 0 where
@@ -25,12 +27,17 @@ abbrev pub LeavesWithin : StoreFacts → (count moment : ℕ) → Changes → Ch
 LeavesWithin base count moment old now f w = (t : ℕ) (image : List (List ℕ)) → t ≤ moment → LeftSince count now t image
     → LeftSince count old t image ⊎ ((v : StoreWindow) × Spares base w v × RecoversWithin f.place (own_of f) v (sector_of image))
 
--- Whatever window the store had, it has one that follows, as what a crash inside the calls leaves has; its device wasn't known only now; and its log lies where it did.
+-- the sectors of the blocks by which the log is found stay as they were at first, where they are off the log
+abbrev pub LeavesFound : ℕ → Changes → Changes → StoreFacts → Type 0
+LeavesFound count old now f = (w : StoreWindow) (first : SectorBytes) → HasWindow old f w → AreOffLog f.place f.found → StaysOver count f.found first old now
+
+-- Whatever window the store had, it has one that follows, as what a crash inside the calls leaves has; its device wasn't known only now; its log lies where it did; and the blocks by which the log is found stay.
 pub record Passes (base : StoreFacts) (count moment : ℕ) (old now : Changes) (f g : StoreFacts) : Type 0 where
   pub known : (e : Disk) → now.disk ≡ Some e → (d : Disk) × (old.disk ≡ Some d)
   pub place : g.place ≡ f.place
   pub found : g.found ≡ f.found
   pub steps : (w : StoreWindow) → HasWindow old f w → (v : StoreWindow) × HasWindow now g v × Spares base w v × LeavesWithin base count moment old now f w
+  pub stays : LeavesFound count old now f
 
 -- no block is dirty or dead that wasn't
 pub record Fewer (f g : StoreFacts) : Type 0 where

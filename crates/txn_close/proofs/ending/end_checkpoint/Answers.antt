@@ -17,7 +17,7 @@ returns-in_err-sync_device-clause-goes g c =
     goes_joined g.D.Device.sector_count g.D.Device.moment_of g.D.Device.changes_of (facts_of c.args.store.now.state) c.args.store.now c.write_restart.new.self c.sync_device.new.self
     (goes_restarted g.D.Device.gives g.D.Device.sector_count g.D.Device.moment_of g.D.Device.changes_of c.args.store.now c.write_restart.new.self false c.write_restart.result c.write_restart.ensures.facts c.write_restart.ensures.sent
     c.write_restart.ensures.sectors c.write_restart.ensures.step)
-    (goes_synced g.D.Device.gives g.D.Device.sector_count g.D.Device.moment_of g.D.Device.changes_of c.write_restart.new.self c.sync_device.new.self c.sync_device.result c.sync_device.ensures.facts c.sync_device.ensures.moment c.sync_device.ensures.sectors
+    (goes_synced g.D.Device.gives g.D.Device.sector_count g.D.Device.moment_of g.D.Device.changes_of c.write_restart.new.self c.sync_device.new.self c.sync_device.result c.sync_device.ensures.facts c.sync_device.ensures.changes c.sync_device.ensures.moment c.sync_device.ensures.sectors
     c.sync_device.ensures.step)
 
 pub returns-clause-goes : goal.returns-clause-goes
@@ -25,5 +25,5 @@ returns-clause-goes g c =
     goes_joined g.D.Device.sector_count g.D.Device.moment_of g.D.Device.changes_of (facts_of c.args.store.now.state) c.args.store.now c.write_restart.new.self c.sync_device.new.self
     (goes_restarted g.D.Device.gives g.D.Device.sector_count g.D.Device.moment_of g.D.Device.changes_of c.args.store.now c.write_restart.new.self false c.write_restart.result c.write_restart.ensures.facts c.write_restart.ensures.sent
     c.write_restart.ensures.sectors c.write_restart.ensures.step)
-    (goes_synced g.D.Device.gives g.D.Device.sector_count g.D.Device.moment_of g.D.Device.changes_of c.write_restart.new.self c.sync_device.new.self c.sync_device.result c.sync_device.ensures.facts c.sync_device.ensures.moment c.sync_device.ensures.sectors
+    (goes_synced g.D.Device.gives g.D.Device.sector_count g.D.Device.moment_of g.D.Device.changes_of c.write_restart.new.self c.sync_device.new.self c.sync_device.result c.sync_device.ensures.facts c.sync_device.ensures.changes c.sync_device.ensures.moment c.sync_device.ensures.sectors
     c.sync_device.ensures.step)

@@ -14,7 +14,7 @@ returns-in_err-sync_device-clause-goes g c =
     goes_joined g.D.Device.sector_count g.D.Device.moment_of g.D.Device.changes_of (facts_of c.args.closing.now.state) c.args.closing.now c.write_restart.new.self c.sync_device.new.self
     (goes_restarted g.D.Device.gives g.D.Device.sector_count g.D.Device.moment_of g.D.Device.changes_of c.args.closing.now c.write_restart.new.self true c.write_restart.result c.write_restart.ensures.facts c.write_restart.ensures.sent
     c.write_restart.ensures.sectors c.write_restart.ensures.step)
-    (goes_synced g.D.Device.gives g.D.Device.sector_count g.D.Device.moment_of g.D.Device.changes_of c.write_restart.new.self c.sync_device.new.self c.sync_device.result c.sync_device.ensures.facts c.sync_device.ensures.moment c.sync_device.ensures.sectors
+    (goes_synced g.D.Device.gives g.D.Device.sector_count g.D.Device.moment_of g.D.Device.changes_of c.write_restart.new.self c.sync_device.new.self c.sync_device.result c.sync_device.ensures.facts c.sync_device.ensures.changes c.sync_device.ensures.moment c.sync_device.ensures.sectors
     c.sync_device.ensures.step)
 
 pub returns-clause-goes : goal.returns-clause-goes
@@ -22,5 +22,5 @@ returns-clause-goes g c =
     goes_joined g.D.Device.sector_count g.D.Device.moment_of g.D.Device.changes_of (facts_of c.args.closing.now.state) c.args.closing.now c.write_restart.new.self c.sync_device.new.self
     (goes_restarted g.D.Device.gives g.D.Device.sector_count g.D.Device.moment_of g.D.Device.changes_of c.args.closing.now c.write_restart.new.self true c.write_restart.result c.write_restart.ensures.facts c.write_restart.ensures.sent
     c.write_restart.ensures.sectors c.write_restart.ensures.step)
-    (goes_synced g.D.Device.gives g.D.Device.sector_count g.D.Device.moment_of g.D.Device.changes_of c.write_restart.new.self c.sync_device.new.self c.sync_device.result c.sync_device.ensures.facts c.sync_device.ensures.moment c.sync_device.ensures.sectors
+    (goes_synced g.D.Device.gives g.D.Device.sector_count g.D.Device.moment_of g.D.Device.changes_of c.write_restart.new.self c.sync_device.new.self c.sync_device.result c.sync_device.ensures.facts c.sync_device.ensures.changes c.sync_device.ensures.moment c.sync_device.ensures.sectors
     c.sync_device.ensures.step)

@@ -1,0 +1,4 @@
+pub mod Bearing
+pub mod Writing
+pub mod Turning
+pub mod Lying
