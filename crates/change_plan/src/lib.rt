@@ -22,4 +22,4 @@ pub use plan::ChangePlan;
 pub use planning::plan_change;
 pub use tree_model::{Op, Reply};
 pub use upcase_order::Upcase;
-pub use volume_tree::NamedVolume;
+pub use volume_tree::{NamedVolume, Names};

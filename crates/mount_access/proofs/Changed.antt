@@ -10,7 +10,7 @@ use Rattle.image_open.specs.declared.refusal.Refusal.TheVariants.{Short}
 use Rattle.image_open.specs.Writing.{OpenedToWrite, opened_to_write_in}
 use Rattle.image_read.specs.Checks.{volume_on, has_version, tree_on}
 use Rattle.volume_shadows.specs.Live.{least_live}
-use Rattle.volume_mount.specs.Mounts.{content_behind, mounted_as, has_no_journal, has_pages, lies_whole, Said, unless_said, unshadowed, ruled, placed, settled, paged, unjournaled, tried, loaded_on, mounted_by, mounted_in, mounted_of}
+use Rattle.volume_mount.specs.Mounts.{content_behind, mounted_as, has_no_journal, has_pages, may_be_changed, Said, unless_said, unshadowed, ruled, placed, settled, paged, unjournaled, tried, loaded_on, mounted_by, mounted_in, mounted_of}
 use Rattle.mount_access.specs.declared.access.Access.TheVariants.{Change}
 use Rattle.mount_access.specs.Mounts.{tried_for, passed, loaded_for, mounted_in_for, mounted_for}
 use Rattle.mount_access.specs.Laws.{ChangeIsTheMount}
@@ -28,7 +28,7 @@ unshadowed_same said v w is = no_other (least_live said v) v w is
 volume_changed : (c : Content) (o : OpenedToWrite) (v : Volume) → (tried (shadow_lsn o.state.log) o.place (content_behind c o) v >>= λ w. Ok (mounted_as c o w)) ≡ passed Change (mounted_as c o v)
 unfolding tried unjournaled paged settled ruled placed tried_for
 volume_changed c o v =
-    change_tests (has_version v) (has_no_journal (upper_of (content_behind c o) v) v) (has_pages o.place) (tree_on (content_behind c o) v) (lies_whole o.place) (unshadowed (shadow_lsn o.state.log)) v
+    change_tests (has_version v) (has_no_journal (upper_of (content_behind c o) v) v) (has_pages o.place) (tree_on (content_behind c o) v) (may_be_changed o.place) (unshadowed (shadow_lsn o.state.log)) v
     (mounted_as c o) (unshadowed_same (shadow_lsn o.state.log) v)
 
 opened_changed : (c : Content) (o : OpenedToWrite) → mounted_by c o ≡ loaded_for Change c o

@@ -14,7 +14,7 @@ use Rattle.image_open.specs.Writing.{OpenedToWrite}
 use Rattle.image_read.specs.Errors.{broken_refusal}
 use Rattle.image_read.specs.Checks.{volume_on, has_version, tree_on}
 use Rattle.image_read.specs.States.{StandsFor}
-use Rattle.volume_mount.specs.Mounts.{MountedVolume, upper_in, tree_in, content_behind, mounted_as, has_no_journal, has_pages, lies_whole}
+use Rattle.volume_mount.specs.Mounts.{MountedVolume, upper_in, tree_in, content_behind, mounted_as, has_no_journal, has_pages, may_be_changed}
 use Rattle.mount_access.specs.declared.access.Access.{Access}
 use Rattle.mount_access.specs.declared.access.Access.TheVariants.{Look, Journal, Change}
 use Rattle.mount_access.specs.Mounts.{keeps_rules, has_journal, has_no_shadow, tried_for, passed, opened_for, loaded_for, mounted_in_for, mounted_for}
@@ -33,7 +33,7 @@ tried_too Journal m x is =
 tried_too Change m x is =
     let journal = has_no_journal (upper_in m) m.volume in
     let pages = has_pages m.opened.place in
-    let lies = lies_whole m.opened.place m.volume in
+    let lies = may_be_changed m.opened.place m.volume in
     also (has_version m.volume) (has_version m.volume) (λ _. journal >>= λ _. pages >>= λ _. keeps_rules m >>= λ _. lies >>= λ _. has_no_shadow m) (λ _. keeps_rules m) x (λ y e. e)
     (λ y e. third_test journal pages (keeps_rules m) lies (has_no_shadow m) x e) is
 

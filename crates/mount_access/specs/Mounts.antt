@@ -18,7 +18,7 @@ use Rattle.image_open.specs.Volumes.{boot_on, geometry_of, log_record, log_place
 use Rattle.image_open.specs.Writing.{OpenedToWrite, found_by}
 use Rattle.image_read.specs.Checks.{volume_on, has_version, tree_on}
 use Rattle.image_read.specs.Records.{place_on}
-use Rattle.volume_mount.specs.Mounts.{MountedVolume, upper_in, content_behind, mounted_as, has_no_journal, has_pages, lies_whole, unshadowed}
+use Rattle.volume_mount.specs.Mounts.{MountedVolume, upper_in, content_behind, mounted_as, has_no_journal, has_pages, may_be_changed, unshadowed}
 use Rattle.mount_access.specs.declared.access.Access.{Access}
 use Rattle.mount_access.specs.declared.access.Access.TheVariants.{Look, Journal, Change}
 
@@ -76,7 +76,7 @@ tried_for Look m = has_version m.volume >>= λ _. keeps_rules m
 tried_for Journal m = has_version m.volume >>= λ _. has_journal m >>= λ _. keeps_rules m
 tried_for Change m =
     has_version m.volume >>= λ _. has_no_journal (upper_in m) m.volume >>= λ _. has_pages m.opened.place >>= λ _. keeps_rules m
-    >>= λ _. lies_whole m.opened.place m.volume >>= λ _. has_no_shadow m
+    >>= λ _. may_be_changed m.opened.place m.volume >>= λ _. has_no_shadow m
 
 -- ---- what is mounted
 

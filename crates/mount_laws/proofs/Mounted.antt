@@ -3,7 +3,7 @@ use Rattle.std.proofs.Common.{◌≡◌, ℕ, ◌*◌, ◌/◌, ◌^◌, ◌<◌
 use Rattle.std.specs.Prelude.{is_some}
 use Rattle.std.specs.List.{range_with_len}
 use Rattle.std.proofs.lemmas.Bool.{leb-true}
-use Rattle.host_base.specs.Answers.{needs}
+use Rattle.host_base.specs.Answers.{◌>>=◌, needs}
 use Rattle.disk_model.specs.Content.{Content}
 use Rattle.record_model.specs.Records.{Record}
 use Rattle.record_model.proofs.Answering.{steps_from_ok}
@@ -27,9 +27,9 @@ use Rattle.image_open.specs.Volumes.{data_of}
 use Rattle.image_open.specs.Writing.{OpenedToWrite, opened_to_write_in}
 use Rattle.image_read.specs.Errors.{broken_refusal}
 use Rattle.image_read.specs.Checks.{volume_on, has_version, tree_on}
-use Rattle.volume_mount.specs.Mounts.{Said, unless_said, is_there, begun_sectors, or_all, front_sectors, lying_pages, lies_whole, pages_needed, whole_pages, has_pages, has_no_journal, unshadowed, placed, ruled, settled, paged, unjournaled, tried, loaded_on, MountedVolume, content_behind, mounted_as, mounted_by, mounted_in}
+use Rattle.volume_mount.specs.Mounts.{Said, unless_said, is_there, begun_sectors, or_all, front_sectors, lying_pages, pages_lie, holds_boot, has_single_lists, may_be_changed, pages_needed, whole_pages, has_pages, has_no_journal, unshadowed, placed, ruled, settled, paged, unjournaled, tried, loaded_on, MountedVolume, content_behind, mounted_as, mounted_by, mounted_in}
 use Rattle.volume_shadows.specs.Live.{least_live}
-use Rattle.mount_laws.specs.Laws.{MountedOnRing, LiesByRecord, MountedByRecord}
+use Rattle.mount_laws.specs.Laws.{MountedOnRing, LiesByRecord, MountedByRecord, PassesMount, MountedPasses}
 use Rattle.mount_laws.proofs.Opened.{OpenedParts, opened_parts, IsWhole, its_place, lies_in_ring}
 use Rattle.mount_laws.proofs.Records.{parts, more, own_attrs}
 use Rattle.mount_laws.proofs.Rings.{alike_ring}
@@ -80,9 +80,11 @@ module _ (c : Content) (sectors : ℕ) (o : OpenedToWrite) (v : Volume) (small :
   unfolding has_pages
   as_pages is = leb-true (pages_needed o.place) (whole_pages o.place) (needed _ _ tt is)
 
-  as_lying : (w : Volume) → lies_whole o.place w ≡ Ok tt → o.place.pages ≤ lying_pages o.place w
-  unfolding lies_whole
-  as_lying w is = leb-true o.place.pages (lying_pages o.place w) (needed _ _ tt is)
+  as_lying : (w : Volume) → may_be_changed o.place w ≡ Ok tt → o.place.pages ≤ lying_pages o.place w
+  unfolding may_be_changed pages_lie
+  as_lying w is =
+      let lying = steps_from_ok (pages_lie o.place w) (λ _. holds_boot w >>= λ _. has_single_lists w) tt is in
+      leb-true o.place.pages (lying_pages o.place w) (needed _ _ lying.0 lying.1)
 
   whole : (w : Volume) → pages_needed o.place ≤ whole_pages o.place → o.place.pages ≤ lying_pages o.place w → (IsWhole o.place) × ((f : Record) × (file_in w log_file ≡ Some f))
   whole w enough lying =
@@ -126,12 +128,32 @@ module _ (c : Content) (sectors : ℕ) (o : OpenedToWrite) (v : Volume) (small :
       let journal = steps_from_ok (has_no_journal (upper_of after w) w) (λ _. paged said o.place after w) v version.2 in
       let pages = steps_from_ok (has_pages o.place) (λ _. settled said o.place after w) v journal.2 in
       let rules = steps_from_ok (ruled after w) (placed said o.place) v pages.2 in
-      let lying = steps_from_ok (lies_whole o.place rules.0) (λ _. unshadowed said rules.0) v rules.2 in
+      let lying = steps_from_ok (may_be_changed o.place rules.0) (λ _. unshadowed said rules.0) v rules.2 in
       let kept = unbroken w rules.0 rules.1 in
       record {
         same = kept.1 ∙ same_unless (least_live said rules.0) rules.0 v lying.2;
         state = stands w (unrefused map_refusal (volume_of after o.geometry o.total) w loaded) kept.0;
-        its = whole w (as_pages (unit_is (has_pages o.place) pages.0 pages.1)) (subst (λ (x : Volume). o.place.pages ≤ lying_pages o.place x) (sym kept.1) (as_lying rules.0 (unit_is (lies_whole o.place rules.0) lying.0 lying.1)));
+        its = whole w (as_pages (unit_is (has_pages o.place) pages.0 pages.1)) (subst (λ (x : Volume). o.place.pages ≤ lying_pages o.place x) (sym kept.1) (as_lying rules.0 (unit_is (may_be_changed o.place rules.0) lying.0 lying.1)));
+      }
+
+  -- and each of the tests says yes of it
+  tried_passes : (w : Volume) → tried said o.place after w ≡ Ok v → PassesMount (mounted_as c o v)
+  unfolding tried unjournaled paged settled placed unshadowed ruled
+  tried_passes w is =
+      let version = steps_from_ok (has_version w) (λ _. unjournaled said (upper_of after w) o.place after w) v is in
+      let journal = steps_from_ok (has_no_journal (upper_of after w) w) (λ _. paged said o.place after w) v version.2 in
+      let pages = steps_from_ok (has_pages o.place) (λ _. settled said o.place after w) v journal.2 in
+      let rules = steps_from_ok (ruled after w) (placed said o.place) v pages.2 in
+      let own = steps_from_ok (may_be_changed o.place rules.0) (λ _. unshadowed said rules.0) v rules.2 in
+      let tree = steps_from_ok (tree_on after w) (λ _. Ok w) rules.0 rules.1 in
+      let same : rules.0 ≡ v = same_unless (least_live said rules.0) rules.0 v own.2 in
+      let kept : w ≡ rules.0 = cc in
+      let change : may_be_changed o.place v ≡ Ok tt = subst (λ (x : Volume). may_be_changed o.place x ≡ Ok tt) same (unit_is (may_be_changed o.place rules.0) own.0 own.1) in
+      record {
+        version = subst (λ (x : Volume). has_version x ≡ Ok tt) (kept ∙ same) (unit_is (has_version w) version.0 version.1);
+        journal = subst (λ (x : Volume). has_no_journal (upper_of after x) x ≡ Ok tt) (kept ∙ same) (unit_is (has_no_journal (upper_of after w) w) journal.0 journal.1);
+        pages = unit_is (has_pages o.place) pages.0 pages.1;
+        change = change;
       }
 
   pub tried_ring : (w : Volume) → volume_on after o.geometry o.total ≡ Ok w → tried said o.place after w ≡ Ok v → IsRingPlace o.place
@@ -180,3 +202,15 @@ by_record c sectors m is small =
     let opened : o ≡ m.opened = ap (λ (x : MountedVolume). x.opened) made in
     let pages : o.place.pages < 2 ^ 52 = subst (λ (x : OpenedToWrite). x.place.pages < 2 ^ 52) (sym opened) small in
     subst (λ (x : MountedVolume). LiesByRecord sectors x.content x.opened.geometry x.opened.total x.opened.place x.volume) made (tried_record c sectors o second.0 pages (opened_parts c sectors o first.1) third.0 third.1 third.2)
+
+pub passes : MountedPasses
+unfolding mounted_in mounted_by loaded_on
+passes c sectors m is small =
+    let first = steps_from_ok (opened_to_write_in c sectors) (mounted_by c) m is in
+    let o = first.0 in
+    let second = steps_from_ok (loaded_on (shadow_lsn o.state.log) o.place (content_behind c o) o.geometry o.total) (λ v. Ok (mounted_as c o v)) m first.2 in
+    let third = steps_from_ok (volume_on (content_behind c o) o.geometry o.total) (tried (shadow_lsn o.state.log) o.place (content_behind c o)) second.0 second.1 in
+    let made : mounted_as c o second.0 ≡ m = cc in
+    let opened : o ≡ m.opened = ap (λ (x : MountedVolume). x.opened) made in
+    let pages : o.place.pages < 2 ^ 52 = subst (λ (x : OpenedToWrite). x.place.pages < 2 ^ 52) (sym opened) small in
+    subst PassesMount made (tried_passes c sectors o second.0 pages (opened_parts c sectors o first.1) third.0 third.2)

@@ -11,7 +11,8 @@ use Rattle.log_page.specs.declared.places.LogPlace.{LogPlace}
 use Rattle.log_reading.specs.LogPages.{log_sector}
 use Rattle.log_reading.specs.Rings.{IsRingPlace}
 use Rattle.image_open.specs.LogPlaces.{place_of_log, LieAlike}
-use Rattle.volume_mount.specs.Mounts.{MountedVolume, mounted_in}
+use Rattle.image_read.specs.Checks.{has_version}
+use Rattle.volume_mount.specs.Mounts.{has_no_journal, has_pages, may_be_changed, MountedVolume, upper_in, mounted_in}
 
 -- each page of the log of a mounted volume lies in one cluster of it, all of it is initialised, and no sector is that of two places in it
 abbrev pub MountedOnRing : Type 0
@@ -33,3 +34,14 @@ pub record LiesByRecord (sectors : ℕ) (c : Content) (g : Geometry) (total : �
 -- so does that of a mounted volume
 abbrev pub MountedByRecord : Type 0
 MountedByRecord = (c : Content) (sectors : ℕ) (m : MountedVolume) → mounted_in c sectors ≡ Ok m → m.opened.place.pages < 2 ^ 52 → LiesByRecord sectors m.content m.opened.geometry m.opened.total m.opened.place m.volume
+
+-- A mounted volume is of the version that is handled, has no change journal, and a log with the pages that it needs; and may be changed: the log's pages lie on the device, the boot sector is
+-- $Boot's, and each attribute list has one piece.
+pub record PassesMount (m : MountedVolume) : Type 0 where
+  pub version : has_version m.volume ≡ Ok tt
+  pub journal : has_no_journal (upper_in m) m.volume ≡ Ok tt
+  pub pages : has_pages m.opened.place ≡ Ok tt
+  pub change : may_be_changed m.opened.place m.volume ≡ Ok tt
+
+abbrev pub MountedPasses : Type 0
+MountedPasses = (c : Content) (sectors : ℕ) (m : MountedVolume) → mounted_in c sectors ≡ Ok m → m.opened.place.pages < 2 ^ 52 → PassesMount m

@@ -1,5 +1,5 @@
 ghost use Rattle.mount_laws.specs.Firsts.{EntriesRise, LeastIsFirst};
-ghost use Rattle.mount_laws.specs.Laws.{MountedByRecord, MountedOnRing};
+ghost use Rattle.mount_laws.specs.Laws.{MountedByRecord, MountedOnRing, MountedPasses};
 
 /// Law: each page of the log of a mounted volume lies in one cluster of the volume and is initialised,
 /// and no two places of the log lie in one sector: so a session may write it as it lies.
@@ -11,6 +11,11 @@ pub fn mounted_on_ring()
 /// says by itself.
 pub fn mounted_by_record()
     ensures { MountedByRecord }
+{}
+
+/// Law: a mounted volume passes the tests of a volume that is to be changed.
+pub fn mounted_passes()
+    ensures { MountedPasses }
 {}
 
 /// Law: the entries of a log that isn't refused stand by rising LSNs.

@@ -6,4 +6,4 @@
 
 mod laws;
 
-pub use laws::{entries_rise, least_is_first, mounted_by_record, mounted_on_ring};
+pub use laws::{entries_rise, least_is_first, mounted_by_record, mounted_on_ring, mounted_passes};

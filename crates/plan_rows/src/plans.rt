@@ -1,6 +1,6 @@
 //! Replies and changes of plans.
 use crate::volume::{Asked, op, streams, view, volume};
-use change_plan::{ChangePlan, NamedVolume, PlanFault, Reply, Upcase, plan_change};
+use change_plan::{ChangePlan, NamedVolume, Names, PlanFault, Reply, Upcase, plan_change};
 use std::alloc::Global;
 use std::test::Fail;
 
@@ -56,7 +56,8 @@ fn planned(
     failing: u64,
 ) -> Result<(Result<ChangePlan, PlanFault>, u64), Fail> {
     let map = volume(alloc, row.0)?;
-    let volume = NamedVolume::new(alloc, &map)?;
+    let names = Names::new(alloc, &map.files)?;
+    let volume = NamedVolume::new(&map, &names);
     let up = Upcase::standard(alloc)?;
     let streams = streams(alloc)?;
     let op = op(alloc, &row.1)?;

@@ -6,6 +6,7 @@ ghost use Rattle.file_tree.specs.Walks.{root, first_user_record};
 ghost use Rattle.state_model.specs.Trees.{all_links, first_parent, parent_at, leads, is_in_system, is_system};
 ghost use Rattle.state_model.specs.Loads.{table_in};
 ghost use Rattle.record_rules.specs.Links.{links_in};
+ghost use Rattle.record_rules.specs.Ways.{AreWaysOf};
 
 use crate::linking::{links_at, links_of};
 use crate::passing::{Question, climb_all};
@@ -73,17 +74,47 @@ fn parents_of(
     Ok(parents)
 }
 
-/// Records, with the directory of each file's first name, and what the way up from each says.
+/// What the ways up from a volume's files say, by the files' numbers: the directory of each file's
+/// first name, whether the way from there reaches the root, and whether a directory of the volume
+/// itself stands on it.
 #[derive(Drop)]
-pub struct Climber<'a> {
-    /// The record in use of each number, if there is one.
-    pub records: &'a [Option<FileRec>],
+pub struct Ways {
     parents: Vec<Option<u64>>,
     rooted: Vec<bool>,
     in_system: Vec<bool>,
-    ghost are_parents: { parents.items ≡ map (parent_at (table_in records.now)) (range_with_len 0 (length records.now)) },
-    ghost are_rooted: { rooted.items ≡ map (leads (table_in records.now) (length records.now)) (range_with_len 0 (length records.now)) },
-    ghost are_in_system: { in_system.items ≡ map (is_in_system (table_in records.now) (length records.now)) (range_with_len 0 (length records.now)) },
+}
+
+impl Ways {
+    /// The ways up from these records: the record in use of each number, if there is one. `links`
+    /// are the names of each file. The error is want of memory. It takes time and memory linear in
+    /// the records: on the ways up from all of them it passes each record once.
+    #[tactic(auto, using(crate::proofs::Climbs::are_rooted, crate::proofs::Climbs::are_in_system))]
+    pub fn new(
+        alloc: Global,
+        records: &[Option<FileRec>],
+        links: &[LinkList],
+    ) -> Result<Self, Memory>
+        requires { links.now ≡ links_in records.now }
+        ensures value { IfOk result (λ ways. AreWaysOf ways records.now) }
+    {
+        let parents = parents_of(alloc, records, links)?;
+        let rooted = climb_all(alloc, Question::Rooted, &parents)?;
+        let in_system = climb_all(alloc, Question::InSystem, &parents)?;
+        Ok(Ways {
+            parents,
+            rooted,
+            in_system,
+        })
+    }
+}
+
+/// Records, with what the way up from each says.
+#[derive(Clone, Copy)]
+pub struct Climber<'a> {
+    /// The record in use of each number, if there is one.
+    pub records: &'a [Option<FileRec>],
+    ways: &'a Ways,
+    ghost climbed: { AreWaysOf ways.now records.now },
 }
 
 // Whether a number past so many records is that of a directory of the volume itself, other than the
@@ -95,27 +126,13 @@ fn is_own_past(count: usize, number: u64) -> bool
 }
 
 impl<'a> Climber<'a> {
-    /// A climber of these records: the record in use of each number, if there is one. `links` are
-    /// the names of each file. The error is want of memory. It takes time and memory linear in the
-    /// records: on the ways up from all of them it passes each record once.
-    #[tactic(auto, using(crate::proofs::Climbs::are_rooted, crate::proofs::Climbs::are_in_system))]
-    pub fn new(
-        alloc: Global,
-        records: &'a [Option<FileRec>],
-        links: &[LinkList],
-    ) -> Result<Self, Memory>
-        requires { links.now ≡ links_in records.now }
-        ensures records { IfOk result (λ c. c.records.now ≡ records.now) }
+    /// These records, the record in use of each number, if there is one, with the ways up from
+    /// them. It takes constant time.
+    pub fn new(records: &'a [Option<FileRec>], ways: &'a Ways) -> Self
+        requires { AreWaysOf ways.now records.now }
+        ensures records { result.records.now ≡ records.now }
     {
-        let parents = parents_of(alloc, records, links)?;
-        let rooted = climb_all(alloc, Question::Rooted, &parents)?;
-        let in_system = climb_all(alloc, Question::InSystem, &parents)?;
-        Ok(Climber {
-            records,
-            parents,
-            rooted,
-            in_system,
-        })
+        Climber { records, ways }
     }
 
     /// The number of the directory of the file's first name, if it has a name. It takes constant
@@ -124,7 +141,7 @@ impl<'a> Climber<'a> {
     pub fn parent(&self, number: u64) -> Option<u64>
         ensures value { result ≡ parent_at (table_in self.now.records.now) number }
     {
-        match self.parents.get(number as usize) {
+        match self.ways.parents.get(number as usize) {
             Some(parent) => *parent,
             None => None,
         }
@@ -136,7 +153,7 @@ impl<'a> Climber<'a> {
     pub fn leads(&self, number: u64) -> bool
         ensures value { result ≡ leads (table_in self.now.records.now) (length self.now.records.now) number }
     {
-        match self.rooted.get(number as usize) {
+        match self.ways.rooted.get(number as usize) {
             Some(rooted) => *rooted,
             None => number == ROOT,
         }
@@ -147,7 +164,7 @@ impl<'a> Climber<'a> {
     fn is_in_system(&self, directory: u64) -> bool
         ensures { result ≡ is_in_system (table_in self.now.records.now) (length self.now.records.now) directory }
     {
-        match self.in_system.get(directory as usize) {
+        match self.ways.in_system.get(directory as usize) {
             Some(in_system) => *in_system,
             None => is_own_past(self.records.len(), directory),
         }

@@ -19,7 +19,7 @@ mod rising;
 mod rules;
 mod ways;
 
-pub use climbing::{Climber, all_links};
+pub use climbing::{Climber, Ways, all_links};
 pub use comparing::is_index;
 pub use counts::counts_in;
 pub use fields::{has_type, info_of, is_compressed, is_directory_record, is_encrypted, is_sparse};

@@ -5,7 +5,7 @@ use file_tree::{Link, LinkList};
 use host_base::{FileRef, is_same_reference};
 use record_model::StdInfo;
 use record_rules::{
-    Climber, all_links, counts_in, file_at, first_misnamed, first_misplaced, first_unrooted,
+    Climber, Ways, all_links, counts_in, file_at, first_misnamed, first_misplaced, first_unrooted,
     has_type, info_of, is_compressed, is_directory_record, is_encrypted, is_index, is_sparse,
     links_in, links_of, push_some, record_links, value_link,
 };
@@ -81,7 +81,8 @@ static ROWS: [Row; 7] = [
 fn broken_at(alloc: Global, files: &[OneFile]) -> Result<[Option<u64>; 3], Fail> {
     let records = records_of(alloc, files)?;
     let links = links_in(alloc, &records)?;
-    let climber = Climber::new(alloc, &records, &links)?;
+    let ways = Ways::new(alloc, &records, &links)?;
+    let climber = Climber::new(&records, &ways);
     Ok([
         first_misnamed(&records, &links),
         first_misplaced(&records, &links),
@@ -200,7 +201,8 @@ fn names_lead_to_the_root(rt: HostRuntime) -> Result<(), Fail> {
     let alloc = rt.alloc();
     let records = records_of(alloc, ROWS[0].0)?;
     let links = links_in(alloc, &records)?;
-    let climber = Climber::new(alloc, &records, &links)?;
+    let ways = Ways::new(alloc, &records, &links)?;
+    let climber = Climber::new(&records, &ways);
     assert_eq!(rt; climber.parent(25), Some(5));
     assert!(rt; climber.is_system(5, &[]) && !climber.is_system(25, links_of(&links, 25)));
     Ok(())

@@ -2,7 +2,7 @@
 use crate::parts::{name_value, push_attribute, record_of, two_bytes};
 use file_record::FileRec;
 use file_tree::LinkList;
-use record_rules::{Climber, first_unrooted, links_in, links_of};
+use record_rules::{Climber, Ways, first_unrooted, links_in, links_of};
 use std::alloc::{AllocError, Global};
 use std::test::Fail;
 
@@ -134,7 +134,8 @@ fn ways_lead_up(rt: HostRuntime) -> Result<(), Fail> {
     for (row, Row(chains, unrooted, marks)) in ROWS.iter().enumerate() {
         let records = records_of(alloc, chains)?;
         let links = links_in(alloc, &records)?;
-        let climber = Climber::new(alloc, &records, &links)?;
+        let ways = Ways::new(alloc, &records, &links)?;
+        let climber = Climber::new(&records, &ways);
         assert_eq!(rt; first_unrooted(&climber), *unrooted, "row {row}");
         let wrong = marks.iter().find(|mark| !has_mark(&climber, &links, mark));
         assert_eq!(rt; wrong.map(|mark| mark.0), None, "row {row}");

@@ -16,6 +16,6 @@ use volume_tree::NamedVolume;
 pub fn is_in_system(volume: &NamedVolume, number: u64) -> bool
     ensures { result ≡ (not (number == root) && is_system (files_by_number (volume_in volume.now.map.now)) (count_of (volume_in volume.now.map.now)) number (links_at (files_by_number (volume_in volume.now.map.now)) number)) }
 {
-    let links = links_of(&volume.links, number);
-    number != ROOT && volume.climber.is_system(number, links)
+    let links = links_of(&volume.names.links, number);
+    number != ROOT && volume.climber().is_system(number, links)
 }

@@ -17,7 +17,7 @@ use std::alloc::Global;
 use system_files::upper_table;
 use upcase_order::Upcase;
 use volume_map::VolumeMap;
-use volume_tree::NamedVolume;
+use volume_tree::{NamedVolume, Names};
 
 // The same, by the volume's table of upper-case units.
 fn check_ordered<V: View>(
@@ -76,6 +76,7 @@ pub fn check<V: View>(alloc: Global, view: &mut V, map: &VolumeMap) -> Result<Tr
     ensures value { IfSome (V.content view.old) (λ c. IsMapOf c map.now → GivesOrFails (λ tree. tree) check_cause result (checked c (volume_in map.now))) }
     ensures kept { AsksView V.content V.kept V.faults check_cause view.old view.new result }
 {
-    let volume = NamedVolume::new(alloc, map)?;
+    let names = Names::new(alloc, &map.files)?;
+    let volume = NamedVolume::new(map, &names);
     check_named(alloc, view, &volume)
 }

@@ -28,7 +28,7 @@ use volume_tree::NamedVolume;
 fn from_8(volume: &NamedVolume) -> Option<Broken>
     ensures { result ≡ from_8 (volume_in volume.now.map.now) }
 {
-    match first_unrooted(&volume.climber) {
+    match first_unrooted(&volume.climber()) {
         Some(number) => Some(Broken { rule: 8, number }),
         None => None,
     }
@@ -147,8 +147,8 @@ fn from_3<V: View>(
         volume.map.per_cluster,
         upper,
         &volume.map.files,
-        &volume.links,
-        &volume.counts,
+        &volume.names.links,
+        &volume.names.counts,
     )? {
         Some(number) => Ok(Some(Broken { rule: 3, number })),
         None => from_4(alloc, view, volume, body),
@@ -169,7 +169,7 @@ fn from_2<V: View>(
     ensures kept { AsksView V.content V.kept V.faults check_cause view.old view.new result }
     ensures unasked { IsSome (broken_2 (volume_in volume.now.map.now)) → view.new ≡ view.old }
 {
-    match first_misplaced(&volume.map.files, &volume.links) {
+    match first_misplaced(&volume.map.files, &volume.names.links) {
         Some(number) => Ok(Some(Broken { rule: 2, number })),
         None => from_3(alloc, view, volume, upper, body),
     }
@@ -193,7 +193,7 @@ pub fn from_1<V: View>(
     ensures kept { AsksView V.content V.kept V.faults check_cause view.old view.new result }
     ensures unasked { IsSome (broken_1 (volume_in volume.now.map.now)) → view.new ≡ view.old }
 {
-    match first_misnamed(&volume.map.files, &volume.links) {
+    match first_misnamed(&volume.map.files, &volume.names.links) {
         Some(number) => Ok(Some(Broken { rule: 1, number })),
         None => from_2(alloc, view, volume, upper, body),
     }

@@ -17,4 +17,4 @@ pub use block_view::View;
 pub use tree_lookup::{Lookup, LookupFault};
 pub use upcase_order::Upcase;
 pub use volume::VolumeTree;
-pub use volume_tree::NamedVolume;
+pub use volume_tree::{NamedVolume, Names};

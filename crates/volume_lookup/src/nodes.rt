@@ -37,5 +37,5 @@ fn long_count(links: &[Link]) -> u64
 pub fn long_names(volume: &NamedVolume, number: u64) -> u64
     ensures { result ≡ long_count (links_at (table_in volume.now.map.now.files.items) number) }
 {
-    long_count(links_of(&volume.links, number))
+    long_count(links_of(&volume.names.links, number))
 }

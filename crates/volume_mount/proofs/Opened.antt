@@ -30,7 +30,7 @@ use Rattle.image_read.specs.Errors.{broken_refusal}
 use Rattle.image_read.specs.Checks.{volume_on, has_version, tree_on}
 use Rattle.volume_mount.specs.declared.loading.LoadedVolume.{LoadedVolume}
 use Rattle.volume_mount.specs.declared.mounted.Mounted.{Mounted}
-use Rattle.volume_mount.specs.Mounts.{Said, unless_said, unshadowed, placed, has_no_journal, is_there, begun_sectors, or_all, front_sectors, has_pages, lies_whole, ruled, settled, paged, unjournaled, tried, loaded_on, MountedVolume, content_behind, mounted_as, mounted_by, mounted_in}
+use Rattle.volume_mount.specs.Mounts.{Said, unless_said, unshadowed, placed, has_no_journal, is_there, begun_sectors, or_all, front_sectors, has_pages, pages_lie, may_be_changed, ruled, settled, paged, unjournaled, tried, loaded_on, MountedVolume, content_behind, mounted_as, mounted_by, mounted_in}
 use Rattle.volume_mount.specs.Trees.{content_of_mounted}
 use Rattle.volume_mount.specs.Answers.{IsMounted, IsMountedAs, MountsAs}
 
@@ -58,7 +58,7 @@ settled_unbroken : (said : Said) (place : LogPlace) (c : Content) (w v : Volume)
 unfolding settled placed unshadowed
 settled_unbroken said place c w v is =
     let s = steps_from_ok (ruled c w) (placed said place) v is in
-    let l = steps_from_ok (lies_whole place s.0) (λ _. unshadowed said s.0) v s.2 in
+    let l = steps_from_ok (may_be_changed place s.0) (λ _. unshadowed said s.0) v s.2 in
     subst (λ (x : Volume). first_broken c x ≡ None) (same_unless (least_live said s.0) s.0 v l.2) (ruled_unbroken c w s.0 s.1)
 
 tried_unbroken : (said : Said) (place : LogPlace) (c : Content) (w v : Volume) → tried said place c w ≡ Ok v → first_broken c v ≡ None
@@ -88,8 +88,8 @@ pages_alike : (p q : LogPlace) → LieAlike p q → has_pages p ≡ has_pages q
 unfolding has_pages
 pages_alike p q alike = rw (alike.pages, alike.initialised, alike.clusters) refl
 
-whole_alike : (p q : LogPlace) (v : Volume) → LieAlike p q → lies_whole p v ≡ lies_whole q v
-unfolding lies_whole
+whole_alike : (p q : LogPlace) (v : Volume) → LieAlike p q → may_be_changed p v ≡ may_be_changed q v
+unfolding may_be_changed pages_lie
 whole_alike p q v alike = rw (front_alike p q alike, alike.pages, alike.clusters) refl
 
 then_alike : {A B : Type 0} (first : Result A Refusal) (f g : A → Result B Refusal) → ((x : A) → f x ≡ g x) → (first >>= f) ≡ (first >>= g)
@@ -99,7 +99,7 @@ then_alike (Err e) f g same = refl
 settled_alike : (said : Said) (p q : LogPlace) (c : Content) (v : Volume) → LieAlike p q → settled said p c v ≡ settled said q c v
 unfolding settled placed
 settled_alike said p q c v alike =
-    then_alike (ruled c v) (λ w. lies_whole p w >>= λ _. unshadowed said w) (λ w. lies_whole q w >>= λ _. unshadowed said w) (λ w. ap (λ (r : Result (Unit {0}) Refusal). r >>= λ _. unshadowed said w) (whole_alike p q w alike))
+    then_alike (ruled c v) (λ w. may_be_changed p w >>= λ _. unshadowed said w) (λ w. may_be_changed q w >>= λ _. unshadowed said w) (λ w. ap (λ (r : Result (Unit {0}) Refusal). r >>= λ _. unshadowed said w) (whole_alike p q w alike))
 
 tried_alike : (said : Said) (p q : LogPlace) (c : Content) (v : Volume) → LieAlike p q → tried said p c v ≡ tried said q c v
 unfolding tried unjournaled paged

@@ -5,6 +5,7 @@ ghost use Rattle.device_view.specs.Devices.{KeepsDevice};
 ghost use Rattle.tree_model.specs.Steps.{is_look, is_given_up, Replies, IsStep};
 ghost use Rattle.tree_lookup.specs.Answered.{CountsReply};
 ghost use Rattle.volume_map.specs.Maps.{volume_in};
+ghost use Rattle.volume_tree.specs.Named.{AreNamesOf};
 ghost use Rattle.volume_lookup.specs.Known.{known_tree};
 ghost use Rattle.volume_mount.specs.Trees.{tree_over, tree_shown};
 ghost use Rattle.volume_mount.specs.Answers.{CountsReplyOnDevice};
@@ -19,7 +20,7 @@ use sector_device::Device;
 use std::alloc::Global;
 use tree_lookup::{Op, Reply, answer};
 use upcase_order::Upcase;
-use volume_lookup::{NamedVolume, VolumeTree};
+use volume_lookup::{NamedVolume, Names, VolumeTree};
 
 // The reply of a loaded volume, whose table of upper-case units this is, over a view of its content.
 fn reply_over<V: View>(
@@ -43,8 +44,8 @@ fn reply_over<V: View>(
 #[derive(Drop)]
 pub struct MountedTree<'a> {
     mounted: &'a Mounted,
-    volume: NamedVolume<'a>,
-    ghost named: { volume.map.now ≡ mounted.now.map },
+    names: Names,
+    ghost named: { AreNamesOf names mounted.now.map.files.items },
 }
 
 impl<'a> MountedTree<'a> {
@@ -53,8 +54,8 @@ impl<'a> MountedTree<'a> {
     pub fn new(alloc: Global, mounted: &'a Mounted) -> Result<Self, Memory>
         ensures { IfOk result (λ tree. tree.mounted.now ≡ mounted.now) }
     {
-        let volume = NamedVolume::new(alloc, &mounted.map)?;
-        Ok(MountedTree { mounted, volume })
+        let names = Names::new(alloc, &mounted.map.files)?;
+        Ok(MountedTree { mounted, names })
     }
 
     // The reply over a view of the device.
@@ -68,7 +69,8 @@ impl<'a> MountedTree<'a> {
         let mounted = self.mounted;
         let bodies = &mounted.opening.found.recovered.blocks.bodies;
         let mut recovered = RecoveredView::new(view, bodies, &mounted.places);
-        reply_over(alloc, &mut recovered, &self.volume, &mounted.upper, op)
+        let volume = NamedVolume::new(&mounted.map, &self.names);
+        reply_over(alloc, &mut recovered, &volume, &mounted.upper, op)
     }
 
     /// What is answered to an operation that only looks, over the device on which the volume was

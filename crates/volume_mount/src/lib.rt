@@ -10,6 +10,7 @@
 #![tactic(auto)]
 
 mod asking;
+mod holding;
 mod journal;
 mod lent;
 mod loading;

@@ -10,8 +10,9 @@ ghost use Rattle.image_open.specs.Errors.{scan_cause};
 ghost use Rattle.volume_shadows.specs.Live.{least_lsn};
 ghost use Rattle.volume_mount.specs.Mounts.{ruled, unshadowed, placed, settled, paged, unjournaled, tried, loaded_on};
 
+use crate::holding::may_be_changed;
 use crate::journal::has_no_journal;
-use crate::pages::{has_pages, lies_whole};
+use crate::pages::has_pages;
 use block_view::View;
 use disk_model::Body;
 use image_open::{MountFault, OpeningToWrite, Refusal};
@@ -53,7 +54,7 @@ fn unshadowed(alloc: Global, map: &VolumeMap, shadows: &[Shadow]) -> Result<(), 
     }
 }
 
-// The same, whose log lies on the device.
+// The same, whose log lies on the device, and which may be changed.
 #[tactic(auto, unfolding(crate::specs::Mounts::placed))]
 fn placed(
     alloc: Global,
@@ -63,7 +64,7 @@ fn placed(
 ) -> Result<(), MountFault>
     ensures { Gives (λ _. volume_in map.now) scan_cause result (placed (least_lsn shadows.now) place.now (volume_in map.now)) }
 {
-    lies_whole(place, map)?;
+    may_be_changed(alloc, place, map)?;
     unshadowed(alloc, map, shadows)
 }
 
@@ -184,8 +185,10 @@ fn loaded_on<V: View>(
 ///
 /// - [`MountFault::Refused`]: the first refusal of the file table's records; then of the version;
 ///   then of a change journal; then of the log's pages; then of the nine rules; then
-///   [`Refusal::LogSmall`] where a page of the log lies nowhere; then [`Refusal::ForeignLog`] where
-///   the log shadows a live block, with the LSN of the first update of a rival, of several the least.
+///   [`Refusal::LogSmall`] where a page of the log lies nowhere; then [`Refusal::BadVolume`] with
+///   rule 4 and the number of `$Boot` where the boot sector isn't its own, or of a file with an
+///   attribute list in two pieces; then [`Refusal::ForeignLog`] where the log shadows a live block,
+///   with the LSN of the first update of a rival, of several the least.
 /// - [`MountFault::Device`]: the view failed.
 /// - [`MountFault::Memory`]: want of memory.
 pub fn load_recovered<V: View>(

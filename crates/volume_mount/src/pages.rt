@@ -3,7 +3,7 @@ ghost use Rattle.std.specs.Prelude.{◌≡◌, ◌-◌, min, is_some};
 ghost use Rattle.host_base.specs.Answers.{Gives};
 ghost use Rattle.image_open.specs.Errors.{scan_cause};
 ghost use Rattle.volume_mount.specs.Fronts.{LieInFront};
-ghost use Rattle.volume_mount.specs.Mounts.{pages_for, pages_needed, whole_pages, has_pages, front_sectors, lying_pages, lies_whole};
+ghost use Rattle.volume_mount.specs.Mounts.{pages_for, pages_needed, whole_pages, has_pages, front_sectors, lying_pages, pages_lie};
 ghost use Rattle.volume_map.specs.Maps.{volume_in};
 ghost use Rattle.volume_model.specs.Volumes.{file_in, log_file};
 
@@ -112,9 +112,9 @@ fn lying_pages(place: &LogPlace, map: &VolumeMap) -> u64
 ///
 /// - [`MountFault::Refused`]: [`Refusal::LogSmall`] with the pages that lie there from the first one
 ///   on, and those that a session that writes needs.
-#[tactic(auto, unfolding(crate::specs::Mounts::lies_whole))]
-pub fn lies_whole(place: &LogPlace, map: &VolumeMap) -> Result<(), MountFault>
-    ensures { Gives (λ x. x) scan_cause result (lies_whole place.now (volume_in map.now)) }
+#[tactic(auto, unfolding(crate::specs::Mounts::pages_lie))]
+pub fn pages_lie(place: &LogPlace, map: &VolumeMap) -> Result<(), MountFault>
+    ensures { Gives (λ x. x) scan_cause result (pages_lie place.now (volume_in map.now)) }
 {
     let pages = lying_pages(place, map);
     if place.pages <= pages {

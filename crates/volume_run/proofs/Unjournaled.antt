@@ -16,7 +16,7 @@ use Rattle.image_open.specs.declared.refusal.Refusal.{Refusal}
 use Rattle.image_open.specs.declared.refusal.Refusal.TheVariants.{Short, Unbuilt}
 use Rattle.image_open.specs.Writing.{OpenedToWrite, opened_to_write_in}
 use Rattle.image_read.specs.Checks.{volume_on, has_version, tree_on}
-use Rattle.volume_mount.specs.Mounts.{MountedVolume, Said, unless_said, unshadowed, placed, journal_number, has_no_journal, has_pages, lies_whole, ruled, settled, paged, unjournaled, tried, loaded_on, content_behind, mounted_as, mounted_by, mounted_in, mounted_of, tree_in}
+use Rattle.volume_mount.specs.Mounts.{MountedVolume, Said, unless_said, unshadowed, placed, journal_number, has_no_journal, has_pages, may_be_changed, ruled, settled, paged, unjournaled, tried, loaded_on, content_behind, mounted_as, mounted_by, mounted_in, mounted_of, tree_in}
 
 none_of : {X : Type 0} (o : Option X) → not (is_some o) ≡ true → o ≡ None
 none_of None e = refl
@@ -60,7 +60,7 @@ tried_is said place c v w e =
     let journal = steps_from_ok (has_no_journal (upper_of c v) v) (λ _. paged said place c v) w version.2 in
     let pages = steps_from_ok (has_pages place) (λ _. settled said place c v) w journal.2 in
     let blocks = steps_from_ok (ruled c v) (placed said place) w pages.2 in
-    let lying = steps_from_ok (lies_whole place blocks.0) (λ _. unshadowed said blocks.0) w blocks.2 in
+    let lying = steps_from_ok (may_be_changed place blocks.0) (λ _. unshadowed said blocks.0) w blocks.2 in
     let rules = steps_from_ok (tree_on c v) (λ _. Ok v) blocks.0 blocks.1 in
     (journal_none c v (number_none (upper_of c v) v (journal.1 ∙ ap (λ (x : Unit {0}). Ok x) (same_unit journal.0))), ok_same v blocks.0 rules.2 ∙ unless_is (least_live said blocks.0) blocks.0 w lying.2)
 

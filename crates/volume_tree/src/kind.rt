@@ -74,7 +74,7 @@ pub fn kind_in(
 {
     if is_directory_record(file) {
         Kind::Directory
-    } else if volume.climber.is_system(number, links) {
+    } else if volume.climber().is_system(number, links) {
         Kind::System
     } else if is_unread(file, about) {
         Kind::Opaque

@@ -14,7 +14,7 @@ mod shown;
 mod stream;
 mod tree;
 
-pub use names::NamedVolume;
+pub use names::{NamedVolume, Names};
 pub use node::{bare_nodes, node_at};
 pub use shown::shown_at;
 pub use tree::tree_with;

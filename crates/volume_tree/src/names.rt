@@ -1,46 +1,65 @@
 //! The names of a volume's files.
-ghost use Rattle.std.specs.Prelude.{◌≡◌, ℕ, ◌<◌, length, slice_index, IfOk};
-ghost use Rattle.state_model.specs.Loads.{table_in};
-ghost use Rattle.record_rules.specs.Links.{links_in};
-ghost use Rattle.record_rules.specs.Counts.{names_at};
+ghost use Rattle.std.specs.Prelude.{◌≡◌, IfOk};
+ghost use Rattle.volume_tree.specs.Named.{AreNamesOf};
 
+use file_record::FileRec;
 use file_tree::LinkList;
 use host_base::Memory;
-use record_rules::{Climber, counts_in, links_in};
+use record_rules::{Climber, Ways, counts_in, links_in};
 use std::alloc::Global;
 use volume_map::VolumeMap;
 
-/// A loaded volume, with the names of its files.
+/// The names of a volume's files, and what they say of the ways up from these.
 #[derive(Drop)]
-pub struct NamedVolume<'a> {
-    /// The volume.
-    pub map: &'a VolumeMap,
+pub struct Names {
     /// The names of each file, by its number.
     pub links: Vec<LinkList>,
     /// How many names stand in each file, by its number.
     pub counts: Vec<usize>,
-    /// The ways up from the volume's files.
-    pub climber: Climber<'a>,
-    pub ghost linked: { links.items ≡ links_in map.now.files.items },
-    pub ghost sized: { length counts.items ≡ length map.now.files.items },
-    pub ghost counted: { (n : ℕ) → n < length map.now.files.items → slice_index counts.items n ≡ names_at (table_in map.now.files.items) n (length map.now.files.items) },
-    pub ghost climbed: { climber.records.now ≡ map.now.files.items },
+    /// The ways up from the files.
+    pub ways: Ways,
+}
+
+impl Names {
+    /// The names of these records: the record in use of each number, if there is one. The error is
+    /// want of memory. It takes time and memory linear in the records.
+    pub fn new(alloc: Global, records: &[Option<FileRec>]) -> Result<Self, Memory>
+        ensures value { IfOk result (λ names. AreNamesOf names records.now) }
+    {
+        let links = links_in(alloc, records)?;
+        let counts = counts_in(alloc, records, &links)?;
+        let ways = Ways::new(alloc, records, &links)?;
+        Ok(Names {
+            links,
+            counts,
+            ways,
+        })
+    }
+}
+
+/// A loaded volume, with the names of its files.
+#[derive(Clone, Copy)]
+pub struct NamedVolume<'a> {
+    /// The volume.
+    pub map: &'a VolumeMap,
+    /// The names of its files.
+    pub names: &'a Names,
+    pub ghost named: { AreNamesOf names.now map.now.files.items },
 }
 
 impl<'a> NamedVolume<'a> {
-    /// This loaded volume, with the names of its files. The error is want of memory. It takes time
-    /// and memory linear in the records.
-    pub fn new(alloc: Global, map: &'a VolumeMap) -> Result<Self, Memory>
-        ensures { IfOk result (λ volume. volume.map.now ≡ map.now) }
+    /// This loaded volume, with these names of its files. It takes constant time.
+    pub fn new(map: &'a VolumeMap, names: &'a Names) -> Self
+        requires { AreNamesOf names.now map.now.files.items }
+        ensures map { result.map.now ≡ map.now }
     {
-        let links = links_in(alloc, &map.files)?;
-        let counts = counts_in(alloc, &map.files, &links)?;
-        let climber = Climber::new(alloc, &map.files, &links)?;
-        Ok(NamedVolume {
-            map,
-            links,
-            counts,
-            climber,
-        })
+        NamedVolume { map, names }
+    }
+
+    /// The ways up from the volume's files. It takes constant time.
+    pub fn climber(&self) -> Climber<'a>
+        ensures records { result.records.now ≡ self.now.map.now.files.items }
+    {
+        Climber::new(&self.map.files, &self.names.ways)
     }
 }

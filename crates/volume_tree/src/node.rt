@@ -88,7 +88,7 @@ pub fn node_at(alloc: Global, volume: &NamedVolume, number: u64) -> Result<Optio
     let Some(file) = file_at(&volume.map.files, number) else {
         return Ok(None);
     };
-    let names = links_of(&volume.links, number);
+    let names = links_of(&volume.names.links, number);
     if number < FIRST_USER_RECORD && names.is_empty() {
         return Ok(None);
     }

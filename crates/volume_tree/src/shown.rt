@@ -48,7 +48,7 @@ pub fn shown_at(alloc: Global, volume: &NamedVolume, number: u64) -> Result<Opti
     let Some(file) = file_at(&volume.map.files, number) else {
         return Ok(None);
     };
-    let names = links_of(&volume.links, number);
+    let names = links_of(&volume.names.links, number);
     if number < FIRST_USER_RECORD && names.is_empty() {
         return Ok(None);
     }
