@@ -30,7 +30,8 @@ base_behind first m place = record {
 }
 
 -- A volume was mounted from the first sectors. The image is as long, and bears the blocks by which the log is found as they were; the log of it is read whole, and recovery by it leaves the content of
--- the store's window so many commits back on all that is claimed there. This is a state, which a mount doesn't refuse for its version or a change journal.
+-- the store's window so many commits back on all that is claimed there. This is a state that shows what a mount
+-- asks beside the rules; the laps of the log don't come near their end, no entry stands behind a restart page that says that the log is closed, and the list shadows none of the log's own blocks.
 pub record IsLeftBy (first image : List (List ℕ)) (m : MountedVolume) (place : LogPlace) (w : StoreWindow) : Type 0 where
   pub mounted : mounted_of first ≡ Ok m
   pub alike : LieAlike place m.opened.place
