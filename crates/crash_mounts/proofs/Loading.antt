@@ -1,0 +1,42 @@
+-- A state is loaded.
+use Rattle.std.proofs.Common.{◌≡◌, ℕ, Option, None, Result, Ok, ap, ◌∙◌}
+use Rattle.host_base.specs.Answers.{◌>>=◌}
+use Rattle.disk_model.specs.Content.{Content}
+use Rattle.state_model.specs.declared.broken.Broken.{Broken}
+use Rattle.state_model.specs.declared.geometry.MapRefusal.{MapRefusal}
+use Rattle.volume_model.specs.Volumes.{Volume, upper_of}
+use Rattle.volume_state.specs.Rules.{first_broken}
+use Rattle.volume_state.specs.Trees.{reported, checked}
+use Rattle.log_page.specs.declared.places.LogPlace.{LogPlace}
+use Rattle.image_open.specs.declared.refusal.Refusal.{Refusal}
+use Rattle.image_open.specs.Errors.{map_refusal, refused_as}
+use Rattle.image_read.specs.Errors.{broken_refusal}
+use Rattle.image_read.specs.Checks.{volume_on, tree_on}
+use Rattle.volume_shadows.specs.Live.{least_live}
+use Rattle.volume_mount.specs.Mounts.{Said, unless_said, has_pages, may_be_changed, unshadowed, placed, ruled, settled, paged, unjournaled, tried, loaded_on}
+use Rattle.crash_mounts.specs.Loading.{IsWelcome, StatesLoad}
+
+ruled_ok : (c : Content) (v : Volume) → first_broken c v ≡ None → ruled c v ≡ Ok v
+unfolding ruled tree_on checked
+ruled_ok c v kept = ap (λ (o : Option Broken). refused_as broken_refusal (reported c v o) >>= λ _. ok_volume v) kept
+  where
+    ok_volume : Volume → Result Volume Refusal
+    ok_volume w = Ok w
+
+placed_ok : (said : Said) (place : LogPlace) (v : Volume) → may_be_changed place v ≡ Ok tt → least_live said v ≡ None → placed said place v ≡ Ok v
+unfolding placed unshadowed
+placed_ok said place v lies none = ap (λ (r : Result (Unit {0}) Refusal). r >>= λ _. unshadowed said v) lies ∙ ap (λ (o : Option ℕ). unless_said o v) none
+
+tried_ok : (said : Said) (place : LogPlace) (c : Content) (v : Volume) → first_broken c v ≡ None → IsWelcome c v → has_pages place ≡ Ok tt → may_be_changed place v ≡ Ok tt → least_live said v ≡ None → tried said place c v ≡ Ok v
+unfolding tried unjournaled paged settled
+tried_ok said place c v kept welcome pages lies none =
+    ap (λ (r : Result (Unit {0}) Refusal). r >>= λ _. unjournaled said (upper_of c v) place c v) welcome.version
+    ∙ ap (λ (r : Result (Unit {0}) Refusal). r >>= λ _. paged said place c v) welcome.no_journal
+    ∙ ap (λ (r : Result (Unit {0}) Refusal). r >>= λ _. settled said place c v) pages
+    ∙ ap (λ (r : Result Volume Refusal). r >>= placed said place) (ruled_ok c v kept)
+    ∙ placed_ok said place v lies none
+
+pub states_load : StatesLoad
+unfolding loaded_on volume_on
+states_load said place c g total v s welcome pages lies none =
+    ap (λ (r : Result Volume MapRefusal). refused_as map_refusal r >>= tried said place c) s.loaded ∙ tried_ok said place c v s.kept welcome pages lies none

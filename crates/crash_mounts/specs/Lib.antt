@@ -1,0 +1,5 @@
+pub mod Opening
+pub mod Reading
+pub mod Loading
+pub mod Clearing
+pub mod Mounting
