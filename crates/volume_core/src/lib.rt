@@ -9,6 +9,7 @@
 
 mod closing;
 mod fault;
+mod laws;
 mod logging;
 mod preparing;
 mod putting;
@@ -20,5 +21,6 @@ pub use disk_model::Change;
 pub use fault::PutFault;
 pub use flush_policy::StoreStep;
 pub use host_base::Failed;
+pub use laws::puts_spare;
 pub use txn_close::CloseFault;
 pub use volume::Volume;
