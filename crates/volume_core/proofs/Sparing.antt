@@ -8,11 +8,14 @@ use Rattle.disk_model.specs.declared.block.Body.{Body}
 use Rattle.disk_model.specs.declared.block.Change.{Change}
 use Rattle.disk_model.specs.Content.{Content}
 use Rattle.disk_model.specs.Sectors.{sectors, are_rivals}
-use Rattle.sector_device.specs.Disks.{is_within}
+use Rattle.sector_device.specs.Disks.{Disk, is_within}
 use Rattle.sector_device.specs.Moments.{Changes}
 use Rattle.block_view.specs.Changes.{content_after}
+use Rattle.log_model.specs.declared.entry.Entry.{Entry}
 use Rattle.log_model.specs.Logs.{is_in_grid}
 use Rattle.log_page.specs.declared.places.LogPlace.{LogPlace}
+use Rattle.store_model.specs.Logs.{has_update}
+use Rattle.store_model.specs.Stores.{Store}
 use Rattle.store_model.specs.Volumes.{is_known, is_free}
 use Rattle.store_claims.specs.Windows.{StoreWindow}
 use Rattle.store_model.proofs.Told.{true≢false, or_left}
@@ -23,6 +26,7 @@ use Rattle.map_change.specs.Parts.{MapParts, map_of}
 use Rattle.state_blocks.specs.Needing.{IsNeeded}
 use Rattle.txn_model.specs.Values.{StoreFacts, is_own, own_of}
 use Rattle.txn_model.specs.Calls.{begun_facts, committed_facts}
+use Rattle.txn_laws.specs.Standing.{StandsBehind}
 use Rattle.txn_laws.specs.Windows.{HasWindow}
 use Rattle.txn_state.specs.States.{StateOf, facts_of}
 use Rattle.txn_core.specs.Views.{present_on, present_content}
@@ -33,7 +37,8 @@ use Rattle.volume_core.specs.Changes.{MayLog, AreApart, LeadsOn}
 use Rattle.volume_core.specs.Windows.{changed_by, LeadsTo, StaysWindow, AfterChanges, AfterPutting}
 use Rattle.volume_core.specs.Logging.{StoppedBy, ChangedBy}
 use Rattle.volume_core.specs.declared.fault.PutFault.{PutFault}
-use Rattle.volume_core.specs.Puts.{PutsContent, PutsMap, PutsFacts}
+use Rattle.volume_core.specs.Puts.{PutsContent, PutsMap, PutsFacts, PutsOver}
+use Rattle.volume_core.specs.Spared.{PutsSpare}
 use Rattle.volume_core.proofs.Lists.{each_weaker, unchanged_by, changed_whole, changed_found}
 use Rattle.volume_core.proofs.Contents.{committed_content, stopped_content}
 use Rattle.volume_core.proofs.Following.{next_map}
@@ -202,3 +207,38 @@ spares_behind (Ok tt) xs (Some disk) old new before now m next table some shut e
     (one_content (content_after xs (present_on disk (facts_of old))) (present_on disk (facts_of new)) content) map
 spares_behind (Err failure) xs (Some disk) old new before now m next table some shut each apart same facts windows content spares leads map =
     spares_left disk xs (facts_of old) (facts_of new) before now m next table some shut each apart same spares leads failure facts windows map
+
+-- ---- by each window that follows
+
+-- where no transaction is open none changed a block
+shut_window : (changes : Changes) (f : StoreFacts) (w : StoreWindow) → HasWindow changes f w → f.is_open ≡ false → (b : Block) → is_some (f.before b) ≡ false
+shut_window changes f w has closed b = behind has.0 has.2 has.3
+  where
+    behind : (raw : Disk) (m : Store) → StandsBehind f raw m → is_some (f.before b) ≡ false
+    behind raw m h = sym (h.window.changed b) ∙ ap (λ (us : List Entry). has_update us b) (h.sound.closed (h.window.is_open ∙ closed))
+
+-- no changes were put
+none_spared : (disk : List (List ℕ)) (f g : StoreFacts) (w v : StoreWindow) (m : MapParts) (table : List ℕ) (leads : LeadsOn m table [] (present_on disk f)) → g ≡ f → ((b : Block) → v.present b ≡ w.present b) → present_on disk g ≡ content_after [] (present_on disk f)
+    → ((b : Block) → IsNeeded (present_on disk f) m.volume b → IsSpared f w disk b) → (b : Block) → IsNeeded (present_on disk g) leads.volume b → IsSpared g v disk b
+none_spared disk f g w v m table leads same after content spared b needed = elim (leads.draft.covers b (subst (λ (c : Content). IsNeeded c leads.volume b) content needed)) [
+  | inl old ↦ same_spared disk f g w v b same (after b) (spared b old)
+  | inr some ↦ absurd (true≢false (sym some))
+]
+
+changes_spared : (xs : List Change) (disk : List (List ℕ)) (f g : StoreFacts) (w v : StoreWindow) (m : MapParts) (table : List ℕ) (leads : LeadsOn m table xs (present_on disk f)) → AreApart xs → AllByRecursion (MayLog f) xs → present_on disk g ≡ content_after xs (present_on disk f)
+    → PutsFacts {E = PutFault} (Ok tt) xs (Some disk) f g → AfterChanges xs w v → ((b : Block) → IsNeeded (present_on disk f) m.volume b → IsSpared f w disk b) → (b : Block) → IsNeeded (present_on disk g) leads.volume b → IsSpared g v disk b
+changes_spared [] disk f g w v m table leads apart each content facts after spared b needed = none_spared disk f g w v m table leads facts after.present content spared b needed
+changes_spared (x ∷ xs) disk f g w v m table leads apart each content facts after spared b needed = put_spared disk (x ∷ xs) f g w v m table leads apart each content facts after.present spared b needed
+
+failed_spared : (failure : PutFault) (xs : List Change) (disk : List (List ℕ)) (f g : StoreFacts) (w v : StoreWindow) (m : MapParts) (table : List ℕ) → LeadsOn m table xs (present_on disk f) → ((b : Block) → is_some (f.before b) ≡ false) → PutsFacts (Err failure) xs (Some disk) f g
+    → ((b : Block) → v.present b ≡ w.present b) → ((b : Block) → IsNeeded (present_on disk f) m.volume b → IsSpared f w disk b) → (b : Block) → IsNeeded (present_on disk g) m.volume b → IsSpared g v disk b
+failed_spared failure xs disk f g w v m table leads shut (inl stays) after spared b needed = same_spared disk f g w v b stays (after b) (spared b (subst (λ (h : StoreFacts). IsNeeded (present_on disk h) m.volume b) stays needed))
+failed_spared failure xs disk f g w v m table leads shut (inr done) after spared b needed = left_spared disk xs f g w v m table leads shut done after spared b needed
+
+pub all_spared : PutsSpare
+all_spared (Ok tt) xs disk old new before now m next table w u has closed each apart leads put after spared b needed =
+    changes_spared xs disk (facts_of old) (facts_of new) w u m table leads apart each (one_content (content_after xs (present_on disk (facts_of old))) (present_on disk (facts_of new)) put.content) put.facts after spared b
+    (subst (λ (x : Volume). IsNeeded (present_on disk (facts_of new)) x b) (ap (λ (x : MapParts). x.volume) (next_map m next table xs (present_on disk (facts_of old)) leads put.map)) needed)
+all_spared (Err failure) xs disk old new before now m next table w u has closed each apart leads put after spared b needed =
+    failed_spared failure xs disk (facts_of old) (facts_of new) w u m table leads (shut_window before (facts_of old) w has closed) put.facts after.present spared b
+    (subst (λ (x : MapParts). IsNeeded (present_on disk (facts_of new)) x.volume b) put.map needed)

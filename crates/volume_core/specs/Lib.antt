@@ -7,3 +7,4 @@ pub mod Logging
 pub mod Preparing
 pub mod Puts
 pub mod Turns
+pub mod Spared

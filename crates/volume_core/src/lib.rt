@@ -8,6 +8,7 @@
 #![tactic(auto)]
 
 mod fault;
+mod laws;
 mod logging;
 mod preparing;
 mod putting;
@@ -18,5 +19,6 @@ pub use disk_model::Change;
 pub use fault::PutFault;
 pub use flush_policy::StoreStep;
 pub use host_base::Failed;
+pub use laws::puts_spare;
 pub use putting::put_changes;
 pub use turning::turn_store;

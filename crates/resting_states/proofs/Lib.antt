@@ -1,0 +1,6 @@
+pub mod Finding
+pub mod Storing
+pub mod Putting
+pub mod Turning
+pub mod Starting
+pub mod Recovering
