@@ -1,6 +1,7 @@
 //! The laws of these definitions.
 ghost use Rattle.plans_lead.specs.Leading.{PlansLeadOn};
 
+use names_stay::writes_keep_names;
 use spares_at_mount::blocks_off_log;
 use writes_keep::writes_keep;
 
@@ -12,4 +13,5 @@ pub fn plans_lead_on()
 {
     blocks_off_log();
     writes_keep();
+    writes_keep_names();
 }
