@@ -1,5 +1,5 @@
 -- A block from which a state is read is one that its store may change, or one by which the log is found.
-use Rattle.std.proofs.Common.{◌≡◌, ℕ, ◌+◌, ◌*◌, ◌/◌, ◌<◌, ◌≤◌, Bool, true, false, ◌&&◌, ◌||◌, eqb, ltb, List, Option, Some, None, refl, sym, ap, subst, ◌∙◌, inl, inr, arith}
+use Rattle.std.proofs.Common.{◌≡◌, ℕ, ◌+◌, ◌*◌, ◌/◌, Bool, true, false, ◌||◌, eqb, ltb, List, Option, Some, None, refl, sym, ap, subst, ◌∙◌, inl, inr, arith}
 use Rattle.std.specs.Prelude.{◌⊎◌}
 use Rattle.std.specs.List.{list_any}
 use Rattle.std.proofs.lemmas.Bool.{cases_Bool, and_parts, and_from, eqb-true, eq-eqb, ltb-true}
@@ -16,7 +16,6 @@ use Rattle.state_model.specs.Loads.{boot_block}
 use Rattle.volume_model.specs.Volumes.{Volume}
 use Rattle.volume_model.specs.Sizes.{is_at, placed_record, keeps_place}
 use Rattle.stream_laws.specs.Owners.{stream_kind, Owns}
-use Rattle.stream_laws.specs.Sharing.{stream_at, runs_in}
 use Rattle.stream_laws.specs.Tables.{table_key}
 use Rattle.stream_laws.proofs.Owning.{one_block}
 use Rattle.stream_laws.proofs.Placing.{lies}

@@ -1,6 +1,6 @@
 -- The window of a store at its start over a mounted volume holds the state of this volume.
-use Rattle.std.proofs.Common.{◌≡◌, ℕ, ◌^◌, ◌<◌, ◌≤◌, List, length, Result, Ok, refl, sym, ap, subst, ◌∙◌, inl, inr, arith}
-use Rattle.std.specs.Prelude.{◌⊎◌, true}
+use Rattle.std.proofs.Common.{◌≡◌, ℕ, ◌^◌, ◌<◌, ◌≤◌, List, length, Result, Ok, refl, sym, ap, subst, ◌∙◌}
+use Rattle.std.specs.Prelude.{true}
 use Rattle.host_base.specs.Answers.{◌>>=◌}
 use Rattle.disk_model.specs.declared.block.Block.{Block}
 use Rattle.disk_model.specs.Sectors.{sector_of}
@@ -8,7 +8,11 @@ use Rattle.disk_model.specs.Content.{Content, content_of}
 use Rattle.sector_device.specs.Moments.{Changes}
 use Rattle.record_model.proofs.Answering.{steps_from_ok}
 use Rattle.log_page.specs.declared.places.LogPlace.{LogPlace}
+use Rattle.state_model.specs.declared.geometry.Geometry.{Geometry}
 use Rattle.volume_model.specs.Volumes.{Volume}
+use Rattle.stream_laws.proofs.Rewriting.{volume_parts}
+use Rattle.map_change.specs.Parts.{MapParts}
+use Rattle.volume_core.specs.Volumes.{geometry_of}
 use Rattle.volume_model.specs.Indexes.{void_block}
 use Rattle.plan_owners.specs.States.{Stands}
 use Rattle.volume_mount.specs.Mounts.{pages_lie, holds_boot, has_single_lists, may_be_changed, MountedVolume, mounted_in}
@@ -19,12 +23,15 @@ use Rattle.txn_laws.specs.Windows.{HasStart}
 use Rattle.member_states.specs.Members.{base_of, is_found, void_body, MembersAre}
 use Rattle.member_states.proofs.Starting.{holds_content}
 use Rattle.member_states.proofs.Recovering.{void_is}
-use Rattle.safe_blocks.specs.Safe.{HasBoot, SuitsStore, IsStoreOf}
+use Rattle.safe_blocks.specs.Safe.{SuitsStore, IsStoreOf}
 use Rattle.safe_blocks.proofs.Listing.{own_lists, boot_held}
 use Rattle.safe_blocks.proofs.Blocks.{is_safe}
 
 unit_is : {F : Type 0} (r : Result (Unit {0}) F) (x : Unit {0}) → r ≡ Ok x → r ≡ Ok tt
 unit_is r tt is = is
+
+abbrev geometry_with : ℕ → ℕ → Geometry
+geometry_with per mft = record { per_cluster = per; mft = mft }
 
 -- what a volume that may be changed shows
 asked : (place : LogPlace) (v : Volume) → may_be_changed place v ≡ Ok tt → (holds_boot v ≡ Ok tt) × (has_single_lists v ≡ Ok tt)
@@ -60,6 +67,13 @@ module _ (by_record : MountedByRecord) (on_ring : MountedOnRing) (passes : Mount
 
   pub stands : (f : StoreFacts) → mounted_in c sectors ≡ Ok m → IsStoreOf f m → Stands m.content m.opened.geometry m.opened.total m.volume
   stands f is store = (found_record f is store).stands
+
+  pub geometry : (f : StoreFacts) (p : MapParts) → mounted_in c sectors ≡ Ok m → IsStoreOf f m → p.volume ≡ m.volume → (geometry_of p ≡ m.opened.geometry) × (p.volume.clusters ≡ m.opened.total)
+  geometry f p is store same =
+      let parts = volume_parts m.content m.opened.geometry m.opened.total m.volume (found_record f is store).stands.loaded in (
+        ap (λ (v : Volume). geometry_with v.per v.mft) same ∙ ap (λ (n : ℕ). geometry_with n m.volume.mft) (sym parts.per) ∙ ap (λ (n : ℕ). geometry_with m.opened.geometry.per_cluster n) (sym parts.place),
+        ap (λ (v : Volume). v.clusters) same ∙ sym parts.count,
+      )
 
   pub holds : (changes : Changes) (f : StoreFacts) (d lies : Content) (start : HasStart changes f d) → mounted_in c sectors ≡ Ok m → IsStoreOf f m → Stands d m.opened.geometry m.opened.total m.volume
       → ((x : Block) → is_found (base_of f lies m.opened.geometry m.opened.total) x ≡ true → d x ≡ lies x) → d void_block ≡ void_body → MembersAre (base_of f lies m.opened.geometry m.opened.total) start.window

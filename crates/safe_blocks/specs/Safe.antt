@@ -21,6 +21,8 @@ use Rattle.volume_mount.specs.Mounts.{boot_key, holds_boot, has_single_lists, Mo
 use Rattle.store_model.specs.Volumes.{is_known}
 use Rattle.txn_model.specs.Values.{StoreFacts, is_own}
 use Rattle.txn_laws.specs.Windows.{HasStart}
+use Rattle.map_change.specs.Parts.{MapParts}
+use Rattle.volume_core.specs.Volumes.{geometry_of}
 use Rattle.member_states.specs.Members.{base_of, is_found, IsSafe, void_body, MembersAre}
 use Rattle.spares_at_mount.specs.Mounts.{LiesInLog}
 
@@ -69,6 +71,8 @@ pub record IsStoreOf (f : StoreFacts) (m : MountedVolume) : Type 0 where
 -- mounted volume, over another one, and over that of these sectors; where what lies in the blocks by which the log is found is as it always was, and the block past the end of every disk is zeros.
 pub record MountsHoldStates : Type 0 where
   pub suits : (c : Content) (sectors : ℕ) (m : MountedVolume) (f : StoreFacts) (d : Content) → mounted_in c sectors ≡ Ok m → IsStoreOf f m → Stands d m.opened.geometry m.opened.total m.volume → SuitsStore d m.opened.geometry m.opened.total f.place m.volume
+  -- a map of this volume finds the file table where it was opened, and as many clusters
+  pub geometry : (c : Content) (sectors : ℕ) (m : MountedVolume) (f : StoreFacts) (p : MapParts) → mounted_in c sectors ≡ Ok m → IsStoreOf f m → p.volume ≡ m.volume → (geometry_of p ≡ m.opened.geometry) × (p.volume.clusters ≡ m.opened.total)
   pub stands : (c : Content) (sectors : ℕ) (m : MountedVolume) (f : StoreFacts) → mounted_in c sectors ≡ Ok m → IsStoreOf f m → Stands m.content m.opened.geometry m.opened.total m.volume
   pub content : (c : Content) (sectors : ℕ) (m : MountedVolume) (changes : Changes) (f : StoreFacts) (d lies : Content) (start : HasStart changes f d) → mounted_in c sectors ≡ Ok m → IsStoreOf f m → Stands d m.opened.geometry m.opened.total m.volume
       → ((x : Block) → is_found (base_of f lies m.opened.geometry m.opened.total) x ≡ true → d x ≡ lies x) → d void_block ≡ void_body → MembersAre (base_of f lies m.opened.geometry m.opened.total) start.window

@@ -1,4 +1,4 @@
-use Rattle.safe_blocks.proofs.Mounted.{suits, stands, holds, holds_mounted, holds_disk}
+use Rattle.safe_blocks.proofs.Mounted.{suits, geometry, stands, holds, holds_mounted, holds_disk}
 use Rattle.safe_blocks.proofs.laws.mounts_hold_states.Goals as goal
 
 pub returns : goal.returns
@@ -8,6 +8,7 @@ returns c =
     let passes = c.mounted_passes.ensures in
     record {
       suits = suits by_record on_ring passes;
+      geometry = geometry by_record on_ring passes;
       stands = stands by_record on_ring passes;
       content = holds by_record on_ring passes;
       mounted = holds_mounted by_record on_ring passes;
