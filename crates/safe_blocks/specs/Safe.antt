@@ -61,7 +61,7 @@ pub record NeededAreSafe : Type 0 where
 
 -- ---- mounted volumes
 
--- The store has its log where that of the mounted volume lies, and knows the blocks by which it is found.
+-- The store has its log where that of the mounted volume lies, in fewer than 2^52 pages, and keeps the blocks by which it is found.
 pub record IsStoreOf (f : StoreFacts) (m : MountedVolume) : Type 0 where
   pub place : LieAlike f.place m.opened.place
   pub found : f.found ≡ found_by m.opened.geometry
