@@ -1,0 +1,31 @@
+//! The laws of these definitions.
+ghost use Rattle.safe_blocks.specs.Safe.{BootIsHeld, MountsHoldStates, NeededAreSafe, SingleListsAreOwn};
+
+use mount_laws::{mounted_by_record, mounted_on_ring, mounted_passes};
+
+/// Law: where no file has a second attribute list, each file's attribute list is the one that its
+/// own record has.
+pub fn single_lists_are_own()
+    ensures { SingleListsAreOwn }
+{}
+
+/// Law: where a mount finds that the boot sector is $Boot's, the first cluster is one of the unnamed
+/// data of $Boot.
+pub fn boot_is_held()
+    ensures { BootIsHeld }
+{}
+
+/// Law: a block from which a state is read is one that a store may change whose log lies in the
+/// volume's log, or one by which this log is found.
+pub fn needed_are_safe()
+    ensures { NeededAreSafe }
+{}
+
+/// Law: the window of a store at its start over a mounted volume holds the state of this volume.
+pub fn mounts_hold_states()
+    ensures { MountsHoldStates }
+{
+    mounted_by_record();
+    mounted_on_ring();
+    mounted_passes();
+}

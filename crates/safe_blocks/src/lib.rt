@@ -1,0 +1,9 @@
+//! What a mounted volume gives to a store whose window is to hold states: each block from which its
+//! state is read is one that the store may change, or one by which its log is found.
+//!
+//! The contract: the laws of these definitions, as functions with no body of their own.
+#![tactic(auto)]
+
+mod laws;
+
+pub use laws::{boot_is_held, mounts_hold_states, needed_are_safe, single_lists_are_own};
