@@ -27,7 +27,7 @@ use Rattle.image_read.specs.Checks.{volume_on, has_version}
 use Rattle.ring_laws.specs.PageBytes.{raw_page}
 use Rattle.store_claims.specs.Windows.{StoreWindow}
 use Rattle.txn_laws.specs.Windows.{RecoversWithin}
-use Rattle.volume_mount.specs.Mounts.{Said, has_no_journal, front_sectors, lying_pages, pages_needed, pages_lie, holds_boot, has_single_lists, has_pages, may_be_changed, unshadowed, placed, ruled, settled, paged, unjournaled, tried, loaded_on, MountedVolume, content_behind, mounted_as, mounted_by, mounted_in, mounted_of}
+use Rattle.volume_mount.specs.Mounts.{Said, has_no_journal, front_sectors, lying_pages, pages_needed, pages_lie, has_single_lists, has_pages, may_be_changed, unshadowed, placed, ruled, settled, paged, unjournaled, tried, loaded_on, MountedVolume, content_behind, mounted_as, mounted_by, mounted_in, mounted_of}
 use Rattle.member_states.specs.Members.{VolumeBase, MembersAre}
 use Rattle.member_states.specs.Crashes.{RecoversToState}
 use Rattle.member_states.proofs.Recovering.{to_state}
@@ -66,7 +66,7 @@ first_parts c sectors m is =
     let pages = steps_from_ok (has_pages o.place) (λ _. settled said o.place after v) second.0 journal.2 in
     let rules = steps_from_ok (ruled after v) (placed said o.place) second.0 pages.2 in
     let fit = steps_from_ok (may_be_changed o.place rules.0) (λ _. unshadowed said rules.0) second.0 rules.2 in
-    let lying = steps_from_ok (pages_lie o.place rules.0) (λ _. holds_boot rules.0 >>= λ _. has_single_lists rules.0) fit.0 fit.1 in
+    let lying = steps_from_ok (pages_lie o.place rules.0) (λ _. has_single_lists rules.0) fit.0 fit.1 in
     let made : mounted_as c o second.0 ≡ m = cc in
     let parts : FirstParts c sectors (mounted_as c o second.0) =
     record { opened = first.1; pages = unit_is (has_pages o.place) pages.0 pages.1; volume = rules.0; lies = unit_is (pages_lie o.place rules.0) lying.0 lying.1 }
@@ -185,7 +185,6 @@ module _ (needed_is_all : NeededIsAll) (first image : List (List ℕ)) (m : Moun
   welcome = record {
     version = x.welcome.version;
     no_journal = subst (λ (u : List ℕ). has_no_journal u x.volume ≡ Ok tt) (sym (needed_is_all.upper state (recovered c list) x.volume agrees)) x.welcome.no_journal;
-    boot = x.welcome.boot;
     lists = x.welcome.lists;
     log = x.welcome.log;
   }
@@ -205,8 +204,7 @@ module _ (needed_is_all : NeededIsAll) (first image : List (List ℕ)) (m : Moun
   fit : may_be_changed m.opened.place x.volume ≡ Ok tt
   unfolding may_be_changed
   fit =
-      ap (λ (r : Result (Unit {0}) Refusal). r >>= λ _. holds_boot x.volume >>= λ _. has_single_lists x.volume) lies
-      ∙ ap (λ (r : Result (Unit {0}) Refusal). r >>= λ _. has_single_lists x.volume) x.welcome.boot
+      ap (λ (r : Result (Unit {0}) Refusal). r >>= λ _. has_single_lists x.volume) lies
       ∙ x.welcome.lists
 
   loaded : loaded_on (shadow_lsn list) m.opened.place (recovered c list) base.geometry base.clusters ≡ Ok x.volume

@@ -7,13 +7,12 @@ use Rattle.plan_owners.specs.States.{Stands}
 use Rattle.log_page.specs.declared.places.LogPlace.{LogPlace}
 use Rattle.image_read.specs.Checks.{has_version}
 use Rattle.volume_shadows.specs.Live.{least_live}
-use Rattle.volume_mount.specs.Mounts.{Said, has_no_journal, holds_boot, has_single_lists, has_pages, may_be_changed, loaded_on}
+use Rattle.volume_mount.specs.Mounts.{Said, has_no_journal, has_single_lists, has_pages, may_be_changed, loaded_on}
 
--- what a mount asks of a state, beside the rules: its version, no change journal, that the boot sector is $Boot's, that no attribute list has a second piece, and that record 2 is a file's
+-- what a mount asks of a state, beside the rules: its version, no change journal, that no attribute list has a second piece, and that record 2 is a file's
 pub record IsWelcome (c : Content) (v : Volume) : Type 0 where
   pub version : has_version v ≡ Ok tt
   pub no_journal : has_no_journal (upper_of c v) v ≡ Ok tt
-  pub boot : holds_boot v ≡ Ok tt
   pub lists : has_single_lists v ≡ Ok tt
   pub log : is_some (file_in v log_file) ≡ true
 

@@ -3,7 +3,7 @@ use Rattle.std.proofs.Common.{◌≡◌, ℕ, ◌*◌, ◌/◌, ◌^◌, ◌<◌
 use Rattle.std.specs.Prelude.{is_some}
 use Rattle.std.specs.List.{range_with_len}
 use Rattle.std.proofs.lemmas.Bool.{leb-true}
-use Rattle.host_base.specs.Answers.{◌>>=◌, needs}
+use Rattle.host_base.specs.Answers.{needs}
 use Rattle.disk_model.specs.Content.{Content}
 use Rattle.record_model.specs.Records.{Record}
 use Rattle.record_model.proofs.Answering.{steps_from_ok}
@@ -27,7 +27,7 @@ use Rattle.image_open.specs.Volumes.{data_of}
 use Rattle.image_open.specs.Writing.{OpenedToWrite, opened_to_write_in}
 use Rattle.image_read.specs.Errors.{broken_refusal}
 use Rattle.image_read.specs.Checks.{volume_on, has_version, tree_on}
-use Rattle.volume_mount.specs.Mounts.{Said, unless_said, is_there, begun_sectors, or_all, front_sectors, lying_pages, pages_lie, holds_boot, has_single_lists, may_be_changed, pages_needed, whole_pages, has_pages, has_no_journal, unshadowed, placed, ruled, settled, paged, unjournaled, tried, loaded_on, MountedVolume, content_behind, mounted_as, mounted_by, mounted_in}
+use Rattle.volume_mount.specs.Mounts.{Said, unless_said, is_there, begun_sectors, or_all, front_sectors, lying_pages, pages_lie, has_single_lists, may_be_changed, pages_needed, whole_pages, has_pages, has_no_journal, unshadowed, placed, ruled, settled, paged, unjournaled, tried, loaded_on, MountedVolume, content_behind, mounted_as, mounted_by, mounted_in}
 use Rattle.volume_shadows.specs.Live.{least_live}
 use Rattle.mount_laws.specs.Laws.{MountedOnRing, LiesByRecord, MountedByRecord, PassesMount, MountedPasses}
 use Rattle.mount_laws.proofs.Opened.{OpenedParts, opened_parts, IsWhole, its_place, lies_in_ring}
@@ -83,7 +83,7 @@ module _ (c : Content) (sectors : ℕ) (o : OpenedToWrite) (v : Volume) (small :
   as_lying : (w : Volume) → may_be_changed o.place w ≡ Ok tt → o.place.pages ≤ lying_pages o.place w
   unfolding may_be_changed pages_lie
   as_lying w is =
-      let lying = steps_from_ok (pages_lie o.place w) (λ _. holds_boot w >>= λ _. has_single_lists w) tt is in
+      let lying = steps_from_ok (pages_lie o.place w) (λ _. has_single_lists w) tt is in
       leb-true o.place.pages (lying_pages o.place w) (needed _ _ lying.0 lying.1)
 
   whole : (w : Volume) → pages_needed o.place ≤ whole_pages o.place → o.place.pages ≤ lying_pages o.place w → (IsWhole o.place) × ((f : Record) × (file_in w log_file ≡ Some f))

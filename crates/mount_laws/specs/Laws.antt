@@ -35,8 +35,8 @@ pub record LiesByRecord (sectors : ℕ) (c : Content) (g : Geometry) (total : �
 abbrev pub MountedByRecord : Type 0
 MountedByRecord = (c : Content) (sectors : ℕ) (m : MountedVolume) → mounted_in c sectors ≡ Ok m → m.opened.place.pages < 2 ^ 52 → LiesByRecord sectors m.content m.opened.geometry m.opened.total m.opened.place m.volume
 
--- A mounted volume is of the version that is handled, has no change journal, and a log with the pages that it needs; and may be changed: the log's pages lie on the device, the boot sector is
--- $Boot's, and each attribute list has one piece.
+-- A mounted volume is of the version that is handled, has no change journal, and a log with the pages that it needs; and may be changed: the log's pages lie on the device, and each
+-- attribute list has one piece.
 pub record PassesMount (m : MountedVolume) : Type 0 where
   pub version : has_version m.volume ≡ Ok tt
   pub journal : has_no_journal (upper_in m) m.volume ≡ Ok tt

@@ -33,12 +33,11 @@ use Rattle.state_blocks.specs.Needing.{IsNeeded}
 use Rattle.state_blocks.proofs.Needing.{listed_judged}
 use Rattle.image_open.specs.Volumes.{boot_place}
 use Rattle.image_open.specs.Writing.{found_by}
-use Rattle.volume_mount.specs.Mounts.{boot_key}
 use Rattle.store_model.specs.Volumes.{is_known}
 use Rattle.txn_model.specs.Values.{StoreFacts, is_own}
 use Rattle.member_states.specs.Members.{base_of, is_found, IsSafe}
 use Rattle.spares_at_mount.proofs.Mounting.{judged_apart, apart_known}
-use Rattle.safe_blocks.specs.Safe.{SuitsStore}
+use Rattle.safe_blocks.specs.Safe.{boot_key, SuitsStore}
 
 -- ---- record 2
 

@@ -29,8 +29,8 @@ use Rattle.plan_owners.specs.Agreeing.{list_key}
 use Rattle.plan_owners.proofs.Standing.{slots, joined_at, listed_file, some_file}
 use Rattle.plan_owners.proofs.Unnamed.{slot_of_base}
 use Rattle.image_open.specs.declared.refusal.Refusal.{Refusal}
-use Rattle.volume_mount.specs.Mounts.{boot_key, holds_boot, list_count, has_single_list, unless_failing, has_single_lists}
-use Rattle.safe_blocks.specs.Safe.{SingleListsAreOwn, BootIsHeld}
+use Rattle.volume_mount.specs.Mounts.{list_count, has_single_list, unless_failing, has_single_lists}
+use Rattle.safe_blocks.specs.Safe.{SingleListsAreOwn}
 
 -- ---- counts
 
@@ -120,13 +120,3 @@ module _ (c : Content) (g : Geometry) (clusters : ℕ) (v : Volume) (s : Stands 
 
 pub own_lists : SingleListsAreOwn
 own_lists c g clusters v s single n r base = own_list c g clusters v s single n r base
-
--- ---- the boot sector
-
-needed : (t : Bool) (r : Refusal) → needs t r ≡ Ok tt → t ≡ true
-needed true r e = refl
-needed false r e = absurd cc
-
-pub boot_held : BootIsHeld
-unfolding holds_boot uses
-boot_held v is = some_counted (covers 0) (runs_in (stream_at v boot_key)) (needed _ _ is)

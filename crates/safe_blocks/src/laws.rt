@@ -1,5 +1,5 @@
 //! The laws of these definitions.
-ghost use Rattle.safe_blocks.specs.Safe.{BootIsHeld, MountsHoldStates, NeededAreSafe, SingleListsAreOwn};
+ghost use Rattle.safe_blocks.specs.Safe.{MountsHoldStates, NeededAreSafe, SingleListsAreOwn};
 
 use mount_laws::{mounted_by_record, mounted_on_ring, mounted_passes};
 
@@ -7,12 +7,6 @@ use mount_laws::{mounted_by_record, mounted_on_ring, mounted_passes};
 /// own record has.
 pub fn single_lists_are_own()
     ensures { SingleListsAreOwn }
-{}
-
-/// Law: where a mount finds that the boot sector is $Boot's, the first cluster is one of the unnamed
-/// data of $Boot.
-pub fn boot_is_held()
-    ensures { BootIsHeld }
 {}
 
 /// Law: a block from which a state is read is one that a store may change whose log lies in the

@@ -6,4 +6,4 @@
 
 mod laws;
 
-pub use laws::{boot_is_held, mounts_hold_states, needed_are_safe, single_lists_are_own};
+pub use laws::{mounts_hold_states, needed_are_safe, single_lists_are_own};

@@ -1,12 +1,11 @@
 -- A volume that is mounted: opened by its log, loaded, and refused by nothing; or the first refusal that applies.
-use Rattle.std.specs.Prelude.{ℕ, ◌+◌, ◌/◌, ◌==◌, max, nat_le, not, Bool, true, if◌then◌else◌, List, [], count_by, is_some, Option, Some, None, Result, Ok, Err}
-use Rattle.std.specs.List.{list_any}
+use Rattle.std.specs.Prelude.{ℕ, ◌+◌, ◌/◌, ◌==◌, max, nat_le, not, Bool, true, if◌then◌else◌, List, count_by, is_some, Option, Some, None, Result, Ok, Err}
 use Rattle.std.specs.Int.{div_ceil}
 use Rattle.host_base.specs.Answers.{◌>>=◌, needs}
 use Rattle.disk_model.specs.declared.block.Block.{Block}
 use Rattle.disk_model.specs.Content.{Content}
 use Rattle.record_model.specs.declared.attribute.Attr.{Attr}
-use Rattle.record_model.specs.Constants.{attribute_list, data_type}
+use Rattle.record_model.specs.Constants.{attribute_list}
 use Rattle.record_model.specs.Records.{Record}
 use Rattle.file_tree.specs.declared.tree.Tree.{Tree}
 use Rattle.file_tree.specs.Walks.{child_in}
@@ -14,8 +13,6 @@ use Rattle.state_model.specs.declared.geometry.Geometry.{Geometry}
 use Rattle.state_model.specs.Rules.{first_failing}
 use Rattle.state_model.specs.Trees.{all_links}
 use Rattle.volume_model.specs.Volumes.{Volume, files_by_number, file_in, count_of, log_file, upper_of}
-use Rattle.volume_model.specs.Owners.{covers}
-use Rattle.stream_laws.specs.Sharing.{StreamKey, stream_at, runs_in}
 use Rattle.volume_state.specs.Journals.{extend_file, journal_name}
 use Rattle.volume_state.specs.Trees.{tree_of}
 use Rattle.log_model.specs.Logs.{recovered}
@@ -80,17 +77,6 @@ lying_pages place v = if is_some (file_in v log_file) then front_sectors place /
 unfoldable pub pages_lie : LogPlace → Volume → Result (Unit {0}) Refusal
 pages_lie place v = needs (nat_le place.pages (lying_pages place v)) (LogSmall (lying_pages place v) (pages_needed place))
 
--- the number of $Boot, and its unnamed data
-abbrev pub boot_file : ℕ
-boot_file = 7
-
-abbrev pub boot_key : StreamKey
-boot_key = record { file = boot_file; kind = data_type; name = [] }
-
--- the boot sector lies in a cluster of this; else a file could be given it
-unfoldable pub holds_boot : Volume → Result (Unit {0}) Refusal
-holds_boot v = needs (list_any (covers 0) (runs_in (stream_at v boot_key))) (BadVolume 4 boot_file)
-
 -- how many attributes of a file are attribute lists
 abbrev pub list_count : Record → ℕ
 list_count r = count_by (λ (a : Attr). a.head.kind == attribute_list) r.attrs
@@ -108,10 +94,9 @@ unless_failing (Some n) = Err (BadVolume 4 n)
 unfoldable pub has_single_lists : Volume → Result (Unit {0}) Refusal
 has_single_lists v = unless_failing (first_failing (λ n. has_single_list (file_in v n)) (count_of v))
 
--- What a volume has to show beside the rules before it is changed: the log's pages lie on the device, the boot sector is $Boot's, and no attribute
--- list has a second piece.
+-- What a volume has to show beside the rules before it is changed: the log's pages lie on the device, and no attribute list has a second piece.
 unfoldable pub may_be_changed : LogPlace → Volume → Result (Unit {0}) Refusal
-may_be_changed place v = pages_lie place v >>= λ _. holds_boot v >>= λ _. has_single_lists v
+may_be_changed place v = pages_lie place v >>= λ _. has_single_lists v
 
 -- what the entries of a log say of a block: the LSN of the first update of a rival, where they shadow it
 abbrev pub Said : Type 0
@@ -189,7 +174,7 @@ mounted_in c sectors = opened_to_write_in c sectors >>= mounted_by c
 
 -- The mounted volume on these sectors; or the first refusal that applies: a device of no sectors; the sectors of a cluster, the boot sector,
 -- the device's length, record 2, and the log, as a mount that writes opens a volume; the records of the file table; the version; a change
--- journal; the pages of the log; the nine rules of a volume; a page of the log that lies nowhere; a boot sector that isn't $Boot's; an attribute list in two pieces; and the log,
+-- journal; the pages of the log; the nine rules of a volume; a page of the log that lies nowhere; an attribute list in two pieces; and the log,
 -- by which a live block is shadowed.
 unfoldable pub mounted_of : List (List ℕ) → Result MountedVolume Refusal
 mounted_of disk = on_disk mounted_in disk

@@ -1,80 +1,18 @@
 //! What a volume has to show beside the rules before it is changed.
-ghost use Rattle.std.specs.Prelude.{◌≡◌, IfOk};
-ghost use Rattle.std.specs.List.{list_any};
+ghost use Rattle.std.specs.Prelude.{◌≡◌};
 ghost use Rattle.host_base.specs.Answers.{Gives};
 ghost use Rattle.state_model.specs.Rules.{first_failing};
 ghost use Rattle.volume_model.specs.Volumes.{file_in, count_of};
-ghost use Rattle.volume_model.specs.Owners.{covers};
-ghost use Rattle.stream_laws.specs.Sharing.{stream_at, runs_in};
 ghost use Rattle.volume_map.specs.Maps.{volume_in};
 ghost use Rattle.image_open.specs.Errors.{scan_cause};
-ghost use Rattle.volume_mount.specs.Mounts.{boot_key, holds_boot, list_count, has_single_list, has_single_lists, may_be_changed};
+ghost use Rattle.volume_mount.specs.Mounts.{list_count, has_single_list, has_single_lists, may_be_changed};
 
 use crate::pages::pages_lie;
 use file_record::{FileRec, file_at};
-use host_base::Memory;
 use image_open::{MountFault, Refusal};
 use log_page::LogPlace;
-use record_model::{ATTRIBUTE_LIST, DATA, Run};
-use state_model::Stream;
-use std::alloc::Global;
-use stream_map::stream_of;
+use record_model::ATTRIBUTE_LIST;
 use volume_map::VolumeMap;
-
-// The number of `$Boot`.
-const BOOT_FILE: u64 = 7;
-
-// Whether a run has the volume's first cluster.
-fn is_first(run: &Run) -> bool
-    ensures { result ≡ covers 0 run.now }
-{
-    match run.lcn {
-        Some(lcn) => lcn == 0 && 0 < run.len,
-        None => false,
-    }
-}
-
-fn are_first(runs: &[Run]) -> bool
-    ensures { result ≡ list_any (covers 0) runs.now }
-{
-    runs.iter().any(|run| is_first(run))
-}
-
-// Whether a stream has the volume's first cluster.
-fn has_first(stream: &Option<Stream>) -> bool
-    ensures { result ≡ list_any (covers 0) (runs_in stream.now) }
-{
-    match stream {
-        None => false,
-        Some(Stream::Held(_)) => false,
-        Some(Stream::Placed(extents)) => are_first(extents.runs.as_slice()),
-    }
-}
-
-// The unnamed data of `$Boot`.
-fn boot_data(alloc: Global, map: &VolumeMap) -> Result<Option<Stream>, Memory>
-    ensures { IfOk result (λ stream. stream ≡ stream_at (volume_in map.now) boot_key) }
-{
-    match file_at(&map.files, BOOT_FILE) {
-        Some(file) => stream_of(alloc, DATA, &[], file.attrs().as_slice()),
-        None => Ok(None),
-    }
-}
-
-// Refuses a volume whose boot sector lies in no cluster of `$Boot`.
-#[tactic(auto, unfolding(crate::specs::Mounts::holds_boot))]
-fn holds_boot(alloc: Global, map: &VolumeMap) -> Result<(), MountFault>
-    ensures { Gives (λ x. x) scan_cause result (holds_boot (volume_in map.now)) }
-{
-    let data = boot_data(alloc, map)?;
-    if has_first(&data) {
-        return Ok(());
-    }
-    Err(MountFault::Refused(Refusal::BadVolume {
-        rule: 4,
-        number: BOOT_FILE,
-    }))
-}
 
 // How many attributes of a file are attribute lists.
 fn list_count(file: &FileRec) -> usize
@@ -117,20 +55,14 @@ fn has_single_lists(map: &VolumeMap) -> Result<(), MountFault>
 }
 
 /// Refuses a loaded volume that keeps the nine rules and can't be changed yet without harm
-/// (Linux-NTFS documentation, "$Boot", "$LogFile", "$ATTRIBUTE_LIST").
-///
-/// - [`MountFault::Refused`]: the first that applies of [`Refusal::LogSmall`] where a page of the
-///   log at this place lies nowhere, as [`pages_lie`] says, and [`Refusal::BadVolume`] with rule 4:
-///   with the number of `$Boot` where the boot sector lies in no cluster of its unnamed data, and
-///   with the least number of a file whose attribute list has a second piece.
-/// - [`MountFault::Memory`]: want of memory.
-///
-/// It takes time linear in the attributes of all files, and in the runs of the log and of `$Boot`.
+/// (Linux-NTFS documentation, "$LogFile", "$ATTRIBUTE_LIST"): with the first that applies of
+/// [`Refusal::LogSmall`] where a page of the log at this place lies nowhere, as [`pages_lie`] says,
+/// and [`Refusal::BadVolume`] with rule 4 and the least number of a file whose attribute list has a
+/// second piece. It takes time linear in the attributes of all files and in the runs of the log.
 #[tactic(auto, unfolding(crate::specs::Mounts::may_be_changed))]
-pub fn may_be_changed(alloc: Global, place: &LogPlace, map: &VolumeMap) -> Result<(), MountFault>
+pub fn may_be_changed(place: &LogPlace, map: &VolumeMap) -> Result<(), MountFault>
     ensures { Gives (λ x. x) scan_cause result (may_be_changed place.now (volume_in map.now)) }
 {
     pages_lie(place, map)?;
-    holds_boot(alloc, map)?;
     has_single_lists(map)
 }

@@ -64,7 +64,7 @@ fn placed(
 ) -> Result<(), MountFault>
     ensures { Gives (λ _. volume_in map.now) scan_cause result (placed (least_lsn shadows.now) place.now (volume_in map.now)) }
 {
-    may_be_changed(alloc, place, map)?;
+    may_be_changed(place, map)?;
     unshadowed(alloc, map, shadows)
 }
 
@@ -186,9 +186,9 @@ fn loaded_on<V: View>(
 /// - [`MountFault::Refused`]: the first refusal of the file table's records; then of the version;
 ///   then of a change journal; then of the log's pages; then of the nine rules; then
 ///   [`Refusal::LogSmall`] where a page of the log lies nowhere; then [`Refusal::BadVolume`] with
-///   rule 4 and the number of `$Boot` where the boot sector isn't its own, or of a file with an
-///   attribute list in two pieces; then [`Refusal::ForeignLog`] where the log shadows a live block,
-///   with the LSN of the first update of a rival, of several the least.
+///   rule 4 and the number of a file with an attribute list in two pieces; then
+///   [`Refusal::ForeignLog`] where the log shadows a live block, with the LSN of the first update of
+///   a rival, of several the least.
 /// - [`MountFault::Device`]: the view failed.
 /// - [`MountFault::Memory`]: want of memory.
 pub fn load_recovered<V: View>(

@@ -83,10 +83,10 @@ fn mount_sectors<D: Device>(
 ///   are more; then [`Refusal::BadVolume`] with the first of the nine rules that is broken, and the
 ///   least number at which it is; then [`Refusal::LogSmall`] with the log's pages that lie on the
 ///   device, where record 2 has only the first pieces of its data; then [`Refusal::BadVolume`] with 4
-///   and the number of `$Boot`, where the boot sector lies in no cluster of its data, or that of a
-///   file whose attribute list has a second piece; then [`Refusal::ForeignLog`] where the log shadows
-///   a block that a stream owns and that isn't wholly past the stream's initialised size: with the
-///   LSN of the first update of a rival of such a block, of several the least.
+///   and the number of a file whose attribute list has a second piece; then [`Refusal::ForeignLog`]
+///   where the log shadows a block that a stream owns and that isn't wholly past the stream's
+///   initialised size: with the LSN of the first update of a rival of such a block, of several the
+///   least.
 /// - [`MountFault::Device`]: the device failed.
 /// - [`MountFault::Memory`]: want of memory.
 #[tactic(auto, unfolding(crate::specs::Mounts::mounted_of))]
