@@ -1,6 +1,6 @@
 -- What a file that was written or cut leaves of a volume: its other files, and the blocks of their streams.
-use Rattle.std.proofs.Common.{◌≡◌, ◌≢◌, subst, ℕ, ◌<◌, Bool, true, false, ◌&&◌, ◌||◌, cond, eqb, nat_eq, List, [], ◌∷◌, Option, Some, None, Ok, refl, sym, ap, ap₂, ◌∙◌, inl, inr, arith}
-use Rattle.std.specs.Prelude.{◌⊎◌}
+use Rattle.std.proofs.Common.{◌≡◌, ◌≢◌, subst, ℕ, ◌*◌, ◌<◌, ◌≤◌, Bool, true, false, ◌&&◌, ◌||◌, cond, eqb, nat_eq, List, [], ◌∷◌, Option, Some, None, Ok, refl, sym, ap, ap₂, ◌∙◌, inl, inr, arith}
+use Rattle.std.specs.Prelude.{◌⊎◌, is_some}
 use Rattle.std.specs.List.{AllByRecursion}
 use Rattle.std.specs.Cmp.Lexicographic.{pointwise}
 use Rattle.std.proofs.lemmas.Bool.{cases_eq, both_ways, eqb-true, eq-eqb, ne_eqb}
@@ -22,7 +22,7 @@ use Rattle.state_model.specs.declared.stream.Extents.{Extents}
 use Rattle.state_model.specs.declared.stream.Stream.{Stream}
 use Rattle.state_model.specs.declared.stream.Stream.TheVariants.{Held, Placed}
 use Rattle.state_model.specs.Files.{file_at}
-use Rattle.state_model.specs.Loads.{Used, slot_by, boot_block, judged, extents_in, record_count, table_of, table_slot, used_record, list_stream, cuts_index}
+use Rattle.state_model.specs.Loads.{Used, extents_or, slot_by, boot_block, judged, extents_in, record_count, table_of, table_slot, used_record, list_stream, cuts_index}
 use Rattle.state_model.specs.Streams.{block_at}
 use Rattle.volume_model.specs.Volumes.{Volume, volume_of, count_of, file_in, file_stream, bytes_or, table_file, mirror_file, log_file, bitmap_file, upcase_file, cluster_bits, upper_of, table_or_standard}
 use Rattle.volume_model.specs.Nodes.{some_node, node_at}
@@ -64,7 +64,7 @@ use Rattle.step_model.specs.Streams.{data_of}
 use Rattle.data_plan.specs.declared.change.DataChange.{DataChange}
 use Rattle.data_plan.specs.Changes.{growth_of}
 use Rattle.file_puts.specs.declared.streams.VolumeStreams.{VolumeStreams}
-use Rattle.file_puts.specs.Written.{WritesBy, HasWritten}
+use Rattle.file_puts.specs.Written.{AreStreamsOf, WritesBy, HasWritten}
 use Rattle.written_values.proofs.Growths.{growth_is}
 use Rattle.written_values.proofs.Owning.{IsOwned, is_owned}
 use Rattle.written_values.proofs.Sparing.{elsewhere}
@@ -341,3 +341,20 @@ module _ (c : Content) (g : Geometry) (clusters : ℕ) (v : Volume) (s : VolumeS
 
     pub upper_stays : HasOwnLists c v → upper_of d w ≡ upper_of c v
     upper_stays lists = upper_of_file lists ∙ same_upper c d v (upper_same_in (file_stream data_type [] (file_in v upcase_file)) refl)
+
+    -- ---- what a draft asks of a state
+
+    pub streams_after : HasOwnLists c v → AreStreamsOf w s
+    streams_after lists = record {
+      table = k.streams.table ∙ sym w_table;
+      mirror = ap (λ (o : Option Record). extents_or (file_stream data_type [] o)) (same_file lists mirror_file (not_user mirror_file (omega arith))) ∙ k.streams.mirror;
+      bitmap = record {
+        stream = ap (file_stream data_type []) (same_file lists bitmap_file (not_user bitmap_file (omega arith))) ∙ k.streams.bitmap.stream;
+        lawful = k.streams.bitmap.lawful;
+        below = subst (λ (x : ℕ). x ≤ 8 * s.bitmap.initialised) (sym same_clusters) k.streams.bitmap.below;
+        lies = λ i begun. ap (λ (p : ℕ). is_some (block_at p s.bitmap.runs Plain i)) (w_per ∙ sym v_per) ∙ k.streams.bitmap.lies i begun;
+      };
+    }
+
+  pub journal_after : (tree_of d w).journal ≡ None
+  journal_after = ap (λ (y : Content). (tree_of y w).journal) h.content ∙ h.tree.after.journal ∙ k.journal

@@ -17,6 +17,7 @@ use Rattle.record_model.specs.Pairs.{cluster_limit, HasSpelling}
 use Rattle.record_model.specs.Records.{Record}
 use Rattle.record_model.specs.RecordLaws.{RecordIsBody}
 use Rattle.file_tree.specs.declared.node.Node.{Node}
+use Rattle.file_tree.specs.Walks.{first_user_record}
 use Rattle.bit_set.proofs.Views.{length-bits_of_bytes}
 use Rattle.state_model.specs.declared.geometry.Geometry.{Geometry}
 use Rattle.state_model.specs.declared.stream.Extents.{Extents}
@@ -77,7 +78,7 @@ use Rattle.writes_keep.proofs.Given.{IsDataOf, is_data_of}
 use Rattle.writes_keep.proofs.Touching.{IsWell, AreSectors, IsRecord}
 use Rattle.writes_keep.proofs.Putting.{judged_sector, grown_sector, GoesTo, AllWell, change_well}
 use Rattle.writes_keep.proofs.Second.{off_second}
-use Rattle.writes_keep.proofs.Behind.{IsTouched, table_kind, bitmap_kind, other_file, user_is, v_per, w_per, w_once, same_clusters, not_user, log_stays, data_after, data_kind, is_touched, q, q_file, q_user, lists_after, upper_stays}
+use Rattle.writes_keep.proofs.Behind.{IsTouched, table_kind, bitmap_kind, other_file, user_is, v_per, w_per, w_once, same_clusters, not_user, same_runs, log_stays, data_after, data_kind, is_touched, q, q_file, q_user, lists_after, upper_stays, streams_after, journal_after}
 
 few_runs : (o : Option Stream) (runs : List Run) (most : ℕ) → ((e : Extents) → o ≡ Some (Placed e) → total_clusters e.runs ≤ most) → runs_in o ≡ runs → total_clusters runs ≤ most
 few_runs None runs most each is = subst (λ (l : List Run). total_clusters l ≤ most) is (omega arith)
@@ -270,52 +271,70 @@ module _ (keeps : PlansKeep) (body : RecordIsBody) (c : Content) (g : Geometry) 
   lists_then : HasOwnLists d w
   lists_then = lists_after c g clusters v s op n stamp a r via x new k h each lists
 
-  -- ---- off the log
+  -- ---- off other streams
 
-  off : (b : Block) → GoesTo s n runs_now b → IsOffLog v b
-  off b goes = by (is_touched c g clusters v s op n stamp a r via x new k h b goes)
+  -- the cluster of a block that is touched is none of another stream
+  none_there : (t : StreamKey) (b : Block) → t.file ≢ n → t ≢ table_key → t ≢ bitmap_key → IsTouched w n b → uses (runs_in (stream_at v t)) (cluster_of b) ≡ 0
+  none_there t b file no_table no_bits touched =
+      let first : b.first < b.first + sectors b.kind = (let some = some_sectors b.kind in omega (arith, some)) in
+      let used : 1 ≤ uses (runs_in (stream_at w touched.own.stream)) (b.first / 8) = subst (λ (p : ℕ). 1 ≤ uses (runs_in (stream_at w touched.own.stream)) (b.first / p)) (w_per c g clusters v s op n stamp a r via x new k h) (lies_in_used w.per (runs_in (stream_at w touched.own.stream)) (stream_kind touched.own.stream) touched.own.number b h.draft.stands.some touched.own.lies b.first (omega arith, first)) in
+      let apart : uses (runs_in (stream_at w touched.own.stream)) (b.first / 8) + uses (runs_in (stream_at w t)) (b.first / 8) ≤ 1 = streams_apart w touched.own.stream t (w_once c g clusters v s op n stamp a r via x new k h) (other touched.own.stream touched.own.number touched.which) (b.first / 8) in
+      let same : uses (runs_in (stream_at w t)) (b.first / 8) ≡ uses (runs_in (stream_at v t)) (b.first / 8) = ap (λ (l : List Run). uses l (b.first / 8)) (same_runs c g clusters v s op n stamp a r via x new k h t file) in
+      omega (arith, used, apart, same)
     where
-      per : w.per ≡ 8
-      per = w_per c g clusters v s op n stamp a r via x new k h
-
-      other : (t : StreamKey) (i : ℕ) → ((t ≡ table_key) × (i ≡ n)) ⊎ ((t ≡ bitmap_key) ⊎ (t ≡ data_of n)) → t ≢ log_key
-      other t i (inl its) is = other_file table_key log_key (λ e. omega (arith, e)) (sym its.0 ∙ is)
-      other t i (inr (inl bits)) is = other_file bitmap_key log_key (λ e. omega (arith, e)) (sym bits ∙ is)
-      other t i (inr (inr there)) is = other_file (data_of n) log_key (λ e. other_number log_file (omega arith) (sym e)) (sym there ∙ is)
+      other : (u : StreamKey) (i : ℕ) → ((u ≡ table_key) × (i ≡ n)) ⊎ ((u ≡ bitmap_key) ⊎ (u ≡ data_of n)) → u ≢ t
+      other u i (inl its) is = no_table (sym is ∙ its.0)
+      other u i (inr (inl bits)) is = no_bits (sym is ∙ bits)
+      other u i (inr (inr there)) is = file (ap (λ (y : StreamKey). y.file) (sym is ∙ there))
 
       some_sectors : (y : BlockKind) → 0 < sectors y
       some_sectors Plain = omega arith
       some_sectors FileRec = omega arith
       some_sectors Index = omega arith
 
-      by : IsTouched w n b → IsOffLog v b
-      by touched =
-          let first : b.first < b.first + sectors b.kind = (let some = some_sectors b.kind in omega (arith, some)) in
-          let used : 1 ≤ uses (runs_in (stream_at w touched.own.stream)) (b.first / 8) = subst (λ (p : ℕ). 1 ≤ uses (runs_in (stream_at w touched.own.stream)) (b.first / p)) per (lies_in_used w.per (runs_in (stream_at w touched.own.stream)) (stream_kind touched.own.stream) touched.own.number b h.draft.stands.some touched.own.lies b.first (omega arith, first)) in
-          let apart : uses (runs_in (stream_at w touched.own.stream)) (b.first / 8) + uses (runs_in (stream_at w log_key)) (b.first / 8) ≤ 1 = streams_apart w touched.own.stream log_key (w_once c g clusters v s op n stamp a r via x new k h) (other touched.own.stream touched.own.number touched.which) (b.first / 8) in
-          let same : uses (runs_in (stream_at w log_key)) (b.first / 8) ≡ uses (runs_in (stream_at v log_key)) (b.first / 8) = ap (λ (l : List Run). uses l (b.first / 8)) (log_stays c g clusters v s op n stamp a r via x new k h) in
-          let low = inside d g clusters w b.kind (cluster_of b) h.draft.stands (owned_as w b per touched.own) in
-          let count = same_clusters c g clusters v s op n stamp a r via x new k h in
-          record { grid = in_grid w b per touched.own; inside = omega (arith, low, count); apart = omega (arith, used, apart, same) }
+  off : (b : Block) → IsTouched w n b → IsOffLog v b
+  off b touched =
+      let per : w.per ≡ 8 = w_per c g clusters v s op n stamp a r via x new k h in
+      let low = inside d g clusters w b.kind (cluster_of b) h.draft.stands (owned_as w b per touched.own) in
+      let count = same_clusters c g clusters v s op n stamp a r via x new k h in
+      record {
+        grid = in_grid w b per touched.own;
+        inside = omega (arith, low, count);
+        apart = none_there log_key b (other_number log_file (omega arith)) (other_file log_key table_key (λ e. omega (arith, e))) (other_file log_key bitmap_key (λ e. omega (arith, e))) touched;
+      }
+
+  other_cluster : (t : StreamKey) (i : ℕ) → t.file < first_user_record → t ≢ table_key → t ≢ bitmap_key → 0 < uses (runs_in (stream_at v t)) i → (b : Block) → IsTouched w n b → cluster_of b ≢ i
+  other_cluster t i own no_table no_bits has b touched same =
+      let none = none_there t b (not_user c g clusters v s op n stamp a r via x new k h t.file own) no_table no_bits touched in
+      let there : uses (runs_in (stream_at v t)) (cluster_of b) ≡ uses (runs_in (stream_at v t)) i = ap (uses (runs_in (stream_at v t))) same in
+      omega (arith, has, none, there)
+
+  -- what holds of each block that is touched holds of each that is changed
+  each_block : (P : Block → Type 0) → ((b : Block) → IsTouched w n b → P b) → AllByRecursion (λ (y : Change). P y.block) (changes_of new)
+  each_block P holds =
+      each_change (λ (y : Change). P y.block) new
+      (all_by (IsWell (GoesTo s n runs_now) (IsJudged v)) (λ (t : Touched). change_start t < change_end t → P t.block) (λ t is lt. holds t.block (is_touched c g clusters v s op n stamp a r via x new k h t.block is.goes)) new all_well)
 
   -- ---- all of it
 
-  kept_of : WriteKeeps c g v h.bodies (changes_of new) w
+  kept_of : WriteKeeps c g v s h.bodies (changes_of new) w
   kept_of = record {
     keeps = subst (λ (xs : List Change). ChangesKeep c v h.bodies xs w) done.are
         (keeps c g clusters v w h.bodies h.gave new changes k.sized k.eight k.stands h.draft h.same done (touches_well new done.olds all_well) (log_stays c g clusters v s op n stamp a r via x new k h) lists
         (λ b listed. inr (listed_judged d w b listed (lists_then listed.number listed.file listed.is_file))));
     lists = lists_then;
     upper = upper_stays c g clusters v s op n stamp a r via x new k h each lists;
+    streams = streams_after c g clusters v s op n stamp a r via x new k h each lists;
+    journal = journal_after c g clusters v s op n stamp a r via x new k h;
+    boot = λ t own. same_runs c g clusters v s op n stamp a r via x new k h t (not_user c g clusters v s op n stamp a r via x new k h t.file own);
     log = log_stays c g clusters v s op n stamp a r via x new k h;
-    off = each_change (λ (y : Change). IsOffLog v y.block) new
-        (all_by (IsWell (GoesTo s n runs_now) (IsJudged v)) (λ (t : Touched). change_start t < change_end t → IsOffLog v t.block) (λ t is lt. off t.block is.goes) new all_well);
-    second = each_change (λ (y : Change). overlap y.block (boot_block g 2) ≡ false) new
-        (all_by (IsWell (GoesTo s n runs_now) (IsJudged v)) (λ (t : Touched). change_start t < change_end t → overlap t.block (boot_block g 2) ≡ false) (λ t is lt. off_second d g clusters w h.draft.stands n (user_is c g clusters v s op n stamp a r via x new k h).user t.block (is_touched c g clusters v s op n stamp a r via x new k h t.block is.goes)) new all_well);
+    off = each_block (IsOffLog v) off;
+    others = λ t i own no_table no_bits has. each_block (λ (b : Block). cluster_of b ≢ i) (other_cluster t i own no_table no_bits has);
+    second = each_block (λ (b : Block). overlap b (boot_block g 2) ≡ false) (off_second d g clusters w h.draft.stands n (user_is c g clusters v s op n stamp a r via x new k h).user);
   }
 
-  kept : WriteKeeps c g v h.bodies changes w
-  kept = subst (λ (xs : List Change). WriteKeeps c g v h.bodies xs w) (sym done.are) kept_of
+  kept : WriteKeeps c g v s h.bodies changes w
+  kept = subst (λ (xs : List Change). WriteKeeps c g v s h.bodies xs w) (sym done.are) kept_of
 
 pub all_kept : MadeIsCounted → PlansKeep → RecordIsBody → WritesKeep
 all_kept counted keeps body c g clusters v s op n stamp a r x new changes k h =

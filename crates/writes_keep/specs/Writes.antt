@@ -1,5 +1,5 @@
 -- What a file that an operation writes or cuts leaves of the blocks from which a state is read.
-use Rattle.std.specs.Prelude.{◌≡◌, ℕ, ◌<◌, true, false, List}
+use Rattle.std.specs.Prelude.{◌≡◌, ◌≢◌, ℕ, ◌<◌, true, false, List, None}
 use Rattle.std.specs.List.{AllByRecursion}
 use Rattle.disk_model.specs.declared.block.Block.{Block}
 use Rattle.disk_model.specs.declared.block.BlockKind.TheVariants.{Plain}
@@ -8,24 +8,28 @@ use Rattle.disk_model.specs.Content.{Content}
 use Rattle.disk_model.specs.Sectors.{overlap}
 use Rattle.record_model.specs.Records.{Record}
 use Rattle.file_tree.specs.declared.node.Node.{Node}
+use Rattle.file_tree.specs.Walks.{first_user_record}
 use Rattle.log_model.specs.Logs.{is_in_grid}
 use Rattle.state_model.specs.declared.geometry.Geometry.{Geometry}
 use Rattle.state_model.specs.Loads.{boot_block}
 use Rattle.volume_model.specs.Volumes.{Volume, cluster_bits, upper_of}
 use Rattle.volume_model.specs.Owners.{uses}
-use Rattle.stream_laws.specs.Sharing.{stream_at, runs_in}
+use Rattle.volume_state.specs.Trees.{tree_of}
+use Rattle.stream_laws.specs.Sharing.{StreamKey, stream_at, runs_in}
+use Rattle.stream_laws.specs.Tables.{table_key}
 use Rattle.tree_model.specs.declared.script.Op.{Op}
 use Rattle.plan_owners.specs.Agreeing.{IsJudged, log_key}
 use Rattle.plan_owners.specs.Kinds.{cluster_of}
 use Rattle.plan_bodies.specs.Bodies.{NewBody, content_with}
 use Rattle.plan_draft.specs.declared.touched.Touched.{Touched}
 use Rattle.plan_spares.specs.Plans.{HasOwnLists}
+use Rattle.plan_edits.specs.Edits.{bitmap_key}
 use Rattle.plans_keep.specs.Keeping.{AreFinished, ChangesKeep}
 use Rattle.data_plan.specs.declared.change.DataChange.{DataChange}
 use Rattle.data_plan.specs.Changes.{growth_of}
 use Rattle.made_data.specs.Made.{record_with_data}
 use Rattle.file_puts.specs.declared.streams.VolumeStreams.{VolumeStreams}
-use Rattle.file_puts.specs.Written.{WritesBy, HasWritten}
+use Rattle.file_puts.specs.Written.{AreStreamsOf, WritesBy, HasWritten}
 
 -- no sector by which the state is judged is torn
 abbrev pub HasWholeSectors : Content → Volume → Type 0
@@ -37,17 +41,22 @@ pub record IsOffLog (v : Volume) (b : Block) : Type 0 where
   pub inside : cluster_of b < v.clusters
   pub apart : uses (runs_in (stream_at v log_key)) (cluster_of b) ≡ 0
 
--- The changes lead on as a volume asks. Behind them too no attribute list has a part in another record; the table of upper-case units is the same; and the log keeps its clusters,
--- in none of which a block is changed, nor is record 2 where the boot sector says.
-pub record WriteKeeps (c : Content) (g : Geometry) (v : Volume) (bodies : List NewBody) (changes : List Change) (w : Volume) : Type 0 where
+-- The changes lead on as a volume asks. Behind them too no attribute list has a part in another record; the table of upper-case units is the same; the file table, its mirror and the bits of
+-- clusters have the extents that they had; there is no change journal; and the streams of the volume's own files, the log's and the boot sector's among them, keep their clusters. No change lies
+-- in a cluster of such a stream, other than the file table and the bits of clusters; nor is one of record 2 where the boot sector says.
+pub record WriteKeeps (c : Content) (g : Geometry) (v : Volume) (s : VolumeStreams) (bodies : List NewBody) (changes : List Change) (w : Volume) : Type 0 where
   pub keeps : ChangesKeep c v bodies changes w
   pub lists : HasOwnLists (content_with c bodies) w
   pub upper : upper_of (content_with c bodies) w ≡ upper_of c v
+  pub streams : AreStreamsOf w s
+  pub journal : (tree_of (content_with c bodies) w).journal ≡ None
+  pub boot : (t : StreamKey) → t.file < first_user_record → runs_in (stream_at w t) ≡ runs_in (stream_at v t)
   pub log : runs_in (stream_at w log_key) ≡ runs_in (stream_at v log_key)
   pub off : AllByRecursion (λ x. IsOffLog v x.block) changes
+  pub others : (t : StreamKey) (x : ℕ) → t.file < first_user_record → t ≢ table_key → t ≢ bitmap_key → 0 < uses (runs_in (stream_at v t)) x → AllByRecursion (λ y. cluster_of y.block ≢ x) changes
   pub second : AllByRecursion (λ x. overlap x.block (boot_block g 2) ≡ false) changes
 
 -- So do those of a draft that has put what comes of a file's data, by its record or by that with data which is empty, where no attribute list has a part in another record, and no sector by which the state is judged is torn.
 abbrev pub WritesKeep : Type 0
 WritesKeep = (c : Content) (g : Geometry) (clusters : ℕ) (v : Volume) (s : VolumeStreams) (op : Op) (n stamp : ℕ) (a : Node) (r : Record) (change : DataChange) (new : List Touched) (changes : List Change) → WritesBy c g clusters v s op n stamp a r (record_with_data r) change new
-    → (h : HasWritten c g clusters v op n stamp a (growth_of (cluster_bits c v) r op a) new) → AreFinished c new changes → HasOwnLists c v → HasWholeSectors c v → WriteKeeps c g v h.bodies changes h.after
+    → (h : HasWritten c g clusters v op n stamp a (growth_of (cluster_bits c v) r op a) new) → AreFinished c new changes → HasOwnLists c v → HasWholeSectors c v → WriteKeeps c g v s h.bodies changes h.after
