@@ -1,8 +1,8 @@
 -- The changes of a file's plan as a volume takes them.
-use Rattle.std.proofs.Common.{◌≡◌, subst, ℕ, ◌+◌, ◌*◌, ◌/◌, ◌%◌, ◌<◌, ◌≤◌, Bool, true, false, eqb, List, [], ◌∷◌, length, Option, Some, None, refl, sym, ap, ◌∙◌, inl, inr, arith}
+use Rattle.std.proofs.Common.{◌≡◌, ◌≢◌, subst, ℕ, ◌+◌, ◌*◌, ◌/◌, ◌%◌, ◌<◌, ◌≤◌, Bool, true, false, ◌&&◌, ltb, List, [], ◌∷◌, length, Option, Some, None, refl, sym, ap, ◌∙◌, inl, arith}
 use Rattle.std.specs.Prelude.{All, is_some, unwrap_or}
 use Rattle.std.specs.List.{AllByRecursion}
-use Rattle.std.proofs.lemmas.Bool.{eqb-true}
+use Rattle.std.proofs.lemmas.Bool.{eqb-true, le-ltb}
 use Rattle.std.proofs.lemmas.List.Elements.{All-head, All-tail, All-cons, All-nil}
 use Rattle.disk_model.specs.declared.block.Block.{Block}
 use Rattle.disk_model.specs.declared.block.Body.{Body}
@@ -17,26 +17,32 @@ use Rattle.sector_device.specs.Moments.{Changes}
 use Rattle.log_model.specs.Logs.{may_begin}
 use Rattle.block_view.specs.Changes.{Fits, content_after}
 use Rattle.state_model.specs.Loads.{boot_block}
-use Rattle.volume_model.specs.Volumes.{Volume, cluster_bits, upper_of}
+use Rattle.volume_model.specs.Volumes.{Volume, upper_of}
+use Rattle.volume_model.specs.Owners.{uses}
+use Rattle.volume_state.specs.Trees.{tree_of}
+use Rattle.stream_laws.specs.Sharing.{stream_at, runs_in}
+use Rattle.stream_laws.specs.Tables.{table_key}
 use Rattle.map_change.specs.Parts.{MapParts}
 use Rattle.tree_model.specs.declared.script.Op.{Op}
 use Rattle.plan_owners.specs.States.{Stands}
-use Rattle.plan_owners.specs.Agreeing.{IsJudged}
+use Rattle.plan_owners.specs.Kinds.{cluster_of}
 use Rattle.state_blocks.specs.Drafts.{DraftIn}
 use Rattle.plan_bodies.specs.Bodies.{content_with}
 use Rattle.plan_draft.specs.declared.touched.Touched.{Touched}
 use Rattle.plan_spares.specs.Plans.{HasOwnLists}
+use Rattle.plan_edits.specs.Edits.{bitmap_key}
 use Rattle.plans_keep.specs.Keeping.{AreAside, AreAllAside, IsSpelled}
 use Rattle.data_plan.specs.declared.change.DataChange.{DataChange}
 use Rattle.file_puts.specs.declared.streams.VolumeStreams.{VolumeStreams}
 use Rattle.writes_keep.specs.Writes.{HasWholeSectors, IsOffLog, WriteKeeps, WritesKeep}
+use Rattle.writes_keep.proofs.Behind.{other_file}
 use Rattle.txn_model.specs.Values.{StoreFacts}
 use Rattle.txn_core.specs.Views.{present_on}
 use Rattle.spares_at_mount.specs.Mounts.{BlocksOffLog}
 use Rattle.image_open.specs.Volumes.{boot_place}
 use Rattle.volume_core.specs.Volumes.{geometry_of, SparesState}
 use Rattle.volume_core.specs.Changes.{MayLog, AreBeside, AreApart, IsWritable, AreWritable, LeadsOn}
-use Rattle.plans_lead.specs.Leading.{IsFilePlan, MayPut, HasLogOf, PlansLeadOn}
+use Rattle.plans_lead.specs.Leading.{IsFilePlan, LeadsAsAsked, boot_key, HasLogOf, PlansLeadOn}
 
 each_as : {X : Type 0} (P Q : X → Type 0) → ((x : X) → P x → Q x) → (xs : List X) → AllByRecursion P xs → AllByRecursion Q xs
 each_as P Q f [] all = tt
@@ -52,13 +58,17 @@ ends_within Plain first grid = omega arith
 ends_within FileRec first grid = (let even : first % 2 ≡ 0 = eqb-true (first % 2) 0 grid in omega (arith, even))
 ends_within Index first grid = (let even : first % 8 ≡ 0 = eqb-true (first % 8) 0 grid in omega (arith, even))
 
+-- a block in another cluster than the first shares no sector with the boot sector
+past_boot : (b : Block) → cluster_of b ≢ 0 → overlap b boot_place ≡ false
+past_boot b other = ap (λ (t : Bool). t && ltb 0 (b.first + sectors b.kind)) (le-ltb b.first 1 (omega (arith, other)))
+
 -- ---- it leads on
 
 module _ (keeps : WritesKeep) (m : MapParts) (table : List ℕ) (c : Content) (s : VolumeStreams) (op : Op) (n stamp : ℕ) (a : Node) (r : Record) (x : DataChange) (new : List Touched) (changes : List Change) (k : IsFilePlan m table c s op n stamp a r x new changes) where
   abbrev w : Volume
   w = k.written.after
 
-  pub is_kept : WriteKeeps c (geometry_of m) m.volume k.written.bodies changes w
+  pub is_kept : WriteKeeps c (geometry_of m) m.volume s k.written.bodies changes w
   is_kept = keeps c (geometry_of m) m.volume.clusters m.volume s op n stamp a r x new changes k.writes k.written k.finished k.lists k.whole
 
   content : content_after changes c ≡ content_with c k.written.bodies
@@ -78,9 +88,24 @@ module _ (keeps : WritesKeep) (m : MapParts) (table : List ℕ) (c : Content) (s
     writable = writable;
   }
 
-  pub may_put : MayPut m table c changes
+  pub leads_as_asked : LeadsAsAsked m table c s changes
   unfolding leads_on
-  may_put = record { leads = leads_on; apart = all_apart changes is_kept.keeps.apart; lists = subst (λ (d : Content). HasOwnLists d w) (sym content) is_kept.lists; log = is_kept.log; off = is_kept.off; second = is_kept.second }
+  leads_as_asked = record {
+    leads = leads_on;
+    apart = all_apart changes is_kept.keeps.apart;
+    lists = subst (λ (d : Content). HasOwnLists d w) (sym content) is_kept.lists;
+    streams = is_kept.streams;
+    journal = ap (λ (d : Content). (tree_of d w).journal) content ∙ is_kept.journal;
+    boot = is_kept.boot;
+    log = is_kept.log;
+    off = is_kept.off;
+    second = is_kept.second;
+  }
+
+  pub off_boot : 0 < uses (runs_in (stream_at m.volume boot_key)) 0 → AllByRecursion (λ (y : Change). overlap y.block boot_place ≡ false) changes
+  off_boot has =
+      each_as (λ (y : Change). cluster_of y.block ≢ 0) (λ (y : Change). overlap y.block boot_place ≡ false) (λ y. past_boot y.block) changes
+      (is_kept.others boot_key 0 (omega arith) (other_file boot_key table_key (λ is. omega (arith, is))) (other_file boot_key bitmap_key (λ is. omega (arith, is))) has)
 
 -- ---- each change may be logged
 
@@ -119,7 +144,9 @@ whole_sectors moments f v disk spares b judged plain = by (f.body b) refl
 
 pub all_lead : BlocksOffLog → WritesKeep → PlansLeadOn
 all_lead off_log keeps = record {
-  leads = may_put keeps;
-  logged = λ m table c s op n stamp a r x new changes f k has boot. (let is = is_kept keeps m table c s op n stamp a r x new changes k in all_logged off_log f m has changes is.off boot is.second is.keeps.some is.keeps.fits);
+  leads = leads_as_asked keeps;
+  logged = λ m table c s op n stamp a r x new changes f k has boot.
+      (let is = is_kept keeps m table c s op n stamp a r x new changes k in
+      all_logged off_log f m has changes is.off (off_boot keeps m table c s op n stamp a r x new changes k boot) is.second is.keeps.some is.keeps.fits);
   whole = whole_sectors;
 }

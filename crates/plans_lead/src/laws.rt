@@ -5,7 +5,8 @@ use spares_at_mount::blocks_off_log;
 use writes_keep::writes_keep;
 
 /// Law: a volume takes the changes of a plan that writes or cuts a file. They lead to the next
-/// state, which can be written; no two are of one block or of rivals; and each lies off the log.
+/// state, which can be written, and then by the same streams again; no two are of one block or of
+/// rivals; and each lies off the log, and off the boot sector where $Boot has it.
 pub fn plans_lead_on()
     ensures { PlansLeadOn }
 {
