@@ -272,7 +272,7 @@ kept_fits now n least r c s1 value root F known kind stays is =
     omega (arith, fits, file, whole)
 
 -- the directory's record before, as the law has it
-some_bits : (r : Record) → BeginsAtZero (attributes_of bitmap_type names_index r.attrs) → (s : Stream) × (bits_in r ≡ Some s)
+pub some_bits : (r : Record) → BeginsAtZero (attributes_of bitmap_type names_index r.attrs) → (s : Stream) × (bits_in r ≡ Some s)
 unfolding stream_of
 some_bits r begins = (let t = there_is (attributes_of bitmap_type names_index r.attrs) begins in (form_stream t.first.form (flat_map attribute_runs (t.first ∷ t.others)), ap joined t.is))
 

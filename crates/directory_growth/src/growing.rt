@@ -166,7 +166,7 @@ fn blocks_after<B: FreeBits>(
         Stream::Placed(extents) => {
             both_after(alloc, per, bits, extents, bitmap, file, root, more)
         }
-        Stream::Held(_) => Err(DataFault::Memory),
+        Stream::Held(_) => unreachable!(),
     }
 }
 
@@ -194,9 +194,9 @@ fn streams_after<B: FreeBits>(
     match bitmap {
         Some(bitmap) => match blocks {
             Some(blocks) => blocks_after(alloc, per, bits, blocks, bitmap, file, root, more),
-            None => Err(DataFault::Memory),
+            None => unreachable!(),
         },
-        None => Err(DataFault::Memory),
+        None => unreachable!(),
     }
 }
 

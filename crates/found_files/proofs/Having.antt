@@ -43,7 +43,8 @@ use Rattle.step_model.specs.Streams.{Comes}
 use Rattle.tree_model.specs.Effects.{clusters_after}
 use Rattle.made_data.specs.Made.{with_empty_data, made_record, has_data}
 use Rattle.made_data.specs.Laws.{MadeIsCounted}
-use Rattle.made_data.proofs.Having.{made_fits, written_fits}
+use Rattle.made_data.proofs.Having.{made_fits}
+use Rattle.made_data.proofs.Standing.{written_fits}
 use Rattle.file_puts.specs.declared.streams.VolumeStreams.{VolumeStreams}
 use Rattle.file_puts.specs.Written.{AreStreamsOf}
 use Rattle.file_writes.specs.Writing.{MayWrite}

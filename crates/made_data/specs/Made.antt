@@ -1,29 +1,25 @@
 -- A file without unnamed data that gets it.
-use Rattle.std.specs.Prelude.{ℕ, Bool, if◌then◌else◌, [], insert}
+use Rattle.std.specs.Prelude.{ℕ, Bool, if◌then◌else◌, []}
 use Rattle.std.specs.List.{list_any}
 use Rattle.record_model.specs.declared.attribute.Attr.{Attr}
 use Rattle.record_model.specs.declared.attribute.OwnForm.TheVariants.{Resident}
 use Rattle.record_model.specs.Constants.{data_type}
 use Rattle.record_model.specs.Records.{Record}
 use Rattle.state_model.specs.Streams.{is_attribute_of}
-use Rattle.made_data.specs.Ids.{place_of_type, new_id, with_next_id}
+use Rattle.made_data.specs.Ids.{with_attr}
 use Rattle.draft_records.specs.Records.{written_record}
 
 -- some attribute is of its unnamed data
 unfoldable pub has_data : Record → Bool
 has_data r = list_any (is_attribute_of data_type []) r.attrs
 
--- the least type above that of data
-abbrev pub behind_data : ℕ
-behind_data = 0x81
-
 -- unnamed data without bytes
 abbrev pub empty_data : ℕ → Attr
 empty_data id = record { head = record { kind = data_type; flags = 0; id = id }; name = []; form = Resident [] 0 }
 
--- the record with such data, behind its attributes of no greater type
+-- the record with such data, of a new id, before its data of other names
 abbrev pub with_empty_data : Record → Record
-with_empty_data r = record { head = with_next_id r.head; attrs = insert r.attrs (place_of_type behind_data r.attrs) (empty_data (new_id r)) }
+with_empty_data r = with_attr (empty_data 0) r
 
 -- the same as it is written
 abbrev pub made_record : Record → Record

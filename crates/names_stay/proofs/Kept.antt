@@ -32,8 +32,8 @@ use Rattle.draft_records.specs.Records.{written_record}
 use Rattle.resized_streams.specs.declared.resized.Resized.{Resized}
 use Rattle.resized_streams.specs.Resizing.{unplaced, lengthened, shortened, with_sizes}
 use Rattle.step_model.specs.Placing.{Growth}
-use Rattle.made_data.specs.Ids.{place_of_type as place_of_data, new_id}
-use Rattle.made_data.specs.Made.{has_data, behind_data, empty_data, with_empty_data, made_record, record_with_data}
+use Rattle.made_data.specs.Ids.{place_of, new_id, with_id}
+use Rattle.made_data.specs.Made.{has_data, empty_data, with_empty_data, made_record, record_with_data}
 use Rattle.data_plan.specs.declared.change.DataChange.{DataChange}
 use Rattle.data_plan.specs.declared.change.DataChange.TheVariants as change
 use Rattle.data_plan.specs.Changes.{IsChange}
@@ -127,7 +127,7 @@ valued_kept value r = valued_by value r (attributes_of data_type [] r.attrs) ref
 
 made_kept : (r : Record) → KeepsNames r (made_record r)
 made_kept r =
-    twice r (with_empty_data r) (made_record r) (record { seq = refl; links = λ child. inserted child (place_of_data behind_data r.attrs) (empty_data (new_id r)) r.attrs (of_kind child (empty_data (new_id r)) data_type refl refl) }) (written_kept (with_empty_data r))
+    twice r (with_empty_data r) (made_record r) (record { seq = refl; links = λ child. inserted child (place_of data_type [] r.attrs) (with_id (new_id r) (empty_data 0)) r.attrs (of_kind child (with_id (new_id r) (empty_data 0)) data_type refl refl) }) (written_kept (with_empty_data r))
 
 -- the record by which a file is written keeps its names
 pub by_kept : (r : Record) → KeepsNames r (record_with_data r)

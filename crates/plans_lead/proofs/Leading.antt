@@ -36,6 +36,7 @@ use Rattle.data_plan.specs.declared.change.DataChange.{DataChange}
 use Rattle.file_puts.specs.declared.streams.VolumeStreams.{VolumeStreams}
 use Rattle.writes_keep.specs.Writes.{HasWholeSectors, IsOffLog, WriteKeeps, WritesKeep}
 use Rattle.writes_keep.proofs.Behind.{other_file}
+use Rattle.names_stay.specs.Writes.{WritesKeepNames}
 use Rattle.txn_model.specs.Values.{StoreFacts}
 use Rattle.txn_core.specs.Views.{present_on}
 use Rattle.spares_at_mount.specs.Mounts.{BlocksOffLog}
@@ -79,19 +80,20 @@ module _ (keeps : WritesKeep) (m : MapParts) (table : List ℕ) (c : Content) (s
       subst (AreWritable changes) (sym content)
       (each_as (λ (y : Change). IsSpelled (content_with c k.written.bodies) y.block) (λ (y : Change). IsWritable (content_with c k.written.bodies) y.block) (λ y is. record { spelled = is.spelled; untorn = is.untorn }) changes is_kept.keeps.written)
 
-  leads_on : LeadsOn m table changes c
-  leads_on = record {
+  leads_on : WritesKeepNames → LeadsOn m table changes c
+  leads_on stay = record {
     volume = w;
     stands = subst (λ (d : Content). Stands d (geometry_of m) m.volume.clusters w) (sym content) k.written.draft.stands;
     upper = k.state.upper ∙ sym is_kept.upper ∙ ap (λ (d : Content). upper_of d w) (sym content);
     draft = subst (λ (d : Content). DraftIn c m.volume changes d w) (sym content) is_kept.keeps.draft;
     writable = writable;
+    names = stay c (geometry_of m) m.volume.clusters m.volume s op n stamp a r x new k.writes k.written;
   }
 
-  pub leads_as_asked : LeadsAsAsked m table c s changes
+  pub leads_as_asked : WritesKeepNames → LeadsAsAsked m table c s changes
   unfolding leads_on
-  leads_as_asked = record {
-    leads = leads_on;
+  leads_as_asked stay = record {
+    leads = leads_on stay;
     apart = all_apart changes is_kept.keeps.apart;
     lists = subst (λ (d : Content). HasOwnLists d w) (sym content) is_kept.lists;
     streams = is_kept.streams;
@@ -142,9 +144,9 @@ whole_sectors moments f v disk spares b judged plain = by (f.body b) refl
     by (Some y) is = (spares.spared b (inl judged)).whole (ap (λ (o : Option Body). is_some o) is)
     by None is = ap (λ (o : Option Body). (unwrap_or o (content_of (sector_of disk) b)).torn) is ∙ plain_untorn b.kind (raw_from (sector_of disk) b.first (sectors b.kind)) plain
 
-pub all_lead : BlocksOffLog → WritesKeep → PlansLeadOn
-all_lead off_log keeps = record {
-  leads = leads_as_asked keeps;
+pub all_lead : BlocksOffLog → WritesKeep → WritesKeepNames → PlansLeadOn
+all_lead off_log keeps stay = record {
+  leads = λ m table c s op n stamp a r x new changes k. leads_as_asked keeps m table c s op n stamp a r x new changes k stay;
   logged = λ m table c s op n stamp a r x new changes f k has boot.
       (let is = is_kept keeps m table c s op n stamp a r x new changes k in
       all_logged off_log f m has changes is.off (off_boot keeps m table c s op n stamp a r x new changes k boot) is.second is.keeps.some is.keeps.fits);

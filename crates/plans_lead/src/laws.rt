@@ -1,15 +1,18 @@
 //! The laws of these definitions.
 ghost use Rattle.plans_lead.specs.Leading.{PlansLeadOn};
 
+use names_stay::writes_keep_names;
 use spares_at_mount::blocks_off_log;
 use writes_keep::writes_keep;
 
 /// Law: a volume takes the changes of a plan that writes or cuts a file. They lead to the next
-/// state, which can be written, and then by the same streams again; no two are of one block or of
-/// rivals; and each lies off the log, and off the boot sector where $Boot has it.
+/// state, which can be written, in which the files have their names, and then by the same streams
+/// again; no two are of one block or of rivals; and each lies off the log, and off the boot sector
+/// where $Boot has it.
 pub fn plans_lead_on()
     ensures { PlansLeadOn }
 {
     blocks_off_log();
     writes_keep();
+    writes_keep_names();
 }

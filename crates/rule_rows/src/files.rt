@@ -119,7 +119,8 @@ fn attributes_of(alloc: Global, file: &OneFile) -> Result<Vec<u8>, AllocError> {
     Ok(bytes)
 }
 
-fn file_record(alloc: Global, file: &OneFile) -> Result<FileRec, Fail> {
+/// The record of this file.
+pub fn file_record(alloc: Global, file: &OneFile) -> Result<FileRec, Fail> {
     let attributes = attributes_of(alloc, file)?;
     let (flags, base) = match file.2 {
         Form::Directory | Form::Indexed(..) => (3, 0),

@@ -26,6 +26,7 @@ have_maps m table changes c state leads = record {
   now = has_map m table c state;
   next = parts_of (content_after changes c) leads.volume;
   then = map_loaded (content_after changes c) (geometry_of m) m.volume.clusters leads.volume leads.stands.loaded;
+  names = leads.names;
 }
 
 geometry_with : ℕ → ℕ → Geometry

@@ -12,6 +12,7 @@ use Rattle.map_change.specs.Parts.{MapParts}
 use Rattle.plan_owners.specs.States.{Stands}
 use Rattle.state_blocks.specs.Drafts.{DraftIn}
 use Rattle.store_model.specs.Volumes.{is_known}
+use Rattle.same_names.specs.Names.{SameNames}
 use Rattle.txn_model.specs.Values.{StoreFacts, own_of}
 use Rattle.volume_core.specs.Volumes.{geometry_of}
 
@@ -41,11 +42,12 @@ pub record IsWritable (d : Content) (b : Block) : Type 0 where
 abbrev pub AreWritable : List Change → Content → Type 0
 AreWritable changes d = AllByRecursion (λ x. IsWritable d x.block) changes
 
--- The content after the changes is a state of the volume with this map, with the same table of upper-case units; the changes lead there as a plan's do, and each body that was
--- changed can be written.
+-- The content after the changes is a state of the volume with this map, with the same table of upper-case units; the changes lead there as a plan's do, each body that was changed
+-- can be written, and the files keep their names.
 pub record LeadsOn (m : MapParts) (table : List ℕ) (changes : List Change) (c : Content) : Type 0 where
   pub volume : Volume
   pub stands : Stands (content_after changes c) (geometry_of m) m.volume.clusters volume
   pub upper : table ≡ upper_of (content_after changes c) volume
   pub draft : DraftIn c m.volume changes (content_after changes c) volume
   pub writable : AreWritable changes (content_after changes c)
+  pub names : SameNames m.volume.files volume.files

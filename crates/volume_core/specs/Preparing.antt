@@ -8,6 +8,7 @@ use Rattle.device_view.specs.Devices.{CountsOnDevice}
 use Rattle.volume_map.specs.declared.fault.MapFault.{MapFault}
 use Rattle.volume_map.specs.declared.fault.MapFault.TheVariants as faults
 use Rattle.map_change.specs.Parts.{MapParts, map_of}
+use Rattle.same_names.specs.Names.{SameNames}
 use Rattle.txn_core.specs.Seen.{Seen}
 use Rattle.volume_core.specs.declared.fault.PutFault.{PutFault}
 use Rattle.volume_core.specs.declared.fault.PutFault.TheVariants.{NeedsRoom, Fault, Memory, Broken}
@@ -29,17 +30,26 @@ pub record FailsSeen {D : Type 0} (faults moment : D → ℕ) (old new : Seen D)
 pub record CountsSeen {D T E F : Type 0} (faults moment : D → ℕ) (cause : E → Cause F) (result : Result T E) (old new : Seen D) : Type 0 where
   pub counted : moment old.device < last_moment → CountsOnDevice cause (faults old.device) (faults new.device) (moment new.device) result
 
--- the first content has this map, and the second one has some
+-- the first content has this map, and the second one has some, of which the files have the same names
 pub record HaveMaps (m : MapParts) (c d : Content) : Type 0 where
   pub now : map_of c (geometry_of m) m.volume.clusters ≡ Ok m
   pub next : MapParts
   pub then : map_of d (geometry_of m) m.volume.clusters ≡ Ok next
+  pub names : SameNames m.volume.files next.volume.files
 
 -- what a map's fault is to a volume
 abbrev pub prepare_fault : MapFault → PutFault
 prepare_fault (faults.Refused refusal) = Broken
 prepare_fault faults.View = Fault
 prepare_fault faults.Memory = Memory
+
+-- it is answered that this holds, or that it doesn't; or memory was wanted
+abbrev pub TellsWhether : {X : Type 0} → Result X PutFault → Type 0 → Type 0
+TellsWhether (Ok x) Holds = Holds
+TellsWhether (Err (NeedsRoom pages room)) Holds = ⊥
+TellsWhether (Err Fault) Holds = ⊥
+TellsWhether (Err Memory) Holds = ⊤
+TellsWhether (Err Broken) Holds = Holds → ⊥
 
 -- it isn't answered that there is no room
 abbrev pub NeverShort : {X : Type 0} → Result X PutFault → Type 0

@@ -1,5 +1,6 @@
 //! Lists of changes that lead from a state to a state, through a store of a device's blocks that shows
-//! a state, of which the map in memory follows the content: each list as one transaction.
+//! a state, of which the map in memory follows the content: each list as one transaction. They keep
+//! the names of the files, so that what is told by these needn't be made anew.
 //!
 //! The contract: the present content of the store is a state, of which the map is the map. After a
 //! call that answers `Ok` it is the content after the changes, with one commit more; after any error

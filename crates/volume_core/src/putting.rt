@@ -1,10 +1,11 @@
 //! Lists of changes that a volume takes.
-ghost use Rattle.std.specs.Prelude.{◌≡◌, ◌^◌, ◌<◌, false, All, IfErr, IfSome, None, Ok, length};
+ghost use Rattle.std.specs.Prelude.{◌≡◌, ◌^◌, ◌<◌, false, All, IfErr, IfSome, None, Ok, OnOk, length};
 ghost use Rattle.host_base.specs.Answers.{GivesOrFails};
 ghost use Rattle.block_view.specs.Changes.{Fits, content_after};
 ghost use Rattle.device_view.specs.Devices.{CountsOnDevice};
 ghost use Rattle.map_change.specs.Parts.{live_parts, map_of};
 ghost use Rattle.map_change.specs.Applying.{applied, HasRoom as HasMapRoom};
+ghost use Rattle.same_names.specs.Names.{SameNames};
 ghost use Rattle.txn_log.specs.Laws.{HasRoom};
 ghost use Rattle.txn_state.specs.States.{facts_of};
 ghost use Rattle.txn_core.specs.declared.fault.ChangeFault.TheVariants.{Unspelled};
@@ -57,6 +58,7 @@ fn put_prepared<D: Device>(
     requires value { IfSome (present_content (D.gives store.old.device) store.old.state) (λ c. map_of (content_after changes.now c) (geometry_of (live_parts live.old)) (live_parts live.old).volume.clusters ≡ Ok (applied change (live_parts live.old))) }
     requires writable { IfSome (present_content (D.gives store.old.device) store.old.state) (λ c. AreWritable changes.now (content_after changes.now c)) }
     ensures put { HasPut D.gives D.changes_of result changes.now store.old store.new (live_parts live.old) (live_parts live.new) }
+    ensures laid { OnOk result (live_parts live.new ≡ applied change (live_parts live.old)) }
     ensures sectors { D.sector_count store.new.device ≡ D.sector_count store.old.device }
     ensures unspelled { IfErr result (λ fault. fault ≡ Unspelled → D.gives store.old.device ≡ None) }
     ensures cause { CountsOnDevice change_cause (D.fault_count store.old.device) (D.fault_count store.new.device) (D.moment_of store.new.device) result }
@@ -89,6 +91,7 @@ fn put_as<D: Device>(
     requires value { IfSome (present_content (D.gives store.old.device) store.old.state) (λ c. map_of (content_after changes.now c) (geometry_of (live_parts live.old)) (live_parts live.old).volume.clusters ≡ Ok (applied change (live_parts live.old))) }
     requires writable { IfSome (present_content (D.gives store.old.device) store.old.state) (λ c. AreWritable changes.now (content_after changes.now c)) }
     ensures put { HasPut D.gives D.changes_of result changes.now store.old store.new (live_parts live.old) (live_parts live.new) }
+    ensures laid { OnOk result (live_parts live.new ≡ applied change (live_parts live.old)) }
     ensures sectors { D.sector_count store.new.device ≡ D.sector_count store.old.device }
     ensures short { NeverShort result }
     ensures broken { IsUnknownWhereBroken result (D.gives store.old.device) }
@@ -117,6 +120,7 @@ fn put_with_room<D: Device>(
     requires maps { IfSome (present_content (D.gives store.old.device) store.old.state) (λ c. HaveMaps (live_parts live.old) c (content_after changes.now c)) }
     requires writable { IfSome (present_content (D.gives store.old.device) store.old.state) (λ c. AreWritable changes.now (content_after changes.now c)) }
     ensures put { HasPut D.gives D.changes_of result changes.now store.old store.new (live_parts live.old) (live_parts live.new) }
+    ensures names { SameNames (live_parts live.old).volume.files (live_parts live.new).volume.files }
     ensures sectors { D.sector_count store.new.device ≡ D.sector_count store.old.device }
     ensures short { NeverShort result }
     ensures broken { IsUnknownWhereBroken result (D.gives store.old.device) }
@@ -143,6 +147,7 @@ fn put_some<D: Device>(
     requires maps { IfSome (present_content (D.gives store.old.device) store.old.state) (λ c. HaveMaps (live_parts live.old) c (content_after changes.now c)) }
     requires writable { IfSome (present_content (D.gives store.old.device) store.old.state) (λ c. AreWritable changes.now (content_after changes.now c)) }
     ensures put { HasPut D.gives D.changes_of result changes.now store.old store.new (live_parts live.old) (live_parts live.new) }
+    ensures names { SameNames (live_parts live.old).volume.files (live_parts live.new).volume.files }
     ensures sectors { D.sector_count store.new.device ≡ D.sector_count store.old.device }
     ensures answer { GivesOrFails (λ u. u) room_cause result (room_in (facts_of store.old.state) changes.now) }
     ensures broken { IsUnknownWhereBroken result (D.gives store.old.device) }
@@ -162,12 +167,13 @@ fn put_some<D: Device>(
 ///   free; it comes exactly then, unless memory is wanted before.
 /// - [`PutFault::Fault`]: the device failed.
 /// - [`PutFault::Memory`]: want of memory.
-/// - [`PutFault::Broken`]: the content after the changes is no volume's; it comes only where what
-///   the device gives isn't known.
+/// - [`PutFault::Broken`]: the content after the changes is no volume's, or its files would lose
+///   their names; it comes only where what the device gives isn't known.
 ///
-/// After each of them content, map and commits are as before. The device is only read: for the map,
-/// as [`map_change::prepare`] does it, and once for each change whose block the store doesn't keep.
-/// Time and memory are near-linear in the changes, beside those of the map.
+/// After each of them content, map and commits are as before; the files have their names whatever
+/// is answered. The device is only read: for the map, as [`map_change::prepare`] does it, and once
+/// for each change whose block the store doesn't keep. Time and memory are near-linear in the
+/// changes, beside those of the map and of [`same_names::keeps_names`].
 pub fn put_changes<D: Device>(
     store: &mut Store<D>,
     live: &mut LiveMap,
@@ -182,6 +188,7 @@ pub fn put_changes<D: Device>(
     requires leads { IfSome (present_content (D.gives store.old.device) store.old.state) (LeadsOn (live_parts live.old) upper.now changes.now) }
     ensures holds { HoldsState (D.gives store.new.device) (D.changes_of store.new.device) store.new.state (live_parts live.new) upper.now }
     ensures put { HasPut D.gives D.changes_of result changes.now store.old store.new (live_parts live.old) (live_parts live.new) }
+    ensures names { SameNames (live_parts live.old).volume.files (live_parts live.new).volume.files }
     ensures sectors { D.sector_count store.new.device ≡ D.sector_count store.old.device }
     ensures answer { 0 < length changes.now → GivesOrFails (λ u. u) room_cause result (room_in (facts_of store.old.state) changes.now) }
     ensures broken { IsUnknownWhereBroken result (D.gives store.old.device) }

@@ -1,6 +1,6 @@
 use Rattle.std.proofs.Common.{◌≡◌, take}
 use Rattle.draft_records.specs.Records.{with_normal}
-use Rattle.made_data.proofs.making.push_all_normal.Given as goal
+use Rattle.made_data.proofs.putting.push_all_normal.Given as goal
 
 abbrev pub invariant-loop-attr : goal.invariant-loop-attr
 invariant-loop-attr l = l.to ≡ with_normal l.initial.to (take l.attr-index l.attrs)

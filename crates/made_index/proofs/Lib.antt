@@ -1,0 +1,4 @@
+pub mod Having
+pub mod Counting
+pub mod Turning
+pub mod Rooms
