@@ -80,7 +80,8 @@ within_is first count s is = (leb-true first s (and_left (nat_le first s) (nat_l
 
 module _ (b : Block) (s : ℕ) (low : b.first ≤ s) (high : s < b.first + sectors b.kind) where
   in_run : (e : Extent) (n : ℕ) → n < e.sectors → e.first + n ≡ s → meets_run b e ≡ true
-  in_run e n lt at = both (nat_lt b.first (e.first + e.sectors)) (nat_lt e.first (b.first + sectors b.kind)) (lt-ltb b.first (e.first + e.sectors) (omega (arith, low, lt, at))) (lt-ltb e.first (b.first + sectors b.kind) (omega (arith, high, at)))
+  in_run e n lt at = both (nat_lt 0 e.sectors) (nat_lt b.first (e.first + e.sectors) && nat_lt e.first (b.first + sectors b.kind)) (lt-ltb 0 e.sectors (omega (arith, lt)))
+      (both (nat_lt b.first (e.first + e.sectors)) (nat_lt e.first (b.first + sectors b.kind)) (lt-ltb b.first (e.first + e.sectors) (omega (arith, low, lt, at))) (lt-ltb e.first (b.first + sectors b.kind) (omega (arith, high, at))))
 
   some_same : (x y : ℕ) → Some x ≡ Some y → x ≡ y
   some_same x y e = cc

@@ -8,9 +8,9 @@ use Rattle.log_model.specs.Logs.{is_in_grid}
 use Rattle.log_page.specs.declared.places.Extent.{Extent}
 use Rattle.log_page.specs.declared.places.LogPlace.{LogPlace}
 
--- the block shares a sector with this run of a log
+-- the block shares a sector with this run of a log; an empty run has none
 abbrev pub meets_run : Block → Extent → Bool
-meets_run b e = nat_lt b.first (e.first + e.sectors) && nat_lt e.first (b.first + sectors b.kind)
+meets_run b e = nat_lt 0 e.sectors && (nat_lt b.first (e.first + e.sectors) && nat_lt e.first (b.first + sectors b.kind))
 
 -- it lies in the grid, begins in the volume, and lies on the device
 abbrev pub lies_inside : LogPlace → Block → Bool

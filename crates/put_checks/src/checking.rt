@@ -30,7 +30,8 @@ fn meets_run(block: Block, run: &Extent) -> bool
     ensures { result ≡ meets_run block run.now }
 {
     let sectors = block.kind.sectors() as u64;
-    begins_before(run.first, run.sectors, block.first)
+    run.sectors > 0
+        && begins_before(run.first, run.sectors, block.first)
         && begins_before(block.first, sectors, run.first)
 }
 
