@@ -1,10 +1,11 @@
-# What the benches share: an image of 100,000 names, the times of commands, and a table of their ratios.
+# What the benches share: an image of 100,000 names, the folder of a small program, the times of commands, and a table of their ratios.
 import re
 import shutil
 import sys
 from pathlib import Path
 
 sys.path.insert(0, str(Path(__file__).resolve().parent.parent / "tests"))
+from programs import made
 from volumes import MEBIBYTE, Volume, blank, library, run
 
 DIRECTORIES = 100
