@@ -1,6 +1,6 @@
 -- What stands behind the put of a plan.
-use Rattle.std.proofs.Common.{◌≡◌, subst, ℕ, ◌<◌, ◌≤◌, true, false, List, [], ◌∷◌, length, Bool, Option, Some, None, Result, Ok, Err, refl, sym, ap, ap₂, ◌∙◌, inl, inr, arith}
-use Rattle.std.specs.Prelude.{All, IfSome, IfErr}
+use Rattle.std.proofs.Common.{◌≡◌, subst, ℕ, ◌<◌, true, false, List, [], length, Bool, Option, Some, None, Result, Ok, Err, refl, sym, ap, ap₂, ◌∙◌, arith}
+use Rattle.std.specs.Prelude.{All, IfSome}
 use Rattle.std.specs.Option.{option_map}
 use Rattle.host_base.specs.Answers.{GivesOrFails}
 use Rattle.host_base.specs.Causes.{HasFailed}
@@ -20,26 +20,24 @@ use Rattle.same_names.specs.Names.{SameNames}
 use Rattle.names_stay.specs.Held.{NamesStay}
 use Rattle.tree_model.specs.declared.script.Op.{Op}
 use Rattle.tree_model.specs.declared.reply.Reply.{Reply}
-use Rattle.tree_model.specs.declared.reply.Reply.TheVariants as reply
 use Rattle.tree_model.specs.Steps.{is_given_up}
 use Rattle.step_model.specs.Steps.{Step}
 use Rattle.txn_state.specs.States.{StateOf, facts_of, IsStore}
 use Rattle.txn_core.specs.Seen.{Seen}
 use Rattle.txn_core.specs.Views.{present_content}
 use Rattle.volume_core.specs.declared.fault.PutFault.{PutFault}
-use Rattle.volume_core.specs.declared.fault.PutFault.TheVariants as faults
-use Rattle.volume_core.specs.Volumes.{geometry_of, IsStateOf, HoldsState}
+use Rattle.volume_core.specs.Volumes.{geometry_of, HoldsState}
 use Rattle.volume_core.specs.Changes.{MayLog, AreApart, LeadsOn}
 use Rattle.volume_core.specs.Rooms.{room_in, room_cause}
 use Rattle.volume_core.specs.Preparing.{KeepsSeen}
-use Rattle.volume_core.specs.Puts.{PutsContent, PutsOver, IsUnknownWhereBroken, HasPutCauses}
+use Rattle.volume_core.specs.Puts.{PutsOver, IsUnknownWhereBroken, HasPutCauses}
 use Rattle.volume_core.proofs.Outcomes.{nothing_put}
 use Rattle.change_plan.specs.declared.plan.ChangePlan.{ChangePlan}
 use Rattle.change_plan.specs.States.{is_data_change}
 use Rattle.working_volume.specs.declared.fault.DoFault.{DoFault}
-use Rattle.working_volume.specs.declared.fault.DoFault.TheVariants.{NeedsRoom, Unknown}
+use Rattle.working_volume.specs.declared.fault.DoFault.TheVariants.{Unknown}
 use Rattle.working_volume.specs.Ready.{IsReady, IsTaken}
-use Rattle.working_volume.specs.Doing.{put_answer, IsAnswered, ArePutAsAsked, PutsAndAnswers, DoesStep, Does}
+use Rattle.working_volume.specs.Doing.{put_answer, IsAnswered, PutsAndAnswers, DoesStep, Does}
 use Rattle.working_volume.specs.Putting.{PutsPlan}
 use Rattle.working_volume.proofs.Stepping.{stays, replies, changes, put_steps, is_answered, answer_unknown, answer_failed, failed_since}
 use Rattle.working_volume.proofs.Readying.{put_ready, still_ready}

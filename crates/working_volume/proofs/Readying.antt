@@ -1,8 +1,7 @@
 -- The state behind changes is ready for the next operation.
-use Rattle.std.proofs.Common.{◌≡◌, subst, ℕ, ◌+◌, ◌*◌, ◌/◌, ◌<◌, ◌≤◌, List, [], ◌∷◌, length, Option, Some, None, Result, Ok, Err, refl, sym, ap, ap₂, ◌∙◌, inl, inr, arith}
+use Rattle.std.proofs.Common.{◌≡◌, subst, ℕ, ◌+◌, ◌*◌, ◌/◌, ◌<◌, ◌≤◌, List, [], ◌∷◌, Option, Some, None, Result, Ok, Err, sym, ap, ap₂, ◌∙◌, inl, inr, arith}
 use Rattle.std.specs.Prelude.{IfSome, unwrap_or}
 use Rattle.std.specs.List.{AllByRecursion}
-use Rattle.disk_model.specs.declared.block.Block.{Block}
 use Rattle.disk_model.specs.declared.block.Change.{Change}
 use Rattle.disk_model.specs.Content.{Content}
 use Rattle.sector_device.specs.Moments.{Changes}
@@ -28,7 +27,6 @@ use Rattle.txn_state.specs.States.{StateOf, facts_of}
 use Rattle.txn_core.specs.Views.{present_on, present_content}
 use Rattle.volume_core.specs.declared.fault.PutFault.{PutFault}
 use Rattle.volume_core.specs.Volumes.{geometry_of, IsStateOf}
-use Rattle.volume_core.specs.Changes.{LeadsOn}
 use Rattle.volume_core.specs.Logging.{ChangedBy, StoppedBy}
 use Rattle.volume_core.specs.Puts.{PutsContent, PutsMap, PutsFacts, PutsOver}
 use Rattle.volume_core.proofs.Following.{next_map, state_after}

@@ -1,6 +1,6 @@
 -- The step of an operation of which the changes were put, or weren't.
-use Rattle.std.proofs.Common.{◌≡◌, subst, ℕ, ◌+◌, ◌<◌, ◌≤◌, true, false, List, [], ◌∷◌, length, Option, Some, None, Result, Ok, Err, refl, sym, ap, ◌∙◌, inl, inr, arith}
-use Rattle.std.specs.Prelude.{IfSome, IfErr, unwrap_or}
+use Rattle.std.proofs.Common.{◌≡◌, subst, ℕ, ◌<◌, ◌≤◌, true, false, List, [], ◌∷◌, length, Option, Some, None, Result, Ok, Err, refl, sym, ap, ◌∙◌, inl, inr, arith}
+use Rattle.std.specs.Prelude.{IfSome, IfErr}
 use Rattle.std.specs.Option.{option_map}
 use Rattle.host_base.specs.Causes.{HasFailed}
 use Rattle.disk_model.specs.declared.block.Change.{Change}

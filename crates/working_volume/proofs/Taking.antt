@@ -1,5 +1,5 @@
 -- The changes of a plan are some that a volume takes.
-use Rattle.std.proofs.Common.{◌≡◌, subst, ℕ, ◌+◌, ◌*◌, ◌/◌, ◌%◌, ◌<◌, ◌≤◌, Bool, true, false, ◌&&◌, ◌||◌, ltb, List, [], ◌∷◌, length, Option, Some, None, Result, Ok, Err, refl, sym, ap, ◌∙◌, inl, inr, arith}
+use Rattle.std.proofs.Common.{◌≡◌, subst, ℕ, ◌+◌, ◌*◌, ◌/◌, ◌%◌, ◌<◌, ◌≤◌, Bool, true, false, ◌&&◌, ◌||◌, ltb, List, [], ◌∷◌, length, Option, Some, None, Result, Ok, Err, refl, ap, ◌∙◌, inl, inr, arith}
 use Rattle.std.specs.Prelude.{◌^◌, IfSome, IfOk}
 use Rattle.std.specs.List.{AllByRecursion, list_any}
 use Rattle.std.proofs.lemmas.Bool.{cases_Bool, cases_lt, and_parts, eqb-true, ltb-true}
@@ -32,11 +32,11 @@ use Rattle.volume_core.specs.Volumes.{geometry_of, IsStateOf, SparesState, Holds
 use Rattle.change_plan.specs.declared.plan.ChangePlan.{ChangePlan}
 use Rattle.change_plan.specs.declared.fault.PlanFault.{PlanFault}
 use Rattle.change_plan.specs.declared.fault.PlanFault.TheVariants.{Fault, Memory, Unknown}
-use Rattle.change_plan.specs.Plans.{IsSound, ComeOfDraft, IsPlan, Plans, PlansFrom, IsKnown, KnowsFrom}
+use Rattle.change_plan.specs.Plans.{IsSound, ComeOfDraft, Plans, PlansFrom, IsKnown, KnowsFrom}
 use Rattle.plans_lead.specs.Leading.{IsFilePlan, PlansLeadOn}
-use Rattle.put_checks.specs.Checks.{meets_run, may_put}
+use Rattle.put_checks.specs.Checks.{meets_run}
 use Rattle.put_checks.specs.Laws.{ChecksAreMet}
-use Rattle.working_volume.specs.Ready.{RunsLieInLog, IsReady, IsTaken}
+use Rattle.working_volume.specs.Ready.{IsReady, IsTaken}
 
 each_as : {X : Type 0} (P Q : X → Type 0) → ((x : X) → P x → Q x) → (xs : List X) → AllByRecursion P xs → AllByRecursion Q xs
 each_as P Q f [] all = tt

@@ -17,7 +17,6 @@ use Rattle.volume_core.specs.Volumes.{geometry_of}
 use Rattle.volume_core.specs.Changes.{MayLog, AreApart, LeadsOn}
 use Rattle.volume_core.specs.Puts.{PutsOver}
 use Rattle.volume_core.specs.Rooms.{room_in, room_cause}
-use Rattle.put_checks.specs.Checks.{may_put}
 use Rattle.working_volume.specs.declared.fault.DoFault.{DoFault}
 use Rattle.working_volume.specs.declared.fault.DoFault.TheVariants.{NeedsRoom, Unknown}
 
