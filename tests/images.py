@@ -196,3 +196,8 @@ MISASKED = asked_volume(bits(544, *range(11), *range(16, 529)))
 # The same with fewer pages of the log, and with one that isn't initialised to its end.
 ASKED_LOG = {pages: asked_volume(bits(544, *range(11), 12, *range(16, 16 + pages)), pages) for pages in [256, 512]}
 UNREADY = asked_volume(bits(544, *ASKED_CLUSTERS), initialised=512)
+# The same in which file 26 has an attribute list without entries, and another one that has a name.
+SECOND_LIST = plain(0x20, 5, b"")[:4] + struct.pack("<IBBHHHIHH", 0x20, 0, 1, 0x18, 0, 5, 0, 0x20, 0) + "Z".encode("utf-16-le").ljust(8, b"\0")
+LISTS = [information(), plain(0x20, 4, b""), SECOND_LIST, named(1, 24, WIN32, "Long"), named(2, 24, DOS, "LONG~1"), plain(0x80, 3, b"hello")]
+TWO_LISTS = with_records(ASKED, (26, 1, IN_USE, LISTS))
+ONE_LIST = with_records(ASKED, (26, 1, IN_USE, [attribute for attribute in LISTS if attribute is not SECOND_LIST]))

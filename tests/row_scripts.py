@@ -1,5 +1,5 @@
 # Rows of runs of scripts on volumes with clusters of eight sectors.
-from images import ASKED, ASKED_LOG, MISASKED, TINY, UNREADY, WHOLE, WIDE, changed
+from images import ASKED, ASKED_LOG, MISASKED, ONE_LIST, TINY, TWO_LISTS, UNREADY, WHOLE, WIDE, changed
 from row import done, refused, run
 
 SCRIPT = b"1 list /\n1 stat /\n1 stat /f/x\n1 stat /q\n"
@@ -66,6 +66,13 @@ def volumes_that_cannot_be_written_are_refused():
     yield done("check", UNREADY, "ok nodes 5 links 6 room 19 journal -\n")
 
 
+def attribute_lists_of_two_pieces_are_refused():
+    """By a run alone, behind the rules: a check says yes of the volume, and of one with a single list a run does too."""
+    yield run(TWO_LISTS, SCRIPT, 3, "refused 15 BadVolume 4 26\n")
+    yield done("check", TWO_LISTS, "ok nodes 5 links 6 room 19 journal -\n")
+    yield run(ONE_LIST, SCRIPT, 0, TEXT)
+
+
 def other_clusters_are_refused_in_their_place():
     """Behind the name and the mark of the boot sector and the bytes of a sector, before all other fields."""
     for image in [TINY, WHOLE, changed(TINY, (0x28, b"\0")), changed(ASKED, (0x0D, b"\x01")), changed(ASKED, (0x0D, b"\x01"), (0x30, b"\xff"))]:
@@ -117,6 +124,7 @@ TABLES = [
     a_new_volume_is_asked,
     a_volume_that_is_no_tree_is_refused,
     volumes_that_cannot_be_written_are_refused,
+    attribute_lists_of_two_pieces_are_refused,
     other_clusters_are_refused_in_their_place,
     what_is_no_script_is_refused,
     scripts_that_are_too_large_are_refused,
