@@ -28,6 +28,10 @@ def named():
     return {name.split()[0]: [it for it in below.split() if it in known] for name, below in pairs}
 
 
+# What was found of crates so far: there are millions of ways down from the topmost ones.
+FLOORS = {}
+
+
 def all_below(crate, below):
     """All crates on which a crate stands, also through others."""
     found = set()
@@ -62,7 +66,9 @@ def row(crate, below):
 
 def floor(crate, below):
     """How many floors lie below a crate."""
-    return 1 + max((floor(it, below) for it in below[crate]), default=-1)
+    if crate not in FLOORS:
+        FLOORS[crate] = 1 + max((floor(it, below) for it in below[crate]), default=-1)
+    return FLOORS[crate]
 
 
 def table(title, crates, below):
