@@ -201,3 +201,7 @@ SECOND_LIST = plain(0x20, 5, b"")[:4] + struct.pack("<IBBHHHIHH", 0x20, 0, 1, 0x
 LISTS = [information(), plain(0x20, 4, b""), SECOND_LIST, named(1, 24, WIN32, "Long"), named(2, 24, DOS, "LONG~1"), plain(0x80, 3, b"hello")]
 TWO_LISTS = with_records(ASKED, (26, 1, IN_USE, LISTS))
 ONE_LIST = with_records(ASKED, (26, 1, IN_USE, [attribute for attribute in LISTS if attribute is not SECOND_LIST]))
+# The same, which has no record 7, with the bit of the first cluster clear; and with the data of file 25 in that cluster.
+UNMARKED = asked_volume(bits(544, *ASKED_CLUSTERS[1:]))
+IN_FIRST = (25, 1, IN_USE, [information(), named(1, 5, BOTH, "f"), mapped(2, 1, bytes([0x11, 1, 0, 0]), 8)])
+FIRST_GIVEN = with_records(ASKED, IN_FIRST)

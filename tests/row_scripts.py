@@ -1,5 +1,5 @@
 # Rows of runs of scripts on volumes with clusters of eight sectors.
-from images import ASKED, ASKED_LOG, MISASKED, ONE_LIST, TINY, TWO_LISTS, UNREADY, WHOLE, WIDE, changed
+from images import ASKED, ASKED_LOG, FIRST_GIVEN, IN_FIRST, MISASKED, ONE_LIST, TINY, TWO_LISTS, UNMARKED, UNREADY, WHOLE, WIDE, changed, with_records
 from row import done, refused, run
 
 SCRIPT = b"1 list /\n1 stat /\n1 stat /f/x\n1 stat /q\n"
@@ -73,6 +73,15 @@ def attribute_lists_of_two_pieces_are_refused():
     yield run(ONE_LIST, SCRIPT, 0, TEXT)
 
 
+def the_boot_sector_is_kept():
+    """By a run alone, behind the rules: the first cluster is marked free, or is a file's. Where it is both, a rule is broken."""
+    for image, line, room in [(UNMARKED, "6 0", 20), (FIRST_GIVEN, "5 0", 19)]:
+        yield run(image, SCRIPT, 3, f"refused 15 BadVolume {line}\n")
+        yield done("check", image, f"ok nodes 5 links 6 room {room} journal -\n")
+    yield run(with_records(UNMARKED, IN_FIRST), SCRIPT, 3, "refused 15 BadVolume 6 0\n")
+    yield refused("check", with_records(UNMARKED, IN_FIRST), "15 BadVolume 6 0")
+
+
 def other_clusters_are_refused_in_their_place():
     """Behind the name and the mark of the boot sector and the bytes of a sector, before all other fields."""
     for image in [TINY, WHOLE, changed(TINY, (0x28, b"\0")), changed(ASKED, (0x0D, b"\x01")), changed(ASKED, (0x0D, b"\x01"), (0x30, b"\xff"))]:
@@ -125,6 +134,7 @@ TABLES = [
     a_volume_that_is_no_tree_is_refused,
     volumes_that_cannot_be_written_are_refused,
     attribute_lists_of_two_pieces_are_refused,
+    the_boot_sector_is_kept,
     other_clusters_are_refused_in_their_place,
     what_is_no_script_is_refused,
     scripts_that_are_too_large_are_refused,

@@ -7,7 +7,7 @@ use Rattle.disk_model.specs.Sectors.{sector_of}
 use Rattle.disk_model.specs.Content.{Content, content_of}
 use Rattle.record_model.proofs.Answering.{steps_from_ok, needs_from_ok}
 use Rattle.state_model.specs.declared.geometry.MapRefusal.{MapRefusal}
-use Rattle.volume_model.specs.Volumes.{Volume, volume_of, file_in, log_file, upper_of}
+use Rattle.volume_model.specs.Volumes.{Volume, volume_of, file_in, log_file, cluster_bits, upper_of}
 use Rattle.volume_state.specs.Trees.{tree_of}
 use Rattle.plan_owners.specs.States.{Stands}
 use Rattle.state_blocks.specs.Needing.{AgreeOnNeeded, NeededIsAll}
@@ -27,12 +27,14 @@ use Rattle.image_read.specs.Checks.{volume_on, has_version}
 use Rattle.ring_laws.specs.PageBytes.{raw_page}
 use Rattle.store_claims.specs.Windows.{StoreWindow}
 use Rattle.txn_laws.specs.Windows.{RecoversWithin}
-use Rattle.volume_mount.specs.Mounts.{Said, has_no_journal, front_sectors, lying_pages, pages_needed, pages_lie, has_single_lists, has_pages, may_be_changed, unshadowed, placed, ruled, settled, paged, unjournaled, tried, loaded_on, MountedVolume, content_behind, mounted_as, mounted_by, mounted_in, mounted_of}
+use Rattle.volume_mount.specs.Boot.{KeepsBoot, keeps_boot}
+use Rattle.volume_mount.specs.Mounts.{Said, has_no_journal, front_sectors, lying_pages, pages_needed, pages_lie, has_single_lists, has_pages, changeable, may_be_changed, unshadowed, placed, ruled, settled, paged, unjournaled, tried, loaded_on, MountedVolume, content_behind, mounted_as, mounted_by, mounted_in, mounted_of}
 use Rattle.member_states.specs.Members.{VolumeBase, MembersAre}
 use Rattle.member_states.specs.Crashes.{RecoversToState}
 use Rattle.member_states.proofs.Recovering.{to_state}
 use Rattle.crash_mounts.specs.Opening.{with_state}
-use Rattle.crash_mounts.specs.Loading.{IsWelcome}
+use Rattle.volume_mount.specs.Welcome.{IsWelcome}
+use Rattle.volume_mount.proofs.Booting.{passes}
 use Rattle.crash_mounts.specs.Mounting.{base_behind, IsLeftBy, MountsAsState, CrashesMount}
 use Rattle.crash_mounts.proofs.Opening.{opens_alike}
 use Rattle.crash_mounts.proofs.Reading.{reads_list}
@@ -52,7 +54,7 @@ unit_is : (r : Result (Unit {0}) Refusal) (x : Unit {0}) → r ≡ Ok x → r �
 unit_is r tt is = is
 
 first_parts : (c : Content) (sectors : ℕ) (m : MountedVolume) → mounted_in c sectors ≡ Ok m → FirstParts c sectors m
-unfolding mounted_in mounted_by loaded_on tried unjournaled paged settled placed may_be_changed
+unfolding mounted_in mounted_by loaded_on tried unjournaled paged settled placed changeable
 first_parts c sectors m is =
     let first = steps_from_ok (opened_to_write_in c sectors) (mounted_by c) m is in
     let o = first.0 in
@@ -64,9 +66,9 @@ first_parts c sectors m is =
     let version = steps_from_ok (has_version v) (λ _. unjournaled said (upper_of after v) o.place after v) second.0 third.2 in
     let journal = steps_from_ok (has_no_journal (upper_of after v) v) (λ _. paged said o.place after v) second.0 version.2 in
     let pages = steps_from_ok (has_pages o.place) (λ _. settled said o.place after v) second.0 journal.2 in
-    let rules = steps_from_ok (ruled after v) (placed said o.place) second.0 pages.2 in
-    let fit = steps_from_ok (may_be_changed o.place rules.0) (λ _. unshadowed said rules.0) second.0 rules.2 in
-    let lying = steps_from_ok (pages_lie o.place rules.0) (λ _. has_single_lists rules.0) fit.0 fit.1 in
+    let rules = steps_from_ok (ruled after v) (λ x. placed said o.place (cluster_bits after x) x) second.0 pages.2 in
+    let fit = steps_from_ok (may_be_changed o.place after rules.0) (λ _. unshadowed said rules.0) second.0 rules.2 in
+    let lying = steps_from_ok (pages_lie o.place rules.0) (λ _. has_single_lists rules.0 >>= λ _. keeps_boot (cluster_bits after rules.0) rules.0) fit.0 fit.1 in
     let made : mounted_as c o second.0 ≡ m = cc in
     let parts : FirstParts c sectors (mounted_as c o second.0) =
     record { opened = first.1; pages = unit_is (has_pages o.place) pages.0 pages.1; volume = rules.0; lies = unit_is (pages_lie o.place rules.0) lying.0 lying.1 }
@@ -89,6 +91,10 @@ lies_again place v u some lies file =
     let front = some_front (is_some (file_in v log_file)) place.pages (front_sectors place / 8) some enough in
     let same : lying_pages place u ≡ front_sectors place / 8 = ap (λ (t : Bool). cond t (front_sectors place / 8) 0) file in
     ap (λ (t : Bool). needs t (LogSmall (lying_pages place u) (pages_needed place))) (le-leb place.pages (lying_pages place u) (omega (arith, front, same)))
+
+-- where the bits of the clusters are the same, the boot sector is kept again
+kept_again : (c d : Content) (v : Volume) → cluster_bits d v ≡ cluster_bits c v → KeepsBoot c v → KeepsBoot d v
+kept_again c d v same keeps = record { others = keeps.others; marked = rw same keeps.marked }
 
 -- ---- the image
 
@@ -150,6 +156,7 @@ module _ (needed_is_all : NeededIsAll) (first image : List (List ℕ)) (m : Moun
     own_page = x.recovers.own_page;
     list = list;
     reads = x.recovers.reads;
+    closed = x.recovers.closed;
     back = 0;
     within = omega arith;
     recovers = x.recovers.recovers;
@@ -187,6 +194,7 @@ module _ (needed_is_all : NeededIsAll) (first image : List (List ℕ)) (m : Moun
     no_journal = subst (λ (u : List ℕ). has_no_journal u x.volume ≡ Ok tt) (sym (needed_is_all.upper state (recovered c list) x.volume agrees)) x.welcome.no_journal;
     lists = x.welcome.lists;
     log = x.welcome.log;
+    boot = kept_again state (recovered c list) x.volume (needed_is_all.clusters state (recovered c list) x.volume agrees) x.welcome.boot;
   }
 
   abbrev sectors : ℕ
@@ -201,17 +209,19 @@ module _ (needed_is_all : NeededIsAll) (first image : List (List ℕ)) (m : Moun
       let pages = x.alike.pages in
       lies_again m.opened.place parts.volume x.volume (omega (arith, ring, pages)) parts.lies x.welcome.log
 
-  fit : may_be_changed m.opened.place x.volume ≡ Ok tt
-  unfolding may_be_changed
+  fit : may_be_changed m.opened.place (recovered c list) x.volume ≡ Ok tt
+  unfolding changeable
   fit =
-      ap (λ (r : Result (Unit {0}) Refusal). r >>= λ _. has_single_lists x.volume) lies
-      ∙ x.welcome.lists
+      let bits = cluster_bits (recovered c list) x.volume in
+      ap (λ (r : Result (Unit {0}) Refusal). r >>= λ _. has_single_lists x.volume >>= λ _. keeps_boot bits x.volume) lies
+      ∙ ap (λ (r : Result (Unit {0}) Refusal). r >>= λ _. keeps_boot bits x.volume) x.welcome.lists
+      ∙ passes (recovered c list) x.volume welcome.boot
 
   loaded : loaded_on (shadow_lsn list) m.opened.place (recovered c list) base.geometry base.clusters ≡ Ok x.volume
   loaded = states_load (shadow_lsn list) m.opened.place (recovered c list) base.geometry base.clusters x.volume stands welcome parts.pages fit (none_shadowed place base w (sector_of image) x.recovers x.volume x.member x.log_clear)
 
   read : (found : LogState) × (to_write_in c m.opened.place base.found ≡ Ok found) × (found.log ≡ list)
-  read = reads_list place m.opened.place base.found w (sector_of image) x.recovers x.ring x.alike x.far x.closed
+  read = reads_list place m.opened.place base.found w (sector_of image) x.recovers x.ring x.alike x.far
 
   abbrev opened : OpenedToWrite
   opened = with_state m.opened read.0

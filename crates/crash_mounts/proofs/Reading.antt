@@ -31,7 +31,7 @@ use Rattle.txn_mount.proofs.Finding.{front_parts}
 use Rattle.txn_mount.proofs.Frames.{live_alike}
 use Rattle.txn_mount.proofs.Mountable.{stores_mount_law}
 use Rattle.txn_mount.proofs.Reading.{all_ok, read_log}
-use Rattle.crash_mounts.specs.Reading.{IsEmptyIfClosed, ReadsList}
+use Rattle.crash_mounts.specs.Reading.{ReadsList}
 
 same_list : (x y : List Entry) → ◌≡◌ {A = Result (List Entry) LogRefusal} (Ok x) (Ok y) → x ≡ y
 same_list x y is = cc
@@ -50,7 +50,7 @@ closed_read : (c : Content) (place : LogPlace) (r : Restart) (log : List Entry) 
 closed_read c place r log true is closed = same_list [] log is
 closed_read c place r log false is closed = absurd cc
 
-module _ (place : LogPlace) (kept : List Block) (w : StoreWindow) (image : SectorBytes) (x : RecoversWithin place (is_own place kept) w image) (ring : IsRingPlace place) (closed : IsEmptyIfClosed place kept w image x) where
+module _ (place : LogPlace) (kept : List Block) (w : StoreWindow) (image : SectorBytes) (x : RecoversWithin place (is_own place kept) w image) (ring : IsRingPlace place) where
   abbrev c : Content
   c = content_of image
 
@@ -66,7 +66,7 @@ module _ (place : LogPlace) (kept : List Block) (w : StoreWindow) (image : Secto
   by_restart : (log : List Entry) → live_entries_in c place (Some x.restart) ≡ Ok log → log ≡ x.list
   unfolding entries_by
   by_restart log is = elim (cases_Bool (is_clean x.restart)) [
-    | inl clean ↦ sym (closed_read c place x.restart log (is_clean x.restart) is clean) ∙ sym (closed clean)
+    | inl clean ↦ sym (closed_read c place x.restart log (is_clean x.restart) is clean) ∙ sym (x.closed clean)
     | inr unclosed ↦ sym (not_closed c place x.restart log (is_clean x.restart) is unclosed) ∙ reads
   ]
 
@@ -77,6 +77,6 @@ module _ (place : LogPlace) (kept : List Block) (w : StoreWindow) (image : Secto
       by_restart state.log (subst (λ (r : Option Restart). live_entries_in c place r ≡ Ok state.log) front read.entries)
 
 pub reads_list : ReadsList
-reads_list place place' kept w image x ring alike far closed =
+reads_list place place' kept w image x ring alike far =
     let m = stores_mount_law.within place kept w image ring x far in
-    (m.state, sym (to_write_alike (content_of image) place place' alike kept) ∙ m.read, log_is place kept w image x ring closed m.state m.read)
+    (m.state, sym (to_write_alike (content_of image) place place' alike kept) ∙ m.read, log_is place kept w image x ring m.state m.read)

@@ -15,8 +15,7 @@ use Rattle.txn_laws.specs.Windows.{RecoversWithin, next_lap_in}
 use Rattle.txn_mount.specs.Mountable.{IsFar}
 use Rattle.volume_mount.specs.Mounts.{MountedVolume, tree_in, mounted_of}
 use Rattle.member_states.specs.Members.{VolumeBase, BearsFound, MemberIs}
-use Rattle.crash_mounts.specs.Reading.{IsEmptyIfClosed}
-use Rattle.crash_mounts.specs.Loading.{IsWelcome}
+use Rattle.volume_mount.specs.Welcome.{IsWelcome}
 use Rattle.crash_mounts.specs.Clearing.{IsLogClear}
 
 -- what the states of a volume stand on that was mounted from these sectors, with its log at this place
@@ -31,7 +30,7 @@ base_behind first m place = record {
 
 -- A volume was mounted from the first sectors. The image is as long, and bears the blocks by which the log is found as they were; the log of it is read whole, and recovery by it leaves the content of
 -- the store's window so many commits back on all that is claimed there. This is a state that shows what a mount
--- asks beside the rules; the laps of the log don't come near their end, no entry stands behind a restart page that says that the log is closed, and the list shadows none of the log's own blocks.
+-- asks beside the rules; the laps of the log don't come near their end, and the list shadows none of the log's own blocks.
 pub record IsLeftBy (first image : List (List ℕ)) (m : MountedVolume) (place : LogPlace) (w : StoreWindow) : Type 0 where
   pub mounted : mounted_of first ≡ Ok m
   pub alike : LieAlike place m.opened.place
@@ -42,7 +41,6 @@ pub record IsLeftBy (first image : List (List ℕ)) (m : MountedVolume) (place :
   pub bears : BearsFound (base_behind first m place) (sector_of image)
   pub recovers : RecoversWithin place (is_own place (found_by m.opened.geometry)) w (sector_of image)
   pub far : IsFar place (next_lap_in place (sector_of image))
-  pub closed : IsEmptyIfClosed place (found_by m.opened.geometry) w (sector_of image) recovers
   pub volume : Volume
   pub member : MemberIs (base_behind first m place) w recovers.back volume
   pub welcome : IsWelcome (w.before recovers.back) volume

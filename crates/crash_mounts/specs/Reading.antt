@@ -1,9 +1,8 @@
 -- What a mount reads of the log of an image that recovers to a content of a store's window.
-use Rattle.std.specs.Prelude.{◌≡◌, true, List, [], Ok}
+use Rattle.std.specs.Prelude.{◌≡◌, List, Ok}
 use Rattle.disk_model.specs.declared.block.Block.{Block}
 use Rattle.disk_model.specs.Content.{content_of}
 use Rattle.log_page.specs.declared.places.LogPlace.{LogPlace}
-use Rattle.log_page.specs.Restarts.{is_clean}
 use Rattle.log_reading.specs.Rings.{IsRingPlace}
 use Rattle.log_recovery.specs.LogStates.{LogState}
 use Rattle.log_recovery.specs.Writing.{to_write_in}
@@ -14,11 +13,7 @@ use Rattle.txn_model.specs.Values.{is_own}
 use Rattle.txn_laws.specs.Windows.{RecoversWithin, next_lap_in}
 use Rattle.txn_mount.specs.Mountable.{IsFar}
 
--- no entry stands behind a restart page that says that the log is closed
-abbrev pub IsEmptyIfClosed : (place : LogPlace) (kept : List Block) (w : StoreWindow) (image : SectorBytes) → RecoversWithin place (is_own place kept) w image → Type 0
-IsEmptyIfClosed place kept w image x = is_clean x.restart ≡ true → x.list ≡ []
-
 -- Where its laps don't come near their end, a mount that writes reads the list by which the image recovers, and doesn't refuse it; also of the same log by other runs.
 abbrev pub ReadsList : Type 0
-ReadsList = (place place' : LogPlace) (kept : List Block) (w : StoreWindow) (image : SectorBytes) (x : RecoversWithin place (is_own place kept) w image) → IsRingPlace place → LieAlike place place' → IsFar place (next_lap_in place image) → IsEmptyIfClosed place kept w image x
+ReadsList = (place place' : LogPlace) (kept : List Block) (w : StoreWindow) (image : SectorBytes) (x : RecoversWithin place (is_own place kept) w image) → IsRingPlace place → LieAlike place place' → IsFar place (next_lap_in place image)
     → (state : LogState) × (to_write_in (content_of image) place' kept ≡ Ok state) × (state.log ≡ x.list)

@@ -37,8 +37,8 @@ use Rattle.flush_policy.specs.declared.facts.StoreStep.{StoreStep}
 use Rattle.flush_policy.specs.declared.facts.StoreStep.TheVariants.{SealPage, WritePage, SyncDevice, WriteOut, BeginCheckpoint, WriteRestart}
 use Rattle.device_blocks.specs.declared.word.CheckWord.{CheckWord}
 use Rattle.txn_model.specs.Values.{StoreFacts, is_own}
-use Rattle.txn_laws.specs.Standing.{HasBytes, StandsBehind, session_of}
-use Rattle.txn_laws.specs.Windows.{HasMachine, HasWindow}
+use Rattle.txn_laws.specs.Standing.{HasBytes, StandsBehindAs, StandsBehind, session_of}
+use Rattle.txn_laws.specs.Windows.{HasMachineAs, HasWindowAs, HasMachine, HasWindow}
 use Rattle.txn_state.specs.States.{IsStore}
 use Rattle.txn_core.specs.Calls.{is_spelled}
 use Rattle.txn_core.specs.Seen.{word_of}
@@ -107,7 +107,7 @@ unfolding page_sector
 page_misses place found k at is lt off s inside = ap (λ (n : ℕ). is_within n 8 s) is ∙ off s k inside lt
 
 -- where the page that is written next lies, and where the next restart page goes
-module _ (f : StoreFacts) (disk : Disk) (m : Store) (h : StandsBehind f disk m) where
+module _ {ends : Bool} (f : StoreFacts) (disk : Disk) (m : Store) (h : StandsBehindAs ends f disk m) where
   page_lies : (area_sector f.log f.log.done ≡ page_sector f.place (place_of_page (session_of f h.lap) f.log.done)) × (place_of_page (session_of f h.lap) f.log.done < f.place.pages)
   page_lies =
       let s : LogSession = session_of f h.lap in
@@ -130,7 +130,7 @@ module _ (f : StoreFacts) (disk : Disk) (m : Store) (h : StandsBehind f disk m) 
 -- ---- each step
 
 -- a body that is kept is as long as its block
-kept_size : (f : StoreFacts) (disk : Disk) (m : Store) (c : Block) (x : Body) → StandsBehind f disk m → f.body c ≡ Some x → length x.bytes ≡ 512 * sectors c.kind
+kept_size : {ends : Bool} (f : StoreFacts) (disk : Disk) (m : Store) (c : Block) (x : Body) → StandsBehindAs ends f disk m → f.body c ≡ Some x → length x.bytes ≡ 512 * sectors c.kind
 kept_size f disk m c x h kept =
     let held : HasBytes c (m.window.body c) (m.window.is_torn c) x = subst (λ (o : Option Body). IfSome o (HasBytes c (m.window.body c) (m.window.is_torn c))) kept (h.window.body c) in
     ap (λ (bytes : List ℕ). length bytes) held.bytes ∙ length-first_bytes (512 * sectors c.kind) (m.window.body c)
@@ -139,7 +139,7 @@ some_body : (o : Option Body) → is_some o ≡ true → (x : Body) × (o ≡ So
 some_body (Some x) some = (x, refl)
 some_body None some = absurd (true≢false (sym some))
 
-module _ {D : Type 0} (gives : D → Option (List (List ℕ))) (changes : D → Changes) (moment : D → ℕ) (count : ℕ) (first : SectorBytes) (f g : StoreFacts) (old new : D) (machine : HasMachine (changes old) f) (off : AreOffLog f.place f.found) where
+module _ {ends : Bool} {D : Type 0} (gives : D → Option (List (List ℕ))) (changes : D → Changes) (moment : D → ℕ) (count : ℕ) (first : SectorBytes) (f g : StoreFacts) (old new : D) (machine : HasMachineAs ends (changes old) f) (off : AreOffLog f.place f.found) where
   abbrev Stays : Type 0
   Stays = StaysOver count f.found first (changes old) (changes new)
 
@@ -176,8 +176,8 @@ store_keeps f k c dirty = k.blocks.kept c ∙ ap (λ (t : Bool). t || (f.mark c)
 some_disk : (a b : Disk) → Some a ≡ Some b → a ≡ b
 some_disk a b e = cc
 
-pub window_machine : (changes : Changes) (f : StoreFacts) (w : StoreWindow) → HasWindow changes f w → HasMachine changes f
-window_machine changes f w has disk is = (has.2, subst (λ (d : Disk). StandsBehind f d has.2) (some_disk has.0 disk (sym has.1 ∙ is)) has.3)
+pub window_machine : {ends : Bool} (changes : Changes) (f : StoreFacts) (w : StoreWindow) → HasWindowAs ends changes f w → HasMachineAs ends changes f
+window_machine {ends} changes f w has disk is = (has.2, subst (λ (d : Disk). StandsBehindAs ends f d has.2) (some_disk has.0 disk (sym has.1 ∙ is)) has.3)
 
 pub window_keeps : (changes : Changes) (f : StoreFacts) (w : StoreWindow) → HasWindow changes f w → (c : Block) → (f.mark c).dirty ≡ true → is_some (f.body c) ≡ true
 window_keeps changes f w has c dirty = has.3.marks.kept c ∙ ap (λ (t : Bool). t || (f.mark c).dead) dirty

@@ -17,7 +17,7 @@ use Rattle.store_claims.specs.Windows.{StoreWindow}
 use Rattle.flush_policy.specs.declared.facts.StoreStep.{StoreStep}
 use Rattle.txn_model.specs.Values.{StoreFacts}
 use Rattle.txn_laws.specs.Standing.{StandsBehind}
-use Rattle.txn_laws.specs.Windows.{HasMachine, HasWindow}
+use Rattle.txn_laws.specs.Windows.{HasMachineAs, HasMachine, HasWindow}
 use Rattle.txn_state.specs.States.{facts_of, IsStore}
 use Rattle.txn_core.specs.Seen.{Seen}
 use Rattle.txn_core.specs.Steps.{MayTurn, TurnsDevice}
@@ -38,14 +38,14 @@ pub record CallsJoin : Type 0 where
   pub both : (count : ℕ) (found : List Block) (first : SectorBytes) (old mid now : Changes) → StaysOver count found first old mid → StaysOver count found first mid now → StaysOver count found first old now
   pub since : (count t : ℕ) (found : List Block) (first : SectorBytes) (old now : Changes) (disk : Disk) (image : List (List ℕ)) → old.disk ≡ Some disk → AreOver t old.past → HasFirst found first disk → StaysOver count found first old now → LeftSince count now t image → BearsFirst found first (sector_of image)
 
--- Each step that a store may take leaves them, whether it answers `Ok` or fails; and so do a restart page, also one that says that the log is closed, and a sync.
+-- Each step that a store may take leaves them, whether it answers `Ok` or fails; and so do a restart page, also one that says that the log is closed, of a store that ends, and a sync.
 pub record StepsStay {D : Type 0} (gives : D → Option (List (List ℕ))) (moment : D → ℕ) (changes : D → Changes) : Type 0 where
   pub turn : (count : ℕ) (first : SectorBytes) (step : StoreStep) (result : Result (Unit {0}) Failed) (old new : Seen D) → IsStore (facts_of old.state) → HasMachine (changes old.device) (facts_of old.state) → AreOffLog (facts_of old.state).place (facts_of old.state).found
       → MayTurn (facts_of old.state) step → TurnsDevice gives changes moment step result (facts_of old.state) (facts_of new.state) old.words new.words old.device new.device → StaysOver count (facts_of old.state).found first (changes old.device) (changes new.device)
   -- the same where the disk is known
   pub windowed : (count : ℕ) (first : SectorBytes) (step : StoreStep) (result : Result (Unit {0}) Failed) (old new : Seen D) (w : StoreWindow) → HasWindow (changes old.device) (facts_of old.state) w → AreOffLog (facts_of old.state).place (facts_of old.state).found
       → MayTurn (facts_of old.state) step → TurnsDevice gives changes moment step result (facts_of old.state) (facts_of new.state) old.words new.words old.device new.device → StaysOver count (facts_of old.state).found first (changes old.device) (changes new.device)
-  pub restart : (count : ℕ) (first : SectorBytes) (clean : Bool) (result : Result (Unit {0}) Failed) (f g : StoreFacts) (old new : D) → HasMachine (changes old) f → AreOffLog f.place f.found → SendsRestartPage gives changes moment clean f g result old new → StaysOver count f.found first (changes old) (changes new)
+  pub restart : (ends : Bool) (count : ℕ) (first : SectorBytes) (clean : Bool) (result : Result (Unit {0}) Failed) (f g : StoreFacts) (old new : D) → HasMachineAs ends (changes old) f → AreOffLog f.place f.found → SendsRestartPage gives changes moment clean f g result old new → StaysOver count f.found first (changes old) (changes new)
   pub sync : (count : ℕ) (found : List Block) (first : SectorBytes) (result : Result (Unit {0}) Failed) (old new : D) → Syncs (moment old) result (changes old) (changes new) → StaysOver count found first (changes old) (changes new)
 
 -- A store keeps no body of such a block; so in its present content the block is as the sectors have it, and where these are known, as it was at first.

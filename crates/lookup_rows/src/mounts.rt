@@ -11,8 +11,10 @@ struct Row(bool, &'static [Patch], Option<Refusal>);
 
 // The log's file is record 2, whose sizes stand at 0x138 and 0x140 of the sector 36; a new log has
 // 513 pages, and its bytes are FF. The file with `$AttrDef` is record 4, the units of whose name
-// stand behind the `$` at 0xf4 of the sector 40.
-static ROWS: [Row; 7] = [
+// stand behind the `$` at 0xf4 of the sector 40. The data of `$Boot`, record 7, has its type at 0x100
+// of the sector 46, and its runs at 0x140: the clusters 0 and 1. In the last two rows they are 600 and
+// 601, whose bits stand, as that of cluster 0, in the sector 4520.
+static ROWS: [Row; 10] = [
     Row(false, &[], None),
     Row(
         false,
@@ -49,6 +51,32 @@ static ROWS: [Row; 7] = [
         false,
         &[(40, 0xF4, b'B')],
         Some(Refusal::BadVolume { rule: 3, number: 5 }),
+    ),
+    Row(
+        false,
+        &[(46, 0x100, 0x50)],
+        Some(Refusal::BadVolume { rule: 5, number: 0 }),
+    ),
+    Row(
+        false,
+        &[
+            (46, 0x140, 0x21),
+            (46, 0x142, 0x58),
+            (46, 0x143, 2),
+            (4520, 75, 3),
+            (4520, 0, 0xFE),
+        ],
+        Some(Refusal::BadVolume { rule: 6, number: 0 }),
+    ),
+    Row(
+        false,
+        &[
+            (46, 0x140, 0x21),
+            (46, 0x142, 0x58),
+            (46, 0x143, 2),
+            (4520, 75, 3),
+        ],
+        None,
     ),
 ];
 

@@ -26,11 +26,11 @@ use Rattle.txn_model.specs.Values.{StoreFacts, own_of}
 use Rattle.txn_laws.specs.Windows.{IsShown}
 use Rattle.txn_laws.proofs.Showing.{present_shown}
 use Rattle.txn_core.specs.Views.{present_on}
-use Rattle.volume_core.specs.Volumes.{geometry_of}
-use Rattle.volume_core.specs.Changes.{MayLog, AreApart, LeadsOn}
-use Rattle.volume_core.specs.Windows.{changed_by}
-use Rattle.volume_core.proofs.Lists.{each_weaker, bytes_by, same_after, unchanged_by, changed_whole, changed_found}
-use Rattle.volume_core.proofs.Windowed.{newest_is_present}
+use Rattle.state_store.specs.Volumes.{geometry_of}
+use Rattle.state_store.specs.Changes.{MayLog, AreApart, LeadsOn}
+use Rattle.state_store.specs.Windows.{changed_by}
+use Rattle.state_store.proofs.Lists.{each_weaker, bytes_by, same_after, unchanged_by, changed_whole, changed_found}
+use Rattle.state_store.proofs.Windowed.{newest_is_present}
 use Rattle.member_states.specs.Members.{base_of, IsSafe}
 use Rattle.member_states.specs.Puts.{MayPut}
 use Rattle.member_states.specs.Leads.{IsAtRest}

@@ -23,11 +23,11 @@ use Rattle.store_model.specs.Volumes.{is_known}
 use Rattle.store_model.proofs.Told.{true≢false, rivals_both}
 use Rattle.store_claims.specs.Windows.{StoreWindow}
 use Rattle.txn_model.specs.Values.{StoreFacts, own_of}
-use Rattle.volume_core.specs.declared.fault.PutFault.{PutFault}
-use Rattle.volume_core.specs.Claims.{NoRival}
-use Rattle.volume_core.specs.Changes.{MayLog, AreBeside, AreApart}
-use Rattle.volume_core.specs.Windows.{changed_by, AfterPut, StaysWindow, AfterPutting}
-use Rattle.volume_core.proofs.Lists.{each_weaker, unchanged_by, changed_found}
+use Rattle.state_store.specs.declared.fault.PutFault.{PutFault}
+use Rattle.state_store.specs.Claims.{NoRival}
+use Rattle.state_store.specs.Changes.{MayLog, AreBeside, AreApart}
+use Rattle.state_store.specs.Windows.{changed_by, AfterPut, StaysWindow, AfterPutting}
+use Rattle.state_store.proofs.Lists.{each_weaker, unchanged_by, changed_found}
 use Rattle.member_states.specs.Members.{base_of, IsSafe, IsClaimedState, MembersAre}
 use Rattle.member_states.specs.Puts.{MayPut}
 use Rattle.member_states.proofs.Staying.{stays}

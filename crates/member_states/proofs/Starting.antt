@@ -15,7 +15,7 @@ use Rattle.store_model.specs.Volumes.{is_known}
 use Rattle.txn_model.specs.Values.{StoreFacts, own_of}
 use Rattle.txn_laws.specs.Windows.{HasStart}
 use Rattle.txn_laws.proofs.Telling.{is_open_of}
-use Rattle.volume_core.proofs.Windowed.{newest_is_present}
+use Rattle.state_store.proofs.Windowed.{newest_is_present}
 use Rattle.member_states.specs.Members.{base_of, is_found, IsSafe, void_body, IsClaimedState, MembersAre}
 use Rattle.member_states.proofs.Recovering.{void_is}
 

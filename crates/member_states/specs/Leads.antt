@@ -15,8 +15,8 @@ use Rattle.txn_model.specs.Values.{StoreFacts}
 use Rattle.txn_laws.specs.Windows.{HasWindow}
 use Rattle.txn_core.specs.Views.{present_on}
 use Rattle.turn_laws.specs.Sparing.{IsSpared}
-use Rattle.volume_core.specs.Volumes.{geometry_of}
-use Rattle.volume_core.specs.Changes.{MayLog, AreApart, LeadsOn}
+use Rattle.state_store.specs.Volumes.{geometry_of}
+use Rattle.state_store.specs.Changes.{MayLog, AreApart, LeadsOn}
 use Rattle.member_states.specs.Members.{base_of, is_found, void_body, MembersAre}
 use Rattle.member_states.specs.Puts.{MayPut}
 

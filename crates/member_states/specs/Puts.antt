@@ -10,9 +10,9 @@ use Rattle.plan_owners.specs.States.{Stands}
 use Rattle.state_blocks.specs.Drafts.{DraftIn}
 use Rattle.store_claims.specs.Windows.{StoreWindow}
 use Rattle.txn_model.specs.Values.{StoreFacts}
-use Rattle.volume_core.specs.declared.fault.PutFault.{PutFault}
-use Rattle.volume_core.specs.Changes.{MayLog, AreApart}
-use Rattle.volume_core.specs.Windows.{changed_by, AfterPut, StaysWindow, AfterPutting}
+use Rattle.state_store.specs.declared.fault.PutFault.{PutFault}
+use Rattle.state_store.specs.Changes.{MayLog, AreApart}
+use Rattle.state_store.specs.Windows.{changed_by, AfterPut, StaysWindow, AfterPutting}
 use Rattle.member_states.specs.Members.{base_of, MembersAre}
 
 -- The changes may be put into a store with this window as one transaction: each lies on the device, no two are of one block or of rivals, and they lead from the present content, which

@@ -28,7 +28,7 @@ unshadowed_same said v w is = no_other (least_live said v) v w is
 volume_changed : (c : Content) (o : OpenedToWrite) (v : Volume) → (tried (shadow_lsn o.state.log) o.place (content_behind c o) v >>= λ w. Ok (mounted_as c o w)) ≡ passed Change (mounted_as c o v)
 unfolding tried unjournaled paged settled ruled placed tried_for
 volume_changed c o v =
-    change_tests (has_version v) (has_no_journal (upper_of (content_behind c o) v) v) (has_pages o.place) (tree_on (content_behind c o) v) (may_be_changed o.place) (unshadowed (shadow_lsn o.state.log)) v
+    change_tests (has_version v) (has_no_journal (upper_of (content_behind c o) v) v) (has_pages o.place) (tree_on (content_behind c o) v) (may_be_changed o.place (content_behind c o)) (unshadowed (shadow_lsn o.state.log)) v
     (mounted_as c o) (unshadowed_same (shadow_lsn o.state.log) v)
 
 opened_changed : (c : Content) (o : OpenedToWrite) → mounted_by c o ≡ loaded_for Change c o

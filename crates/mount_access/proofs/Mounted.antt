@@ -33,7 +33,7 @@ tried_too Journal m x is =
 tried_too Change m x is =
     let journal = has_no_journal (upper_in m) m.volume in
     let pages = has_pages m.opened.place in
-    let lies = may_be_changed m.opened.place m.volume in
+    let lies = may_be_changed m.opened.place m.content m.volume in
     also (has_version m.volume) (has_version m.volume) (λ _. journal >>= λ _. pages >>= λ _. keeps_rules m >>= λ _. lies >>= λ _. has_no_shadow m) (λ _. keeps_rules m) x (λ y e. e)
     (λ y e. third_test journal pages (keeps_rules m) lies (has_no_shadow m) x e) is
 

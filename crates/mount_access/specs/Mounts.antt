@@ -76,7 +76,7 @@ tried_for Look m = has_version m.volume >>= λ _. keeps_rules m
 tried_for Journal m = has_version m.volume >>= λ _. has_journal m >>= λ _. keeps_rules m
 tried_for Change m =
     has_version m.volume >>= λ _. has_no_journal (upper_in m) m.volume >>= λ _. has_pages m.opened.place >>= λ _. keeps_rules m
-    >>= λ _. may_be_changed m.opened.place m.volume >>= λ _. has_no_shadow m
+    >>= λ _. may_be_changed m.opened.place m.content m.volume >>= λ _. has_no_shadow m
 
 -- ---- what is mounted
 

@@ -3,14 +3,14 @@ use Rattle.std.proofs.Common.{◌≡◌, ℕ, ◌*◌, ◌/◌, ◌^◌, ◌<◌
 use Rattle.std.specs.Prelude.{is_some}
 use Rattle.std.specs.List.{range_with_len}
 use Rattle.std.proofs.lemmas.Bool.{leb-true}
-use Rattle.host_base.specs.Answers.{needs}
+use Rattle.host_base.specs.Answers.{◌>>=◌, needs}
 use Rattle.disk_model.specs.Content.{Content}
 use Rattle.record_model.specs.Records.{Record}
 use Rattle.record_model.proofs.Answering.{steps_from_ok}
 use Rattle.state_model.specs.declared.stream.Stream.{Stream}
 use Rattle.state_model.specs.declared.stream.Stream.TheVariants.{Held, Placed}
 use Rattle.state_model.specs.Rules.{first_failing}
-use Rattle.volume_model.specs.Volumes.{Volume, volume_of, file_in, log_file, upper_of}
+use Rattle.volume_model.specs.Volumes.{Volume, volume_of, file_in, log_file, cluster_bits, upper_of}
 use Rattle.volume_state.specs.Rules.{first_broken}
 use Rattle.volume_state.specs.Trees.{checked}
 use Rattle.volume_state.proofs.Reports.{reports}
@@ -27,8 +27,10 @@ use Rattle.image_open.specs.Volumes.{data_of}
 use Rattle.image_open.specs.Writing.{OpenedToWrite, opened_to_write_in}
 use Rattle.image_read.specs.Errors.{broken_refusal}
 use Rattle.image_read.specs.Checks.{volume_on, has_version, tree_on}
-use Rattle.volume_mount.specs.Mounts.{Said, unless_said, is_there, begun_sectors, or_all, front_sectors, lying_pages, pages_lie, has_single_lists, may_be_changed, pages_needed, whole_pages, has_pages, has_no_journal, unshadowed, placed, ruled, settled, paged, unjournaled, tried, loaded_on, MountedVolume, content_behind, mounted_as, mounted_by, mounted_in}
+use Rattle.volume_mount.specs.Boot.{keeps_boot}
+use Rattle.volume_mount.specs.Mounts.{Said, unless_said, is_there, begun_sectors, or_all, front_sectors, lying_pages, pages_lie, has_single_lists, changeable, may_be_changed, pages_needed, whole_pages, has_pages, has_no_journal, unshadowed, placed, ruled, settled, paged, unjournaled, tried, loaded_on, MountedVolume, content_behind, mounted_as, mounted_by, mounted_in}
 use Rattle.volume_shadows.specs.Live.{least_live}
+use Rattle.volume_mount.proofs.Booting.{passed}
 use Rattle.mount_laws.specs.Laws.{MountedOnRing, LiesByRecord, MountedByRecord, PassesMount, MountedPasses}
 use Rattle.mount_laws.proofs.Opened.{OpenedParts, opened_parts, IsWhole, its_place, lies_in_ring}
 use Rattle.mount_laws.proofs.Records.{parts, more, own_attrs}
@@ -80,10 +82,10 @@ module _ (c : Content) (sectors : ℕ) (o : OpenedToWrite) (v : Volume) (small :
   unfolding has_pages
   as_pages is = leb-true (pages_needed o.place) (whole_pages o.place) (needed _ _ tt is)
 
-  as_lying : (w : Volume) → may_be_changed o.place w ≡ Ok tt → o.place.pages ≤ lying_pages o.place w
-  unfolding may_be_changed pages_lie
+  as_lying : (w : Volume) → may_be_changed o.place after w ≡ Ok tt → o.place.pages ≤ lying_pages o.place w
+  unfolding changeable pages_lie
   as_lying w is =
-      let lying = steps_from_ok (pages_lie o.place w) (λ _. has_single_lists w) tt is in
+      let lying = steps_from_ok (pages_lie o.place w) (λ _. has_single_lists w >>= λ _. keeps_boot (cluster_bits after w) w) tt is in
       leb-true o.place.pages (lying_pages o.place w) (needed _ _ lying.0 lying.1)
 
   whole : (w : Volume) → pages_needed o.place ≤ whole_pages o.place → o.place.pages ≤ lying_pages o.place w → (IsWhole o.place) × ((f : Record) × (file_in w log_file ≡ Some f))
@@ -127,14 +129,21 @@ module _ (c : Content) (sectors : ℕ) (o : OpenedToWrite) (v : Volume) (small :
       let version = steps_from_ok (has_version w) (λ _. unjournaled said (upper_of after w) o.place after w) v is in
       let journal = steps_from_ok (has_no_journal (upper_of after w) w) (λ _. paged said o.place after w) v version.2 in
       let pages = steps_from_ok (has_pages o.place) (λ _. settled said o.place after w) v journal.2 in
-      let rules = steps_from_ok (ruled after w) (placed said o.place) v pages.2 in
-      let lying = steps_from_ok (may_be_changed o.place rules.0) (λ _. unshadowed said rules.0) v rules.2 in
+      let rules = steps_from_ok (ruled after w) (λ x. placed said o.place (cluster_bits after x) x) v pages.2 in
+      let lying = steps_from_ok (may_be_changed o.place after rules.0) (λ _. unshadowed said rules.0) v rules.2 in
       let kept = unbroken w rules.0 rules.1 in
       record {
         same = kept.1 ∙ same_unless (least_live said rules.0) rules.0 v lying.2;
         state = stands w (unrefused map_refusal (volume_of after o.geometry o.total) w loaded) kept.0;
-        its = whole w (as_pages (unit_is (has_pages o.place) pages.0 pages.1)) (subst (λ (x : Volume). o.place.pages ≤ lying_pages o.place x) (sym kept.1) (as_lying rules.0 (unit_is (may_be_changed o.place rules.0) lying.0 lying.1)));
+        its = whole w (as_pages (unit_is (has_pages o.place) pages.0 pages.1)) (subst (λ (x : Volume). o.place.pages ≤ lying_pages o.place x) (sym kept.1) (as_lying rules.0 (unit_is (may_be_changed o.place after rules.0) lying.0 lying.1)));
       }
+
+  -- its boot sector is kept
+  as_kept : (w : Volume) → may_be_changed o.place after w ≡ Ok tt → keeps_boot (cluster_bits after w) w ≡ Ok tt
+  unfolding changeable
+  as_kept w is =
+      let lying = steps_from_ok (pages_lie o.place w) (λ _. has_single_lists w >>= λ _. keeps_boot (cluster_bits after w) w) tt is in
+      (steps_from_ok (has_single_lists w) (λ _. keeps_boot (cluster_bits after w) w) tt lying.2).2
 
   -- and each of the tests says yes of it
   tried_passes : (w : Volume) → tried said o.place after w ≡ Ok v → PassesMount (mounted_as c o v)
@@ -143,17 +152,18 @@ module _ (c : Content) (sectors : ℕ) (o : OpenedToWrite) (v : Volume) (small :
       let version = steps_from_ok (has_version w) (λ _. unjournaled said (upper_of after w) o.place after w) v is in
       let journal = steps_from_ok (has_no_journal (upper_of after w) w) (λ _. paged said o.place after w) v version.2 in
       let pages = steps_from_ok (has_pages o.place) (λ _. settled said o.place after w) v journal.2 in
-      let rules = steps_from_ok (ruled after w) (placed said o.place) v pages.2 in
-      let own = steps_from_ok (may_be_changed o.place rules.0) (λ _. unshadowed said rules.0) v rules.2 in
+      let rules = steps_from_ok (ruled after w) (λ x. placed said o.place (cluster_bits after x) x) v pages.2 in
+      let own = steps_from_ok (may_be_changed o.place after rules.0) (λ _. unshadowed said rules.0) v rules.2 in
       let tree = steps_from_ok (tree_on after w) (λ _. Ok w) rules.0 rules.1 in
       let same : rules.0 ≡ v = same_unless (least_live said rules.0) rules.0 v own.2 in
       let kept : w ≡ rules.0 = cc in
-      let change : may_be_changed o.place v ≡ Ok tt = subst (λ (x : Volume). may_be_changed o.place x ≡ Ok tt) same (unit_is (may_be_changed o.place rules.0) own.0 own.1) in
+      let change : may_be_changed o.place after v ≡ Ok tt = subst (λ (x : Volume). may_be_changed o.place after x ≡ Ok tt) same (unit_is (may_be_changed o.place after rules.0) own.0 own.1) in
       record {
         version = subst (λ (x : Volume). has_version x ≡ Ok tt) (kept ∙ same) (unit_is (has_version w) version.0 version.1);
         journal = subst (λ (x : Volume). has_no_journal (upper_of after x) x ≡ Ok tt) (kept ∙ same) (unit_is (has_no_journal (upper_of after w) w) journal.0 journal.1);
         pages = unit_is (has_pages o.place) pages.0 pages.1;
         change = change;
+        boot = passed after v (as_kept v change);
       }
 
   pub tried_ring : (w : Volume) → volume_on after o.geometry o.total ≡ Ok w → tried said o.place after w ≡ Ok v → IsRingPlace o.place

@@ -12,6 +12,7 @@ use Rattle.log_reading.specs.LogPages.{log_sector}
 use Rattle.log_reading.specs.Rings.{IsRingPlace}
 use Rattle.image_open.specs.LogPlaces.{place_of_log, LieAlike}
 use Rattle.image_read.specs.Checks.{has_version}
+use Rattle.volume_mount.specs.Boot.{KeepsBoot}
 use Rattle.volume_mount.specs.Mounts.{has_no_journal, has_pages, may_be_changed, MountedVolume, upper_in, mounted_in}
 
 -- each page of the log of a mounted volume lies in one cluster of it, all of it is initialised, and no sector is that of two places in it
@@ -35,13 +36,14 @@ pub record LiesByRecord (sectors : ℕ) (c : Content) (g : Geometry) (total : �
 abbrev pub MountedByRecord : Type 0
 MountedByRecord = (c : Content) (sectors : ℕ) (m : MountedVolume) → mounted_in c sectors ≡ Ok m → m.opened.place.pages < 2 ^ 52 → LiesByRecord sectors m.content m.opened.geometry m.opened.total m.opened.place m.volume
 
--- A mounted volume is of the version that is handled, has no change journal, and a log with the pages that it needs; and may be changed: the log's pages lie on the device, and each
--- attribute list has one piece.
+-- A mounted volume is of the version that is handled, has no change journal, and a log with the pages that it needs; and may be changed: the log's pages lie on the device, each
+-- attribute list has one piece, and no stream but $Boot's data has the first cluster, whose bit is set.
 pub record PassesMount (m : MountedVolume) : Type 0 where
   pub version : has_version m.volume ≡ Ok tt
   pub journal : has_no_journal (upper_in m) m.volume ≡ Ok tt
   pub pages : has_pages m.opened.place ≡ Ok tt
-  pub change : may_be_changed m.opened.place m.volume ≡ Ok tt
+  pub change : may_be_changed m.opened.place m.content m.volume ≡ Ok tt
+  pub boot : KeepsBoot m.content m.volume
 
 abbrev pub MountedPasses : Type 0
 MountedPasses = (c : Content) (sectors : ℕ) (m : MountedVolume) → mounted_in c sectors ≡ Ok m → m.opened.place.pages < 2 ^ 52 → PassesMount m

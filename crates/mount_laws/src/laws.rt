@@ -13,7 +13,8 @@ pub fn mounted_by_record()
     ensures { MountedByRecord }
 {}
 
-/// Law: a mounted volume passes the tests of a volume that is to be changed.
+/// Law: a mounted volume passes the tests of a volume that is to be changed: among them that no stream
+/// but the data of `$Boot` has its first cluster, and that this cluster is marked.
 pub fn mounted_passes()
     ensures { MountedPasses }
 {}

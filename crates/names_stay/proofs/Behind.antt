@@ -77,6 +77,7 @@ use Rattle.written_values.proofs.Growths.{growth_is}
 use Rattle.written_values.proofs.Owning.{IsOwned, is_owned}
 use Rattle.written_values.proofs.Sparing.{elsewhere}
 use Rattle.same_names.specs.Names.{IsNamedAlike, SameNames}
+use Rattle.names_stay.specs.Lists.{lists_in, WritesKeepLists}
 use Rattle.names_stay.specs.Writes.{WritesKeepNames}
 use Rattle.names_stay.proofs.Kept.{KeepsNames, kept_links, twice, written_kept, by_kept, LastPut, change_last}
 use Rattle.names_stay.proofs.Going.{GoesTo, bodies_go, change_goes}
@@ -391,8 +392,17 @@ module _ (counted : MadeIsCounted) (c : Content) (g : Geometry) (clusters : ℕ)
         subst (λ (o : Option Record). IsNamedAlike m (file_in v m) o) (sym stays) (alike_itself m (file_in v m)))
   ]
 
+  lists_same : (m : ℕ) → lists_in (file_in w m) ≡ lists_in (file_in v m)
+  lists_same m = elim (cases_eq m n) [
+    | inl same ↦ ap (λ (i : ℕ). lists_in (file_in w i)) same ∙ ap lists_in q_file ∙ q_keeps.lists ∙ sym (ap lists_in k.file.file) ∙ ap (λ (i : ℕ). lists_in (file_in v i)) (sym same)
+    | inr other ↦ ap (λ (y : Volume). lists_in (file_in y m)) volume_is ∙ ap lists_in (elsewhere v n m q other)
+  ]
+
   names_stay : SameNames v.files w.files
   names_stay = record { count = ap (λ (y : Volume). length y.files) volume_is ∙ length-with_edits v.files edits; each = each_alike }
 
 pub names_kept : MadeIsCounted → WritesKeepNames
 names_kept counted c g clusters v s op n stamp a r x new k h = names_stay counted c g clusters v s op n stamp a r x new k h
+
+pub lists_kept : MadeIsCounted → WritesKeepLists
+lists_kept counted c g clusters v s op n stamp a r x new k h = lists_same counted c g clusters v s op n stamp a r x new k h

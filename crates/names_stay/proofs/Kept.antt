@@ -1,4 +1,4 @@
--- What comes of a file's record where its data is written or cut keeps the file's names.
+-- What comes of a file's record where its data is written or cut keeps the file's names, and its attribute lists.
 use Rattle.std.proofs.Common.{◌≡◌, subst, ℕ, Bool, true, false, cond, eqb, List, [], ◌∷◌, ◌++◌, take, drop, map, Option, None, refl, sym, ap, ap₂, ◌∙◌, inl, inr}
 use Rattle.std.specs.Prelude.{insert}
 use Rattle.std.specs.List.{filter_map, cons_option}
@@ -39,21 +39,24 @@ use Rattle.data_plan.specs.declared.change.DataChange.TheVariants as change
 use Rattle.data_plan.specs.Changes.{IsChange}
 use Rattle.file_puts.specs.declared.streams.VolumeStreams.{VolumeStreams}
 use Rattle.file_puts.specs.Puts.{with_bytes, PutsFileRecord, PutsTimes, PutsSizes, PutsSized, PutsChange}
+use Rattle.names_stay.specs.Lists.{lists_of}
+use Rattle.names_stay.proofs.Counted.{of_other, timed, with_data as data_lists, inserted as inserted_lists, each_normal as normal_lists}
 
--- the second record has the sequence number and the names of the first
+-- the second record has the sequence number and the names of the first, and as many attribute lists
 pub record KeepsNames (r q : Record) : Type 0 where
   pub seq : q.head.seq ≡ r.head.seq
   pub links : (child : FileRef) → filter_map (attr_link child) q.attrs ≡ filter_map (attr_link child) r.attrs
+  pub lists : lists_of q.attrs ≡ lists_of r.attrs
 
 pub kept_links : (n : ℕ) (r q : Record) → KeepsNames r q → record_links n q ≡ record_links n r
 unfolding record_links
 kept_links n r q k = ap (λ (seq : ℕ). filter_map (attr_link (record { number = n; seq = seq })) q.attrs) k.seq ∙ k.links (reference n r)
 
 itself : (r : Record) → KeepsNames r r
-itself r = record { seq = refl; links = λ child. refl }
+itself r = record { seq = refl; links = λ child. refl; lists = refl }
 
 pub twice : (r q p : Record) → KeepsNames r q → KeepsNames q p → KeepsNames r p
-twice r q p first second = record { seq = second.seq ∙ first.seq; links = λ child. second.links child ∙ first.links child }
+twice r q p first second = record { seq = second.seq ∙ first.seq; links = λ child. second.links child ∙ first.links child; lists = second.lists ∙ first.lists }
 
 -- ---- attributes that are no names
 
@@ -107,27 +110,27 @@ each_normal child [] = refl
 each_normal child (a ∷ attrs) = ap₂ (λ (o : Option Link) (l : List Link). cons_option o l) (normal_link child a) (each_normal child attrs)
 
 pub written_kept : (r : Record) → KeepsNames r (written_record r)
-written_kept r = record { seq = refl; links = λ child. each_normal child r.attrs }
+written_kept r = record { seq = refl; links = λ child. each_normal child r.attrs; lists = normal_lists r.attrs }
 
 -- ---- its data
 
 placed_by : (per : ℕ) (e : Extents) (r : Record) (pieces : List Attr) → attributes_of data_type [] r.attrs ≡ pieces → KeepsNames r (placed_first per data_type [] e r pieces)
 placed_by per e r [] is = itself r
-placed_by per e r (a ∷ others) is = record { seq = refl; links = λ child. with_data child (placed_attr per e a) r.attrs (of_kind child (placed_attr per e a) data_type (attribute_kind data_type [] a (first_passes data_type [] r.attrs a others is)).0 refl) }
+placed_by per e r (a ∷ others) is = record { seq = refl; links = λ child. with_data child (placed_attr per e a) r.attrs (of_kind child (placed_attr per e a) data_type (attribute_kind data_type [] a (first_passes data_type [] r.attrs a others is)).0 refl); lists = data_lists (placed_attr per e a) r.attrs (of_other (placed_attr per e a) data_type (attribute_kind data_type [] a (first_passes data_type [] r.attrs a others is)).0 refl) }
 
 placed_kept : (per : ℕ) (e : Extents) (r : Record) → KeepsNames r (placed_record per data_type [] e r)
 placed_kept per e r = placed_by per e r (attributes_of data_type [] r.attrs) refl
 
 valued_by : (value : List ℕ) (r : Record) (pieces : List Attr) → attributes_of data_type [] r.attrs ≡ pieces → KeepsNames r (valued_first data_type [] value r pieces)
 valued_by value r [] is = itself r
-valued_by value r (a ∷ others) is = record { seq = refl; links = λ child. with_data child (valued_attr value a) r.attrs (of_kind child (valued_attr value a) data_type (attribute_kind data_type [] a (first_passes data_type [] r.attrs a others is)).0 refl) }
+valued_by value r (a ∷ others) is = record { seq = refl; links = λ child. with_data child (valued_attr value a) r.attrs (of_kind child (valued_attr value a) data_type (attribute_kind data_type [] a (first_passes data_type [] r.attrs a others is)).0 refl); lists = data_lists (valued_attr value a) r.attrs (of_other (valued_attr value a) data_type (attribute_kind data_type [] a (first_passes data_type [] r.attrs a others is)).0 refl) }
 
 valued_kept : (value : List ℕ) (r : Record) → KeepsNames r (valued_record data_type [] value r)
 valued_kept value r = valued_by value r (attributes_of data_type [] r.attrs) refl
 
 made_kept : (r : Record) → KeepsNames r (made_record r)
 made_kept r =
-    twice r (with_empty_data r) (made_record r) (record { seq = refl; links = λ child. inserted child (place_of data_type [] r.attrs) (with_id (new_id r) (empty_data 0)) r.attrs (of_kind child (with_id (new_id r) (empty_data 0)) data_type refl refl) }) (written_kept (with_empty_data r))
+    twice r (with_empty_data r) (made_record r) (record { seq = refl; links = λ child. inserted child (place_of data_type [] r.attrs) (with_id (new_id r) (empty_data 0)) r.attrs (of_kind child (with_id (new_id r) (empty_data 0)) data_type refl refl); lists = inserted_lists (place_of data_type [] r.attrs) (with_id (new_id r) (empty_data 0)) r.attrs (of_other (with_id (new_id r) (empty_data 0)) data_type refl refl) }) (written_kept (with_empty_data r))
 
 -- the record by which a file is written keeps its names
 pub by_kept : (r : Record) → KeepsNames r (record_with_data r)
@@ -153,8 +156,8 @@ timed_kept stamp r = chosen (has_type standard_information r)
   where
     chosen : (t : Bool)
         → KeepsNames r (cond t (record { head = r.head; attrs = timed_attrs stamp r.attrs }) (record { head = with_info_id r.head; attrs = insert r.attrs (place_of_type standard_information r.attrs) (new_info (new_info_id r) stamp) }))
-    chosen true = record { seq = refl; links = λ child. timed_links child stamp r.attrs }
-    chosen false = record { seq = refl; links = λ child. inserted child (place_of_type standard_information r.attrs) (new_info (new_info_id r) stamp) r.attrs (of_kind child (new_info (new_info_id r) stamp) standard_information refl refl) }
+    chosen true = record { seq = refl; links = λ child. timed_links child stamp r.attrs; lists = timed stamp r.attrs }
+    chosen false = record { seq = refl; links = λ child. inserted child (place_of_type standard_information r.attrs) (new_info (new_info_id r) stamp) r.attrs (of_kind child (new_info (new_info_id r) stamp) standard_information refl refl); lists = inserted_lists (place_of_type standard_information r.attrs) (new_info (new_info_id r) stamp) r.attrs (of_other (new_info (new_info_id r) stamp) standard_information refl refl) }
 
 -- ---- what is put last
 

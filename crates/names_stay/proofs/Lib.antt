@@ -1,4 +1,5 @@
 pub mod Holding
+pub mod Counted
 pub mod Kept
 pub mod Going
 pub mod Listing

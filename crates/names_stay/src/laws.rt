@@ -1,5 +1,6 @@
 //! The laws of these definitions.
 ghost use Rattle.names_stay.specs.Held.{NamesStay};
+ghost use Rattle.names_stay.specs.Lists.{WritesKeepLists};
 ghost use Rattle.names_stay.specs.Writes.{WritesKeepNames};
 
 use made_data::made_is_counted;
@@ -14,6 +15,14 @@ pub fn names_stay()
 /// before.
 pub fn writes_keep_names()
     ensures { WritesKeepNames }
+{
+    made_is_counted();
+}
+
+/// Law: where an operation has written or cut a file, each file of the next state has as many
+/// attribute lists as before.
+pub fn writes_keep_lists()
+    ensures { WritesKeepLists }
 {
     made_is_counted();
 }

@@ -18,10 +18,7 @@ use Rattle.log_model.specs.Logs.{may_begin}
 use Rattle.block_view.specs.Changes.{Fits, content_after}
 use Rattle.state_model.specs.Loads.{boot_block}
 use Rattle.volume_model.specs.Volumes.{Volume, upper_of}
-use Rattle.volume_model.specs.Owners.{uses}
 use Rattle.volume_state.specs.Trees.{tree_of}
-use Rattle.stream_laws.specs.Sharing.{stream_at, runs_in}
-use Rattle.stream_laws.specs.Tables.{table_key}
 use Rattle.map_change.specs.Parts.{MapParts}
 use Rattle.tree_model.specs.declared.script.Op.{Op}
 use Rattle.plan_owners.specs.States.{Stands}
@@ -30,20 +27,22 @@ use Rattle.state_blocks.specs.Drafts.{DraftIn}
 use Rattle.plan_bodies.specs.Bodies.{content_with}
 use Rattle.plan_draft.specs.declared.touched.Touched.{Touched}
 use Rattle.plan_spares.specs.Plans.{HasOwnLists}
-use Rattle.plan_edits.specs.Edits.{bitmap_key}
 use Rattle.plans_keep.specs.Keeping.{AreAside, AreAllAside, IsSpelled}
 use Rattle.data_plan.specs.declared.change.DataChange.{DataChange}
 use Rattle.file_puts.specs.declared.streams.VolumeStreams.{VolumeStreams}
 use Rattle.writes_keep.specs.Writes.{HasWholeSectors, IsOffLog, WriteKeeps, WritesKeep}
-use Rattle.writes_keep.proofs.Behind.{other_file}
+use Rattle.names_stay.specs.Lists.{WritesKeepLists}
 use Rattle.names_stay.specs.Writes.{WritesKeepNames}
 use Rattle.txn_model.specs.Values.{StoreFacts}
 use Rattle.txn_core.specs.Views.{present_on}
 use Rattle.spares_at_mount.specs.Mounts.{BlocksOffLog}
 use Rattle.image_open.specs.Volumes.{boot_place}
-use Rattle.volume_core.specs.Volumes.{geometry_of, SparesState}
-use Rattle.volume_core.specs.Changes.{MayLog, AreBeside, AreApart, IsWritable, AreWritable, LeadsOn}
-use Rattle.plans_lead.specs.Leading.{IsFilePlan, LeadsAsAsked, boot_key, HasLogOf, PlansLeadOn}
+use Rattle.state_store.specs.Volumes.{geometry_of, SparesState}
+use Rattle.state_store.specs.Changes.{MayLog, AreBeside, AreApart, IsWritable, AreWritable, LeadsOn}
+use Rattle.volume_mount.specs.Boot.{KeepsBoot}
+use Rattle.volume_mount.specs.Welcome.{IsWelcome}
+use Rattle.plans_lead.specs.Leading.{IsFilePlan, LeadsAsAsked, HasLogOf, PlansLeadOn}
+use Rattle.plans_lead.proofs.Welcoming.{boot_aside, welcome_after}
 
 each_as : {X : Type 0} (P Q : X → Type 0) → ((x : X) → P x → Q x) → (xs : List X) → AllByRecursion P xs → AllByRecursion Q xs
 each_as P Q f [] all = tt
@@ -80,6 +79,11 @@ module _ (keeps : WritesKeep) (m : MapParts) (table : List ℕ) (c : Content) (s
       subst (AreWritable changes) (sym content)
       (each_as (λ (y : Change). IsSpelled (content_with c k.written.bodies) y.block) (λ (y : Change). IsWritable (content_with c k.written.bodies) y.block) (λ y is. record { spelled = is.spelled; untorn = is.untorn }) changes is_kept.keeps.written)
 
+  welcomed : WritesKeepNames → WritesKeepLists → IsWelcome c m.volume → IsWelcome (content_after changes c) w
+  welcomed stay counted is =
+      subst (λ (d : Content). IsWelcome d w) (sym content)
+      (welcome_after c (geometry_of m) m.volume s k.written.bodies changes w is_kept (stay c (geometry_of m) m.volume.clusters m.volume s op n stamp a r x new k.writes k.written) (counted c (geometry_of m) m.volume.clusters m.volume s op n stamp a r x new k.writes k.written) k.writes.stands.room is)
+
   leads_on : WritesKeepNames → LeadsOn m table changes c
   leads_on stay = record {
     volume = w;
@@ -90,9 +94,9 @@ module _ (keeps : WritesKeep) (m : MapParts) (table : List ℕ) (c : Content) (s
     names = stay c (geometry_of m) m.volume.clusters m.volume s op n stamp a r x new k.writes k.written;
   }
 
-  pub leads_as_asked : WritesKeepNames → LeadsAsAsked m table c s changes
+  pub leads_as_asked : WritesKeepNames → WritesKeepLists → LeadsAsAsked m table c s changes
   unfolding leads_on
-  leads_as_asked stay = record {
+  leads_as_asked stay counted = record {
     leads = leads_on stay;
     apart = all_apart changes is_kept.keeps.apart;
     lists = subst (λ (d : Content). HasOwnLists d w) (sym content) is_kept.lists;
@@ -102,12 +106,13 @@ module _ (keeps : WritesKeep) (m : MapParts) (table : List ℕ) (c : Content) (s
     log = is_kept.log;
     off = is_kept.off;
     second = is_kept.second;
+    welcome = welcomed stay counted;
   }
 
-  pub off_boot : 0 < uses (runs_in (stream_at m.volume boot_key)) 0 → AllByRecursion (λ (y : Change). overlap y.block boot_place ≡ false) changes
-  off_boot has =
+  pub off_boot : KeepsBoot c m.volume → AllByRecursion (λ (y : Change). overlap y.block boot_place ≡ false) changes
+  off_boot boot =
       each_as (λ (y : Change). cluster_of y.block ≢ 0) (λ (y : Change). overlap y.block boot_place ≡ false) (λ y. past_boot y.block) changes
-      (is_kept.others boot_key 0 (omega arith) (other_file boot_key table_key (λ is. omega (arith, is))) (other_file boot_key bitmap_key (λ is. omega (arith, is))) has)
+      (is_kept.spares 0 k.writes.stands.room (boot_aside c m.volume boot))
 
 -- ---- each change may be logged
 
@@ -144,9 +149,9 @@ whole_sectors moments f v disk spares b judged plain = by (f.body b) refl
     by (Some y) is = (spares.spared b (inl judged)).whole (ap (λ (o : Option Body). is_some o) is)
     by None is = ap (λ (o : Option Body). (unwrap_or o (content_of (sector_of disk) b)).torn) is ∙ plain_untorn b.kind (raw_from (sector_of disk) b.first (sectors b.kind)) plain
 
-pub all_lead : BlocksOffLog → WritesKeep → WritesKeepNames → PlansLeadOn
-all_lead off_log keeps stay = record {
-  leads = λ m table c s op n stamp a r x new changes k. leads_as_asked keeps m table c s op n stamp a r x new changes k stay;
+pub all_lead : BlocksOffLog → WritesKeep → WritesKeepNames → WritesKeepLists → PlansLeadOn
+all_lead off_log keeps stay counted = record {
+  leads = λ m table c s op n stamp a r x new changes k. leads_as_asked keeps m table c s op n stamp a r x new changes k stay counted;
   logged = λ m table c s op n stamp a r x new changes f k has boot.
       (let is = is_kept keeps m table c s op n stamp a r x new changes k in
       all_logged off_log f m has changes is.off (off_boot keeps m table c s op n stamp a r x new changes k boot) is.second is.keeps.some is.keeps.fits);

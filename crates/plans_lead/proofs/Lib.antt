@@ -1,1 +1,2 @@
+pub mod Welcoming
 pub mod Leading

@@ -1,10 +1,9 @@
 -- The changes of a plan that writes or cuts a file are some that a volume takes.
-use Rattle.std.specs.Prelude.{◌≡◌, ℕ, ◌*◌, ◌<◌, ◌≤◌, false, All, List, [], None}
+use Rattle.std.specs.Prelude.{◌≡◌, ℕ, ◌*◌, ◌<◌, ◌≤◌, false, All, List, None}
 use Rattle.std.specs.List.{AllByRecursion}
 use Rattle.disk_model.specs.declared.block.Change.{Change}
 use Rattle.disk_model.specs.Content.{Content}
 use Rattle.disk_model.specs.Sectors.{overlap}
-use Rattle.record_model.specs.Constants.{data_type}
 use Rattle.record_model.specs.Records.{Record}
 use Rattle.file_tree.specs.declared.node.Node.{Node}
 use Rattle.file_tree.specs.Walks.{first_user_record}
@@ -13,8 +12,9 @@ use Rattle.block_view.specs.Changes.{content_after}
 use Rattle.log_reading.specs.Rings.{IsRingPlace}
 use Rattle.state_model.specs.Loads.{boot_block}
 use Rattle.volume_model.specs.Volumes.{Volume, cluster_bits}
-use Rattle.volume_model.specs.Owners.{uses}
 use Rattle.volume_state.specs.Trees.{tree_of}
+use Rattle.volume_mount.specs.Boot.{KeepsBoot}
+use Rattle.volume_mount.specs.Welcome.{IsWelcome}
 use Rattle.map_change.specs.Parts.{MapParts}
 use Rattle.stream_laws.specs.Sharing.{StreamKey, stream_at, runs_in}
 use Rattle.tree_model.specs.declared.script.Op.{Op}
@@ -32,8 +32,8 @@ use Rattle.txn_model.specs.Values.{StoreFacts}
 use Rattle.txn_core.specs.Views.{present_on}
 use Rattle.spares_at_mount.specs.Mounts.{LiesInLog}
 use Rattle.image_open.specs.Writing.{found_by}
-use Rattle.volume_core.specs.Volumes.{geometry_of, IsStateOf, SparesState}
-use Rattle.volume_core.specs.Changes.{MayLog, AreApart, LeadsOn}
+use Rattle.state_store.specs.Volumes.{geometry_of, IsStateOf, SparesState}
+use Rattle.state_store.specs.Changes.{MayLog, AreApart, LeadsOn}
 
 -- In a state of which this is the map, and this the table of upper-case units, a draft has put what comes of a file's data, and the operation has changed the tree; the changes are
 -- those of the draft. No attribute list has a part in another record, and no sector by which the state is judged is torn.
@@ -47,7 +47,7 @@ pub record IsFilePlan (m : MapParts) (table : List ℕ) (c : Content) (s : Volum
 
 -- The changes lead on as a volume asks, and are apart. Behind them too no attribute list has a part in another record; the file table, its mirror and the bits of clusters have the extents of
 -- which the draft was told; there is no change journal; and the streams of the volume's own files, the log's among them, keep their clusters. Each change lies off the clusters of the log, and off
--- record 2 where the boot sector says.
+-- record 2 where the boot sector says. A state that a mount takes leads to one that it takes too.
 pub record LeadsAsAsked (m : MapParts) (table : List ℕ) (c : Content) (s : VolumeStreams) (changes : List Change) : Type 0 where
   pub leads : LeadsOn m table changes c
   pub apart : AreApart changes
@@ -58,10 +58,7 @@ pub record LeadsAsAsked (m : MapParts) (table : List ℕ) (c : Content) (s : Vol
   pub log : runs_in (stream_at leads.volume log_key) ≡ runs_in (stream_at m.volume log_key)
   pub off : AllByRecursion (λ x. IsOffLog m.volume x.block) changes
   pub second : AllByRecursion (λ x. overlap x.block (boot_block (geometry_of m) 2) ≡ false) changes
-
--- the unnamed data of $Boot, whose first cluster has the boot sector
-abbrev pub boot_key : StreamKey
-boot_key = record { file = 7; kind = data_type; name = [] }
+  pub welcome : IsWelcome c m.volume → IsWelcome (content_after changes c) leads.volume
 
 -- the store's log is that of the volume, whose clusters lie on the device, and is found by these blocks: the boot sector, and record 2
 pub record HasLogOf (f : StoreFacts) (m : MapParts) : Type 0 where
@@ -71,9 +68,9 @@ pub record HasLogOf (f : StoreFacts) (m : MapParts) : Type 0 where
   pub device : 8 * m.volume.clusters ≤ f.place.device
   pub found : f.found ≡ found_by (geometry_of m)
 
--- A volume takes the changes of such a plan: they lead on, and its store may log each, where the first cluster, in which the boot sector lies, is one of $Boot's. Where a store spares a
--- state, no sector is torn by which this is judged.
+-- A volume takes the changes of such a plan: they lead on, and its store may log each, where no stream but $Boot's data has the first cluster, in which the boot sector lies, and its bit is
+-- set. Where a store spares a state, no sector is torn by which this is judged.
 pub record PlansLeadOn : Type 0 where
   pub leads : (m : MapParts) (table : List ℕ) (c : Content) (s : VolumeStreams) (op : Op) (n stamp : ℕ) (a : Node) (r : Record) (x : DataChange) (new : List Touched) (changes : List Change) → IsFilePlan m table c s op n stamp a r x new changes → LeadsAsAsked m table c s changes
-  pub logged : (m : MapParts) (table : List ℕ) (c : Content) (s : VolumeStreams) (op : Op) (n stamp : ℕ) (a : Node) (r : Record) (x : DataChange) (new : List Touched) (changes : List Change) (f : StoreFacts) → IsFilePlan m table c s op n stamp a r x new changes → HasLogOf f m → 0 < uses (runs_in (stream_at m.volume boot_key)) 0 → All (MayLog f) changes
+  pub logged : (m : MapParts) (table : List ℕ) (c : Content) (s : VolumeStreams) (op : Op) (n stamp : ℕ) (a : Node) (r : Record) (x : DataChange) (new : List Touched) (changes : List Change) (f : StoreFacts) → IsFilePlan m table c s op n stamp a r x new changes → HasLogOf f m → KeepsBoot c m.volume → All (MayLog f) changes
   pub whole : (moments : Changes) (f : StoreFacts) (v : Volume) (disk : List (List ℕ)) → SparesState moments f v disk → HasWholeSectors (present_on disk f) v

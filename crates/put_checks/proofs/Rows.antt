@@ -17,7 +17,7 @@ use Rattle.plan_draft.specs.Touching.{kind_place, block_key, rises}
 use Rattle.plan_draft.specs.Finishing.{change_keys}
 use Rattle.store_model.specs.Volumes.{is_free, is_known}
 use Rattle.txn_model.specs.Values.{StoreFacts, own_of, is_own}
-use Rattle.volume_core.specs.Changes.{MayLog, AreBeside, AreApart}
+use Rattle.state_store.specs.Changes.{MayLog, AreBeside, AreApart}
 use Rattle.put_checks.specs.Checks.{end_of, meets_run, lies_inside, lies_apart, fits_some, may_be_logged, are_in_row, may_put}
 use Rattle.put_checks.specs.Laws.{ChecksAreEnough, ChecksAreMet}
 use Rattle.put_checks.proofs.Known.{and_left, and_right, both, not_false, free_apart, found_apart}

@@ -6,7 +6,7 @@ use Rattle.log_reading.specs.Rings.{IsRingPlace}
 use Rattle.plan_draft.specs.Touching.{rises}
 use Rattle.plan_draft.specs.Finishing.{change_keys}
 use Rattle.txn_model.specs.Values.{StoreFacts}
-use Rattle.volume_core.specs.Changes.{MayLog, AreApart}
+use Rattle.state_store.specs.Changes.{MayLog, AreApart}
 use Rattle.put_checks.specs.Checks.{meets_run, may_put}
 
 -- Changes that pass are such as a store asks for, which may log each, and of which no two are of one block or of rivals.

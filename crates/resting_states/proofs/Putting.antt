@@ -28,17 +28,17 @@ use Rattle.txn_state.specs.States.{StateOf, facts_of, IsStore}
 use Rattle.txn_core.specs.Sizes.{sized_present}
 use Rattle.txn_core.specs.Views.{present_on}
 use Rattle.txn_core.proofs.PresentSizes.{keeps_sizes}
-use Rattle.volume_core.specs.declared.fault.PutFault.{PutFault}
-use Rattle.volume_core.specs.Volumes.{geometry_of}
-use Rattle.volume_core.specs.Changes.{MayLog, LeadsOn}
-use Rattle.volume_core.specs.Logging.{ChangedBy, StoppedBy}
-use Rattle.volume_core.specs.Windows.{AfterPutting}
-use Rattle.volume_core.specs.Puts.{PutsContent, PutsMap, PutsFacts, PutsOver}
-use Rattle.volume_core.specs.Spared.{PutsSpare}
-use Rattle.volume_core.proofs.Lists.{each_weaker, same_after, unchanged_by}
-use Rattle.volume_core.proofs.Following.{next_map}
-use Rattle.volume_core.proofs.Sparing.{place_stays}
-use Rattle.volume_core.proofs.Outcomes.{shows_state}
+use Rattle.state_store.specs.declared.fault.PutFault.{PutFault}
+use Rattle.state_store.specs.Volumes.{geometry_of}
+use Rattle.state_store.specs.Changes.{MayLog, LeadsOn}
+use Rattle.state_store.specs.Logging.{ChangedBy, StoppedBy}
+use Rattle.state_store.specs.Windows.{AfterPutting}
+use Rattle.state_store.specs.Puts.{PutsContent, PutsMap, PutsFacts, PutsOver}
+use Rattle.state_store.specs.Spared.{PutsSpare}
+use Rattle.state_store.proofs.Lists.{each_weaker, same_after, unchanged_by}
+use Rattle.state_store.proofs.Following.{next_map}
+use Rattle.state_store.proofs.Sparing.{place_stays}
+use Rattle.state_store.proofs.Outcomes.{shows_state}
 use Rattle.member_states.specs.Members.{VolumeBase, MembersAre}
 use Rattle.member_states.specs.Leads.{VolumesMayPut}
 use Rattle.member_states.specs.Puts.{PutsKeepStates}
@@ -67,7 +67,7 @@ stopped_found gives [] f g is = ap (λ (h : StoreFacts). h.found) is
 stopped_found gives (x ∷ xs) f g (inl is) = ap (λ (h : StoreFacts). h.found) is
 stopped_found gives (x ∷ xs) f g (inr is) = stopped_found gives xs (changed_facts x.block x.offset x.new is.0 f) g is.2
 
-found_still : (result : Result (Unit {0}) PutFault) (xs : List Change) (gives : Option (List (List ℕ))) (f g : StoreFacts) → PutsFacts result xs gives f g → g.found ≡ f.found
+pub found_still : (result : Result (Unit {0}) PutFault) (xs : List Change) (gives : Option (List (List ℕ))) (f g : StoreFacts) → PutsFacts result xs gives f g → g.found ≡ f.found
 found_still (Ok tt) [] gives f g is = ap (λ (h : StoreFacts). h.found) is
 found_still (Ok tt) (x ∷ xs) gives f g is = ap (λ (h : StoreFacts). h.found) is.2 ∙ changed_found gives (x ∷ xs) (begun_facts f) is.0 is.1
 found_still (Err failure) xs gives f g (inl is) = ap (λ (h : StoreFacts). h.found) is
@@ -75,10 +75,10 @@ found_still (Err failure) xs gives f g (inr is) = stopped_found gives xs (begun_
 
 -- ---- what the states stand on
 
-record SameGeometry (m n : MapParts) : Type 0 where
-  per : n.volume.per ≡ m.volume.per
-  mft : n.volume.mft ≡ m.volume.mft
-  clusters : n.volume.clusters ≡ m.volume.clusters
+pub record SameGeometry (m n : MapParts) : Type 0 where
+  pub per : n.volume.per ≡ m.volume.per
+  pub mft : n.volume.mft ≡ m.volume.mft
+  pub clusters : n.volume.clusters ≡ m.volume.clusters
 
 same_self : (m n : MapParts) → n ≡ m → SameGeometry m n
 same_self m n is = record { per = ap (λ (x : MapParts). x.volume.per) is; mft = ap (λ (x : MapParts). x.volume.mft) is; clusters = ap (λ (x : MapParts). x.volume.clusters) is }
@@ -90,7 +90,7 @@ same_led m next table xs c leads is =
     let parts = volume_parts (content_after xs c) (geometry_of m) m.volume.clusters leads.volume leads.stands.loaded in
     record { per = ap (λ (v : Volume). v.per) volume ∙ sym parts.per; mft = ap (λ (v : Volume). v.mft) volume ∙ sym parts.place; clusters = ap (λ (v : Volume). v.clusters) volume ∙ sym parts.count }
 
-same_put : (result : Result (Unit {0}) PutFault) (m next : MapParts) (table : List ℕ) (xs : List Change) (c : Content) → LeadsOn m table xs c → PutsMap result xs (Some c) m next → SameGeometry m next
+pub same_put : (result : Result (Unit {0}) PutFault) (m next : MapParts) (table : List ℕ) (xs : List Change) (c : Content) → LeadsOn m table xs c → PutsMap result xs (Some c) m next → SameGeometry m next
 same_put (Ok tt) m next table xs c leads is = same_led m next table xs c leads is
 same_put (Err failure) m next table xs c leads is = same_self m next is
 
@@ -102,7 +102,7 @@ same_bases f g first m n place found same = rw (place, found, same.per, same.mft
 
 -- ---- the block past the end of every disk
 
-one_content : (c d : Content) → Some d ≡ Some c → d ≡ c
+pub one_content : (c d : Content) → Some d ≡ Some c → d ≡ c
 one_content c d is = ap (λ (o : Option Content). unwrap_or o c) is
 
 void_put : (result : Result (Unit {0}) PutFault) (m : MapParts) (table : List ℕ) (xs : List Change) (c d : Content) → HasSizes c → LeadsOn m table xs c → AllByRecursion (λ x. EndsBefore x.block) xs → PutsContent result xs (Some c) (Some d) → d void_block ≡ c void_block
@@ -169,7 +169,7 @@ module _ (spare : PutsSpare) (may : VolumesMayPut) (keep : PutsKeepStates) (resu
   }
 
 -- by what the device gives
-put_known : (result : Result (Unit {0}) PutFault) (gives gave : Option (List (List ℕ))) (before now : Changes) (old new : StateOf) (m next : MapParts) (disk : List (List ℕ)) (xs : List Change) → gives ≡ Some disk → PutsOver result xs gives gave old new before now m next
+pub put_known : (result : Result (Unit {0}) PutFault) (gives gave : Option (List (List ℕ))) (before now : Changes) (old new : StateOf) (m next : MapParts) (disk : List (List ℕ)) (xs : List Change) → gives ≡ Some disk → PutsOver result xs gives gave old new before now m next
     → PutsOver result xs (Some disk) (Some disk) old new before now m next
 put_known result gives gave before now old new m next disk xs given put =
     subst (λ (o : Option (List (List ℕ))). PutsOver result xs o (Some disk) old new before now m next) given

@@ -20,7 +20,7 @@ use Rattle.flush_policy.specs.declared.facts.StoreStep.TheVariants.{SealPage, Wr
 use Rattle.txn_model.specs.Values.{StoreFacts}
 use Rattle.txn_laws.specs.Windows.{HasWindow, AfterWrite, MovesTo, During, Simulates}
 use Rattle.txn_core.specs.Steps.{AfterTurn}
-use Rattle.volume_core.specs.Volumes.{geometry_of}
+use Rattle.state_store.specs.Volumes.{geometry_of}
 use Rattle.member_states.specs.Members.{VolumeBase, MemberIs, MembersAre}
 use Rattle.member_states.specs.Crashes.{RecoversToState, CrashesLeaveStates}
 use Rattle.member_states.specs.Steps.{StepsKeepStates}
@@ -128,7 +128,7 @@ was_counted count (p ∷ ps) t image (inl left) = left.1.counted
 was_counted count (p ∷ ps) t image (inr left) = was_counted count ps t image left
 
 -- an image of a known disk has as many sectors
-since_counted : (count : ℕ) (changes : Changes) (disk : Disk) (t : ℕ) (image : List (List ℕ)) → changes.disk ≡ Some disk → LeftSince count changes t image → length image ≡ count
+pub since_counted : (count : ℕ) (changes : Changes) (disk : Disk) (t : ℕ) (image : List (List ℕ)) → changes.disk ≡ Some disk → LeftSince count changes t image → length image ≡ count
 since_counted count changes disk t image is left = by (subst (λ (o : Option Disk). IfSome o (λ (d : Disk). MayLeave count d image ⊎ WasLeft count changes.past t image)) is left)
   where
     by : MayLeave count disk image ⊎ WasLeft count changes.past t image → length image ≡ count

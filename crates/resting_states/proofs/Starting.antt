@@ -20,11 +20,11 @@ use Rattle.txn_core.specs.Sizes.{sized_present}
 use Rattle.txn_core.specs.Views.{present_on}
 use Rattle.txn_core.proofs.PresentSizes.{keeps_sizes}
 use Rattle.turn_laws.specs.Sparing.{IsSpared}
-use Rattle.volume_core.specs.Volumes.{geometry_of}
+use Rattle.state_store.specs.Volumes.{geometry_of}
 use Rattle.member_states.specs.Members.{IsSafe}
 use Rattle.member_states.specs.Starts.{StartsHoldStates}
 use Rattle.resting_states.specs.Resting.{base_from, RestsBy}
-use Rattle.resting_states.specs.Starts.{BeginsAtRest, StartsRest}
+use Rattle.resting_states.specs.Starts.{IsAlone, BeginsAtRest, StartsRest}
 use Rattle.resting_states.proofs.Finding.{found_body}
 use Rattle.resting_states.proofs.Turning.{void_read}
 
@@ -68,13 +68,13 @@ module _ (law : StartsHoldStates) (count : ℕ) (changes : Changes) (state : Sta
         by (inl known) = inl known
         by (inr found) = inr (found, found_body changes f first disk start.window start.has begins.sees begins.stays b found)
 
-    rests_then : RestsBy count changes f first m table disk (λ w. w.waiting ≡ 0)
+    rests_then : RestsBy count changes f first m table disk IsAlone
     unfolding start begun
     rests_then =
         let void = void_read f disk begins.store begins.device few in
         record {
           window = start.window;
-          follows = start.none;
+          follows = record { none = start.none; claimed = start.claimed };
           rests = record {
             store = begins.store;
             rest = record {
@@ -97,10 +97,10 @@ module _ (law : StartsHoldStates) (count : ℕ) (changes : Changes) (state : Sta
           };
         }
 
-  rests_first : RestsBy count changes f first m table disk (λ w. w.waiting ≡ 0)
+  rests_first : RestsBy count changes f first m table disk IsAlone
   rests_first = by changes.disk refl begins.sees
     where
-      by : (o : Option Disk) → changes.disk ≡ o → SeesDisk (Some disk) o → RestsBy count changes f first m table disk (λ w. w.waiting ≡ 0)
+      by : (o : Option Disk) → changes.disk ≡ o → SeesDisk (Some disk) o → RestsBy count changes f first m table disk IsAlone
       by (Some raw) is sees = rests_then raw is
       by None is sees = absurd sees
 

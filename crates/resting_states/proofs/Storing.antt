@@ -33,12 +33,12 @@ use Rattle.txn_state.proofs.Stores.{committed_keeps, given_up_keeps, noted_keeps
 use Rattle.txn_core.specs.Calls.{is_spelled, out_facts}
 use Rattle.txn_core.specs.Changes.{IsPresent}
 use Rattle.txn_core.specs.Steps.{MayTurn, HasTurned}
-use Rattle.volume_core.specs.Changes.{MayLog, AreBeside, AreApart}
-use Rattle.volume_core.specs.Rooms.{MayNumber}
-use Rattle.volume_core.specs.Logging.{ChangedBy, StoppedBy}
-use Rattle.volume_core.specs.declared.fault.PutFault.{PutFault}
-use Rattle.volume_core.specs.Puts.{PutsFacts}
-use Rattle.volume_core.proofs.Lists.{each_weaker, each_both}
+use Rattle.state_store.specs.Changes.{MayLog, AreBeside, AreApart}
+use Rattle.state_store.specs.Rooms.{MayNumber}
+use Rattle.state_store.specs.Logging.{ChangedBy, StoppedBy}
+use Rattle.state_store.specs.declared.fault.PutFault.{PutFault}
+use Rattle.state_store.specs.Puts.{PutsFacts}
+use Rattle.state_store.proofs.Lists.{each_weaker, each_both}
 
 -- ---- one change
 

@@ -24,9 +24,9 @@ use Rattle.txn_core.specs.Steps.{AfterTurn}
 use Rattle.txn_core.specs.Views.{present_on, present_content}
 use Rattle.txn_core.proofs.PresentSizes.{keeps_sizes}
 use Rattle.turn_laws.specs.Sparing.{StepSpares, StepsSpare}
-use Rattle.volume_core.specs.Volumes.{geometry_of, IsStateOf, SparesState}
-use Rattle.volume_core.specs.Turns.{AgreeWhereKnown, TurnsVolume}
-use Rattle.volume_core.proofs.Turned.{turns_volume}
+use Rattle.state_store.specs.Volumes.{geometry_of, IsStateOf, SparesState}
+use Rattle.state_store.specs.Turns.{AgreeWhereKnown, TurnsVolume}
+use Rattle.state_store.proofs.Turned.{turns_volume}
 use Rattle.member_states.specs.Members.{VolumeBase, void_body, MembersAre}
 use Rattle.member_states.specs.Steps.{StepsKeepStates}
 use Rattle.member_states.proofs.Recovering.{void_is}

@@ -12,8 +12,8 @@ use Rattle.txn_model.specs.Values.{StoreFacts}
 use Rattle.txn_laws.specs.Windows.{Simulates}
 use Rattle.txn_state.specs.States.{StateOf}
 use Rattle.txn_core.specs.Steps.{AfterTurn}
-use Rattle.volume_core.specs.declared.fault.PutFault.{PutFault}
-use Rattle.volume_core.specs.Puts.{PutsOver}
+use Rattle.state_store.specs.declared.fault.PutFault.{PutFault}
+use Rattle.state_store.specs.Puts.{PutsOver}
 use Rattle.member_states.specs.Crashes.{RecoversToState}
 use Rattle.found_stays.specs.Found.{StaysOver}
 use Rattle.resting_states.specs.Resting.{base_from, Rests}

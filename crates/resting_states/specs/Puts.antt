@@ -8,11 +8,11 @@ use Rattle.store_claims.specs.Windows.{StoreWindow}
 use Rattle.txn_laws.specs.Windows.{HasWindow}
 use Rattle.txn_state.specs.States.{StateOf, facts_of}
 use Rattle.txn_core.specs.Views.{present_on}
-use Rattle.volume_core.specs.declared.fault.PutFault.{PutFault}
-use Rattle.volume_core.specs.Changes.{MayLog, AreApart, LeadsOn}
-use Rattle.volume_core.specs.Rooms.{MayNumber}
-use Rattle.volume_core.specs.Windows.{AfterPutting}
-use Rattle.volume_core.specs.Puts.{PutsOver}
+use Rattle.state_store.specs.declared.fault.PutFault.{PutFault}
+use Rattle.state_store.specs.Changes.{MayLog, AreApart, LeadsOn}
+use Rattle.state_store.specs.Rooms.{MayNumber}
+use Rattle.state_store.specs.Windows.{AfterPutting}
+use Rattle.state_store.specs.Puts.{PutsOver}
 use Rattle.resting_states.specs.Resting.{Rests, RestsBy}
 
 -- A volume may be asked to put these changes: the next transaction has a number, each change lies on the device, no two are of one block or of rivals, and they lead on from what is read.

@@ -10,7 +10,7 @@ use Rattle.txn_model.specs.Values.{StoreFacts}
 use Rattle.txn_state.specs.States.{facts_of, IsStore}
 use Rattle.txn_core.specs.Seen.{Seen}
 use Rattle.txn_core.specs.Views.{present_on}
-use Rattle.volume_core.specs.Volumes.{geometry_of, IsStateOf}
+use Rattle.state_store.specs.Volumes.{geometry_of, IsStateOf}
 use Rattle.member_states.specs.Members.{VolumeBase, base_of}
 use Rattle.member_states.specs.Leads.{IsAtRest}
 use Rattle.found_stays.specs.Found.{StaysFirst, AreOffLog}

@@ -11,12 +11,13 @@ use Rattle.map_change.specs.Parts.{MapParts}
 use Rattle.state_blocks.specs.Needing.{IsNeeded}
 use Rattle.store_model.specs.Geometry.{SectorBytes}
 use Rattle.store_model.specs.Volumes.{is_known}
+use Rattle.store_claims.specs.Windows.{StoreWindow}
 use Rattle.txn_model.specs.Values.{own_of}
 use Rattle.txn_model.specs.Calls.{first_facts}
-use Rattle.txn_laws.specs.Windows.{HasStart}
+use Rattle.txn_laws.specs.Windows.{ClaimsAll, HasStart}
 use Rattle.txn_state.specs.States.{StateOf, facts_of, IsStore}
 use Rattle.txn_core.specs.Views.{present_on}
-use Rattle.volume_core.specs.Volumes.{IsStateOf, SparesState}
+use Rattle.state_store.specs.Volumes.{IsStateOf, SparesState}
 use Rattle.found_stays.specs.Found.{StaysFirst, AreOffLog}
 use Rattle.resting_states.specs.Resting.{RestsBy}
 
@@ -37,6 +38,11 @@ pub record BeginsAtRest (count : ℕ) (changes : Changes) (state : StateOf) (fir
   pub stays : StaysFirst state.found first changes
   pub off : AreOffLog state.place state.found
 
+-- The window holds the present content alone: each commit is durable, and each block is claimed.
+pub record IsAlone (w : StoreWindow) : Type 0 where
+  pub none : w.waiting ≡ 0
+  pub claimed : ClaimsAll w.claimed
+
 -- Then the volume over it rests, in a window with this one state.
 abbrev pub StartsRest : Type 0
-StartsRest = (count : ℕ) (changes : Changes) (state : StateOf) (first : SectorBytes) (m : MapParts) (table : List ℕ) (disk : List (List ℕ)) → BeginsAtRest count changes state first m table disk → RestsBy count changes (facts_of state) first m table disk (λ w. w.waiting ≡ 0)
+StartsRest = (count : ℕ) (changes : Changes) (state : StateOf) (first : SectorBytes) (m : MapParts) (table : List ℕ) (disk : List (List ℕ)) → BeginsAtRest count changes state first m table disk → RestsBy count changes (facts_of state) first m table disk IsAlone

@@ -9,8 +9,8 @@ use member_states::{
 };
 use sector_device::Device;
 use state_blocks::needed_is_all;
+use state_store::puts_spare;
 use turn_laws::steps_spare;
-use volume_core::puts_spare;
 
 /// Law: a volume at rest rests behind changes that it is asked to put, with the map that it keeps
 /// then, whether they were put or not.

@@ -16,6 +16,7 @@ use Rattle.state_model.specs.Loads.{boot_block}
 use Rattle.volume_model.specs.Volumes.{Volume}
 use Rattle.volume_model.specs.Sizes.{is_at, placed_record, keeps_place}
 use Rattle.stream_laws.specs.Owners.{stream_kind, Owns}
+use Rattle.stream_laws.specs.Sharing.{StreamKey}
 use Rattle.stream_laws.specs.Tables.{table_key}
 use Rattle.stream_laws.proofs.Owning.{one_block}
 use Rattle.stream_laws.proofs.Placing.{lies}
@@ -25,7 +26,7 @@ use Rattle.tree_laws.proofs.Keeping.{rules_of}
 use Rattle.plan_owners.specs.States.{Stands}
 use Rattle.plan_owners.specs.Agreeing.{IsJudged}
 use Rattle.plan_owners.specs.Kinds.{OwnsAs}
-use Rattle.plan_owners.proofs.ByKind.{owned_as, one_kind}
+use Rattle.plan_owners.proofs.ByKind.{owned_as}
 use Rattle.plan_owners.proofs.Outside.{once}
 use Rattle.plan_owners.proofs.Standing.{begins, rule_4_parts}
 use Rattle.plan_model.proofs.Drafting.{per_is}
@@ -37,7 +38,8 @@ use Rattle.store_model.specs.Volumes.{is_known}
 use Rattle.txn_model.specs.Values.{StoreFacts, is_own}
 use Rattle.member_states.specs.Members.{base_of, is_found, IsSafe}
 use Rattle.spares_at_mount.proofs.Mounting.{judged_apart, apart_known}
-use Rattle.safe_blocks.specs.Safe.{boot_key, SuitsStore}
+use Rattle.volume_mount.specs.Boot.{boot_key}
+use Rattle.safe_blocks.specs.Safe.{SuitsStore}
 
 -- ---- record 2
 
@@ -62,11 +64,14 @@ second_block c g clusters v s =
     let first : at.0.first ≡ g.mft * g.per_cluster + 2 * 2 = at.2 ∙ ap (λ (x : ℕ). x * v.per + 2 * 2) (sym p.place) ∙ ap (λ (x : ℕ). g.mft * x + 2 * 2) (sym p.per) in
     at.1 ∙ ap (λ (x : ℕ). Some (block_with x at.0.kind)) first ∙ ap (λ (k : BlockKind). Some (block_with (g.mft * g.per_cluster + 2 * 2) k)) (sym kind)
 
-owns_second : (c : Content) (g : Geometry) (clusters : ℕ) (v : Volume) → Stands c g clusters v → Owns v (boot_block g 2)
+pub owns_second : (c : Content) (g : Geometry) (clusters : ℕ) (v : Volume) → Stands c g clusters v → Owns v (boot_block g 2)
 unfolding stream_kind
 owns_second c g clusters v s = record { stream = table_key; number = 2; lies = ap (λ (l : List Run). block_at v.per l FileRec 2) (table_runs c g clusters v (begins c g clusters v s)) ∙ second_block c g clusters v s }
 
 -- ---- one or the other
+
+clash : false ≡ true → ⊥
+clash e = cc
 
 first_passes : (t u : Bool) → t ≡ true → (t || (u || false)) ≡ true
 first_passes true u is = refl
@@ -77,24 +82,27 @@ second_passes true u is = refl
 second_passes false true is = refl
 second_passes false false is = absurd cc
 
-boot_kind : stream_kind boot_key ≡ Plain
+-- the blocks of $Boot's data are sectors
+boot_kind : (s : StreamKey) → s ≡ boot_key → stream_kind s ≡ Plain
 unfolding stream_kind
-boot_kind = refl
+boot_kind s is = ap stream_kind is
 
 module _ (c : Content) (g : Geometry) (clusters : ℕ) (place : LogPlace) (v : Volume) (suits : SuitsStore c g clusters place v) where
   judged_of : (b : Block) → IsNeeded c v b → IsJudged v b
   judged_of b (inl judged) = judged
   judged_of b (inr listed) = listed_judged c v b listed (suits.lists listed.number listed.file listed.is_file)
 
-  -- one in the first cluster is of the kind of $Boot's blocks
+  -- one in the first cluster is $Boot's
   is_boot : (b : Block) → Owns v b → overlap b boot_place ≡ true → same_block b boot_place ≡ true
   is_boot b owns over =
       let low = ltb-true b.first (0 + 1) (and_parts (ltb b.first (0 + 1)) (ltb 0 (b.first + sectors b.kind)) over).0 in
       let first : b.first ≡ 0 = omega (arith, low) in
       let its : OwnsAs v b.kind 0 = subst (λ (x : ℕ). OwnsAs v b.kind (x / 8)) first (owned_as v b (per_is c g clusters v suits.eight suits.stands) owns) in
-      let boots : OwnsAs v Plain 0 = record { stream = boot_key; is_kind = boot_kind; has = suits.boot } in
-      let kind : b.kind ≡ Plain = one_kind c g clusters v b.kind Plain 0 suits.stands its boots in
-      and_from (eqb b.first 0) (same_kind b.kind Plain) (eq-eqb b.first 0 first) (ap (λ (k : BlockKind). same_kind k Plain) kind)
+      let as_boot : its.stream ≡ boot_key → same_block b boot_place ≡ true = λ is. and_from (eqb b.first 0) (same_kind b.kind Plain) (eq-eqb b.first 0 first) (ap (λ (k : BlockKind). same_kind k Plain) (sym its.is_kind ∙ boot_kind its.stream is)) in
+      elim (cases_Bool (same_block b boot_place)) [
+        | inl same ↦ same
+        | inr other ↦ (let none = suits.boot its.stream (λ is. clash (sym other ∙ as_boot is)) in let has = its.has in absurd (omega (arith, none, has)))
+      ]
 
   is_second : (b : Block) → Owns v b → overlap b (boot_block g 2) ≡ true → same_block b (boot_block g 2) ≡ true
   is_second b owns over =

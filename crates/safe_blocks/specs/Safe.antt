@@ -1,29 +1,27 @@
 -- What a mounted volume gives to a store whose window is to hold states.
-use Rattle.std.specs.Prelude.{◌≡◌, ◌⊎◌, ℕ, ◌^◌, ◌<◌, ◌≤◌, true, List, [], length, Ok}
+use Rattle.std.specs.Prelude.{◌≡◌, ◌⊎◌, ℕ, ◌^◌, ◌<◌, ◌≤◌, true, List, length, Ok}
 use Rattle.std.specs.List.{list_any}
 use Rattle.disk_model.specs.declared.block.Block.{Block}
 use Rattle.disk_model.specs.Sectors.{sector_of, same_block}
 use Rattle.disk_model.specs.Content.{Content, content_of}
 use Rattle.sector_device.specs.Moments.{Changes}
-use Rattle.record_model.specs.Constants.{data_type}
 use Rattle.log_page.specs.declared.places.LogPlace.{LogPlace}
 use Rattle.log_reading.specs.Rings.{IsRingPlace}
 use Rattle.state_model.specs.declared.geometry.Geometry.{Geometry}
 use Rattle.volume_model.specs.Volumes.{Volume}
 use Rattle.volume_model.specs.Indexes.{void_block}
-use Rattle.volume_model.specs.Owners.{uses}
-use Rattle.stream_laws.specs.Sharing.{StreamKey, stream_at, runs_in}
 use Rattle.plan_owners.specs.States.{Stands}
 use Rattle.plan_spares.specs.Plans.{HasOwnLists}
 use Rattle.state_blocks.specs.Needing.{IsNeeded}
 use Rattle.image_open.specs.LogPlaces.{LieAlike}
 use Rattle.image_open.specs.Writing.{found_by}
+use Rattle.volume_mount.specs.Boot.{IsBootsAlone}
 use Rattle.volume_mount.specs.Mounts.{has_single_lists, MountedVolume, mounted_in}
 use Rattle.store_model.specs.Volumes.{is_known}
 use Rattle.txn_model.specs.Values.{StoreFacts, is_own}
 use Rattle.txn_laws.specs.Windows.{HasStart}
 use Rattle.map_change.specs.Parts.{MapParts}
-use Rattle.volume_core.specs.Volumes.{geometry_of}
+use Rattle.state_store.specs.Volumes.{geometry_of}
 use Rattle.member_states.specs.Members.{base_of, is_found, IsSafe, void_body, MembersAre}
 use Rattle.spares_at_mount.specs.Mounts.{LiesInLog}
 
@@ -33,23 +31,15 @@ use Rattle.spares_at_mount.specs.Mounts.{LiesInLog}
 abbrev pub SingleListsAreOwn : Type 0
 SingleListsAreOwn = (c : Content) (g : Geometry) (clusters : ℕ) (v : Volume) → Stands c g clusters v → has_single_lists v ≡ Ok tt → HasOwnLists c v
 
--- the unnamed data of $Boot
-abbrev pub boot_key : StreamKey
-boot_key = record { file = 7; kind = data_type; name = [] }
-
--- the first cluster, in which the boot sector lies, is one of this; no rule says so
-abbrev pub HasBoot : Volume → Type 0
-HasBoot v = 0 < uses (runs_in (stream_at v boot_key)) 0
-
 -- ---- safe blocks
 
--- The content is a state, in clusters of eight sectors, that suits a store whose log lies at this place: in the volume's log. No attribute list has a part in another record, and the boot
--- sector is $Boot's.
+-- The content is a state, in clusters of eight sectors, that suits a store whose log lies at this place: in the volume's log. No attribute list has a part in another record, and no stream
+-- but $Boot's data has the first cluster, in which the boot sector lies.
 pub record SuitsStore (c : Content) (g : Geometry) (clusters : ℕ) (place : LogPlace) (v : Volume) : Type 0 where
   pub eight : g.per_cluster ≡ 8
   pub stands : Stands c g clusters v
   pub lists : HasOwnLists c v
-  pub boot : HasBoot v
+  pub boot : IsBootsAlone v
   pub ring : IsRingPlace place
   pub lies : LiesInLog place v
 
@@ -68,16 +58,16 @@ pub record IsStoreOf (f : StoreFacts) (m : MountedVolume) : Type 0 where
   pub found : f.found ≡ found_by m.opened.geometry
   pub small : f.place.pages < 2 ^ 52
 
--- Where the boot sector is $Boot's, the mounted volume suits its store, and so does each other content that is a state of this volume. So the window that the store has at its start holds that state: over the content of the
+-- The mounted volume suits its store, and so does each other content that is a state of this volume. So the window that the store has at its start holds that state: over the content of the
 -- mounted volume, over another one, and over that of these sectors; where what lies in the blocks by which the log is found is as it always was, and the block past the end of every disk is zeros.
 pub record MountsHoldStates : Type 0 where
-  pub suits : (c : Content) (sectors : ℕ) (m : MountedVolume) (f : StoreFacts) (d : Content) → mounted_in c sectors ≡ Ok m → IsStoreOf f m → HasBoot m.volume → Stands d m.opened.geometry m.opened.total m.volume → SuitsStore d m.opened.geometry m.opened.total f.place m.volume
+  pub suits : (c : Content) (sectors : ℕ) (m : MountedVolume) (f : StoreFacts) (d : Content) → mounted_in c sectors ≡ Ok m → IsStoreOf f m → Stands d m.opened.geometry m.opened.total m.volume → SuitsStore d m.opened.geometry m.opened.total f.place m.volume
   -- a map of this volume finds the file table where it was opened, and as many clusters
   pub geometry : (c : Content) (sectors : ℕ) (m : MountedVolume) (f : StoreFacts) (p : MapParts) → mounted_in c sectors ≡ Ok m → IsStoreOf f m → p.volume ≡ m.volume → (geometry_of p ≡ m.opened.geometry) × (p.volume.clusters ≡ m.opened.total)
   pub stands : (c : Content) (sectors : ℕ) (m : MountedVolume) (f : StoreFacts) → mounted_in c sectors ≡ Ok m → IsStoreOf f m → Stands m.content m.opened.geometry m.opened.total m.volume
-  pub content : (c : Content) (sectors : ℕ) (m : MountedVolume) (changes : Changes) (f : StoreFacts) (d lies : Content) (start : HasStart changes f d) → mounted_in c sectors ≡ Ok m → IsStoreOf f m → HasBoot m.volume → Stands d m.opened.geometry m.opened.total m.volume
+  pub content : (c : Content) (sectors : ℕ) (m : MountedVolume) (changes : Changes) (f : StoreFacts) (d lies : Content) (start : HasStart changes f d) → mounted_in c sectors ≡ Ok m → IsStoreOf f m → Stands d m.opened.geometry m.opened.total m.volume
       → ((x : Block) → is_found (base_of f lies m.opened.geometry m.opened.total) x ≡ true → d x ≡ lies x) → d void_block ≡ void_body → MembersAre (base_of f lies m.opened.geometry m.opened.total) start.window
-  pub mounted : (c : Content) (sectors : ℕ) (m : MountedVolume) (changes : Changes) (f : StoreFacts) (start : HasStart changes f m.content) → mounted_in c sectors ≡ Ok m → IsStoreOf f m → HasBoot m.volume → m.content void_block ≡ void_body
+  pub mounted : (c : Content) (sectors : ℕ) (m : MountedVolume) (changes : Changes) (f : StoreFacts) (start : HasStart changes f m.content) → mounted_in c sectors ≡ Ok m → IsStoreOf f m → m.content void_block ≡ void_body
       → MembersAre (base_of f m.content m.opened.geometry m.opened.total) start.window
-  pub sectors : (c : Content) (sectors : ℕ) (m : MountedVolume) (changes : Changes) (f : StoreFacts) (disk : List (List ℕ)) (start : HasStart changes f (content_of (sector_of disk))) → mounted_in c sectors ≡ Ok m → IsStoreOf f m → HasBoot m.volume
+  pub sectors : (c : Content) (sectors : ℕ) (m : MountedVolume) (changes : Changes) (f : StoreFacts) (disk : List (List ℕ)) (start : HasStart changes f (content_of (sector_of disk))) → mounted_in c sectors ≡ Ok m → IsStoreOf f m
       → Stands (content_of (sector_of disk)) m.opened.geometry m.opened.total m.volume → length disk ≤ 2 ^ 62 → MembersAre (base_of f (content_of (sector_of disk)) m.opened.geometry m.opened.total) start.window

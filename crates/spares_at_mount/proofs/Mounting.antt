@@ -41,7 +41,7 @@ use Rattle.map_change.specs.Parts.{MapParts}
 use Rattle.txn_model.specs.Values.{StoreFacts}
 use Rattle.txn_state.specs.States.{StateOf, facts_of}
 use Rattle.txn_core.specs.Views.{present_on, present_content}
-use Rattle.volume_core.specs.Volumes.{geometry_of, IsStateOf, SparesState}
+use Rattle.state_store.specs.Volumes.{geometry_of, IsStateOf, SparesState}
 use Rattle.spares_at_mount.specs.Mounts.{LiesInLog, IsApart}
 
 -- ---- lists

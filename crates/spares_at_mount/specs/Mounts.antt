@@ -27,7 +27,7 @@ use Rattle.mount_laws.specs.Laws.{LiesByRecord}
 use Rattle.map_change.specs.Parts.{MapParts}
 use Rattle.txn_state.specs.States.{StateOf, facts_of}
 use Rattle.txn_core.specs.Views.{present_content}
-use Rattle.volume_core.specs.Volumes.{IsStateOf, SparesState}
+use Rattle.state_store.specs.Volumes.{IsStateOf, SparesState}
 
 -- each page of the log lies in a cluster that the volume's log has
 abbrev pub LiesInLog : LogPlace → Volume → Type 0

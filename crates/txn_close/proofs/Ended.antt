@@ -10,7 +10,7 @@ use Rattle.ring_laws.proofs.Numbering.{says_lap, says_page}
 use Rattle.txn_model.specs.declared.mark.Mark.{Mark}
 use Rattle.txn_model.specs.Values.{StoreFacts}
 use Rattle.txn_model.specs.Calls.{given_up_facts, sealed_facts, front_lsn, named_facts, noted_facts, synced_facts, synced_mark, noted_mark}
-use Rattle.txn_core.specs.Turns.{HasNext, MayRestart}
+use Rattle.txn_core.specs.Turns.{HasNext, MayRestart, IsLast}
 use Rattle.txn_close.specs.declared.fault.CloseFault.{CloseFault}
 use Rattle.txn_close.specs.declared.fault.CloseFault.TheVariants.{Fault, Unmarked}
 use Rattle.txn_close.specs.Rests.{IsPlain, IsDrained, IsAtRest, IsUnmarked, stopped_facts}
@@ -119,6 +119,12 @@ begun_drained f d =
       plain = λ b. plain_noted (f.mark b) (d.plain b);
       noted = omega arith;
     })
+
+-- no page of entries stands from the noted one on
+pub begun_last : (f : StoreFacts) → IsDrained f → IsLast (noted_facts f)
+begun_last f d =
+    subst (λ (a : LogAreaOf). IsLast (with_log f a)) (sym (begun_log f d))
+    (let none : cond {A = ℕ} (is_filling f.log) 1 0 ≡ 0 = ap (λ (t : Bool). cond {A = ℕ} t 1 0) d.empty in omega (arith, none))
 
 -- ---- the last checkpoint leaves no page
 

@@ -1,5 +1,5 @@
 -- What several calls of a store do to its window, one behind the other.
-use Rattle.std.proofs.Common.{◌≡◌, ◌⊎◌, subst, ℕ, ◌≤◌, Bool, true, false, List, refl, sym, ◌∙◌, inl, inr, arith}
+use Rattle.std.proofs.Common.{◌≡◌, ◌⊎◌, subst, ℕ, ◌≤◌, max, Bool, true, false, List, refl, sym, ◌∙◌, inl, inr, arith}
 use Rattle.disk_model.specs.declared.block.Block.{Block}
 use Rattle.disk_model.specs.Sectors.{sector_of}
 use Rattle.sector_device.specs.Moments.{Changes, LeftSince}
@@ -9,25 +9,28 @@ use Rattle.store_claims.specs.Windows.{StoreWindow}
 use Rattle.store_model.proofs.Told.{true≢false}
 use Rattle.txn_model.specs.Values.{StoreFacts, own_of, is_own}
 use Rattle.txn_state.specs.States.{facts_of}
-use Rattle.txn_laws.specs.Windows.{RecoversWithin, Simulates}
-use Rattle.txn_core.specs.Seen.{Seen, TakesStep}
+use Rattle.txn_laws.specs.Windows.{RecoversWithin, lap_behind, next_lap_in, LapsDuring, SimulatesAs}
+use Rattle.txn_laws.proofs.Telling.{window_ends}
+use Rattle.txn_core.specs.Seen.{Seen, TakesStepAs}
 use Rattle.found_stays.specs.Found.{AreOffLog, StaysOver}
 use Rattle.found_stays.proofs.Bearing.{none_stays, both_stay}
-use Rattle.txn_close.specs.Passing.{IsSpared, Spares, LeavesWithin, LeavesFound, Passes, Fewer, Goes}
+use Rattle.txn_close.specs.Passing.{IsSpared, Spares, LeavesWithin, LeavesFound, PassesAs, Fewer, GoesAs}
 
 -- ---- windows
 
 spares_same : (f : StoreFacts) (w : StoreWindow) → Spares f w w
-spares_same f w = record { waiting = omega arith; others = λ k le b spared. refl }
+spares_same f w = record { waiting = omega arith; others = λ k le b spared. refl; claims = λ k b is. is; kept = λ k le b is. refl }
 
 spares_joined : (f : StoreFacts) (old mid new : StoreWindow) → Spares f old mid → Spares f mid new → Spares f old new
 spares_joined f old mid new one two = record {
   waiting = (let a = one.waiting in let b = two.waiting in omega (arith, a, b));
   others = λ k le b spared. two.others k le b spared ∙ one.others k (let few = two.waiting in omega (arith, le, few)) b spared;
+  claims = λ k b is. two.claims k b (one.claims k b is);
+  kept = λ k le b is. two.kept k le b (one.claims k b is) ∙ one.kept k (let few = two.waiting in omega (arith, le, few)) b is;
 }
 
 wider : (base next : StoreFacts) (w v : StoreWindow) → ((b : Block) → IsSpared base b → IsSpared next b) → Spares next w v → Spares base w v
-wider base next w v spared s = record { waiting = s.waiting; others = λ k le b is. s.others k le b (spared b is) }
+wider base next w v spared s = record { waiting = s.waiting; others = λ k le b is. s.others k le b (spared b is); claims = s.claims; kept = s.kept }
 
 -- ---- blocks that are spared
 
@@ -53,16 +56,18 @@ pub here : (f g : StoreFacts) (w : StoreWindow) (image : SectorBytes) → g.plac
 here f g w image place found x =
     subst (λ (bs : List Block). RecoversWithin f.place (is_own f.place bs) w image) found (subst (λ (p : LogPlace). RecoversWithin p (is_own p g.found) w image) place x)
 
-pub passes_none : (base : StoreFacts) (count moment : ℕ) (c : Changes) (f : StoreFacts) → Passes base count moment c c f f
-passes_none base count moment c f = record { known = λ e is. (e, is); place = refl; found = refl; steps = λ w has. (w, has, spares_same base w, λ t image le left. inl left); stays = λ w first has off. none_stays count f.found first c c refl }
+pub passes_none : {ends : Bool} (base : StoreFacts) (count moment : ℕ) (c : Changes) (f : StoreFacts) → PassesAs ends ends base count moment c c f f
+passes_none base count moment c f = record { known = λ e is. (e, is); place = refl; found = refl; steps = λ w has. (w, has, spares_same base w, λ t image le left. inl left); rises = omega arith; laps = λ w has t image le left. inl left; stays = λ w first has off. none_stays count f.found first c c refl }
 
-pub passes_step : (base : StoreFacts) (count moment : ℕ) (old now : Changes) (f g : StoreFacts) (After : StoreWindow → StoreWindow → Type 0) → ((w v : StoreWindow) → After w v → Spares base w v)
-    → LeavesFound count old now f → Simulates count moment old now f g After → Passes base count moment old now f g
-passes_step base count moment old now f g After spares stays s = record {
+pub passes_step : {ends : Bool} (base : StoreFacts) (count moment : ℕ) (old now : Changes) (f g : StoreFacts) (After : StoreWindow → StoreWindow → Type 0) → ((w v : StoreWindow) → After w v → Spares base w v)
+    → lap_behind f ≤ lap_behind g → LeavesFound ends count old now f → SimulatesAs ends count moment old now f g After → PassesAs ends ends base count moment old now f g
+passes_step base count moment old now f g After spares rises stays s = record {
   known = s.known;
   place = s.place;
   found = s.found;
   steps = λ w has. let x = s.steps w has in (x.0, x.1, spares w x.0 x.2, λ t image le left. by w x.0 image t (spares w x.0 x.2) (x.3 t image le left));
+  rises = rises;
+  laps = s.laps;
   stays = stays;
 }
   where
@@ -76,8 +81,19 @@ found_here : (f g : StoreFacts) (count : ℕ) (first : SectorBytes) (old now : C
 found_here f g count first old now place found stays off =
     subst (λ (bs : List Block). StaysOver count bs first old now) found (stays (subst (λ (p : LogPlace). AreOffLog p g.found) (sym place) (subst (λ (bs : List Block). AreOffLog f.place bs) (sym found) off)))
 
-pub passes_joined : (base next : StoreFacts) (count early late : ℕ) (old mid now : Changes) (f g h : StoreFacts) → early ≤ late → ((b : Block) → IsSpared base b → IsSpared next b)
-    → Passes base count early old mid f g → Passes next count late mid now g h → Passes base count early old now f h
+laps_joined : (count early late : ℕ) (old mid now : Changes) (f g h : StoreFacts) → early ≤ late → g.place ≡ f.place → lap_behind f ≤ lap_behind g → lap_behind g ≤ lap_behind h → LapsDuring count early old mid f g → LapsDuring count late mid now g h → LapsDuring count early old now f h
+laps_joined count early late old mid now f g h later place low high first second = λ t image le left.
+    elim (second t image (omega (arith, le, later)) left) [
+      | inl between ↦ by image (first t image le between)
+      | inr less ↦ inr (let here = subst (λ (p : LogPlace). next_lap_in p (sector_of image) ≤ max (lap_behind g) (lap_behind h)) place less in omega (arith, here, high))
+    ]
+  where
+    by : {A : Type 0} (image : List (List ℕ)) → A ⊎ (next_lap_in f.place (sector_of image) ≤ max (lap_behind f) (lap_behind g)) → A ⊎ (next_lap_in f.place (sector_of image) ≤ max (lap_behind f) (lap_behind h))
+    by image (inl before) = inl before
+    by image (inr less) = inr (omega (arith, less, low, high))
+
+pub passes_joined : {ends mid_ends last : Bool} (base next : StoreFacts) (count early late : ℕ) (old mid now : Changes) (f g h : StoreFacts) → early ≤ late → ((b : Block) → IsSpared base b → IsSpared next b)
+    → PassesAs ends mid_ends base count early old mid f g → PassesAs mid_ends last next count late mid now g h → PassesAs ends last base count early old now f h
 passes_joined base next count early late old mid now f g h later spared one two = record {
   known = λ e is. let d = two.known e is in one.known d.0 d.1;
   place = two.place ∙ one.place;
@@ -86,6 +102,8 @@ passes_joined base next count early late old mid now f g h later spared one two 
       let x = one.steps w has in
       let y = two.steps x.0 x.1 in
       (y.0, y.1, spares_joined base w x.0 y.0 x.2 (wider base next x.0 y.0 spared y.2), λ t image le left. by w x.0 t image le x.2 x.3 y.3 left);
+  rises = (let a = one.rises in let b = two.rises in omega (arith, a, b));
+  laps = λ w has. let x = one.steps w has in laps_joined count early late old mid now f g h later one.place one.rises two.rises (one.laps w has) (two.laps x.0 x.1);
   stays = λ w first has off. let x = one.steps w has in both_stay count f.found first old mid now (one.stays w first has off) (found_here f g count first mid now one.place one.found (two.stays x.0 first x.1) off);
 }
   where
@@ -97,29 +115,68 @@ passes_joined base next count early late old mid now f g h later spared one two 
           | inr r ↦ inr (r.0, spares_joined base w u r.0 follows (wider base next u r.0 spared r.1), here f g r.0 (sector_of image) one.place one.found r.2)
         ]
 
+-- a store that goes on is one that ends, before the calls and behind them
+pub passes_to_end : (base : StoreFacts) (count moment : ℕ) (old now : Changes) (f g : StoreFacts) → PassesAs false false base count moment old now f g → PassesAs false true base count moment old now f g
+passes_to_end base count moment old now f g passes = record {
+  known = passes.known;
+  place = passes.place;
+  found = passes.found;
+  steps = λ w has. let x = passes.steps w has in (x.0, window_ends now g x.0 x.1, x.2, x.3);
+  rises = passes.rises;
+  laps = passes.laps;
+  stays = passes.stays;
+}
+
+passes_from : (base : StoreFacts) (count moment : ℕ) (old now : Changes) (f g : StoreFacts) → PassesAs true true base count moment old now f g → PassesAs false true base count moment old now f g
+passes_from base count moment old now f g passes = record {
+  known = passes.known;
+  place = passes.place;
+  found = passes.found;
+  steps = λ w has. passes.steps w (window_ends old f w has);
+  rises = passes.rises;
+  laps = λ w has. passes.laps w (window_ends old f w has);
+  stays = λ w first has. passes.stays w first (window_ends old f w has);
+}
+
 -- ---- calls of a store
 
-pub goes_none : {D : Type 0} (count moment : D → ℕ) (changes : D → Changes) (base : StoreFacts) (s : Seen D) → Fewer base (facts_of s.state) → Goes count moment changes base s s
+pub goes_none : {ends : Bool} {D : Type 0} (count moment : D → ℕ) (changes : D → Changes) (base : StoreFacts) (s : Seen D) → Fewer base (facts_of s.state) → GoesAs ends ends count moment changes base s s
 goes_none count moment changes base s fewer =
     record { later = omega arith; sectors = refl; fewer = fewer; passes = passes_none base (count s.device) (moment s.device) (changes s.device) (facts_of s.state) }
 
-pub goes_step : {D : Type 0} (count moment : D → ℕ) (changes : D → Changes) (base : StoreFacts) (After : StoreWindow → StoreWindow → Type 0) (old new : Seen D) → moment old.device ≤ moment new.device → count new.device ≡ count old.device
-    → Fewer base (facts_of new.state) → ((w v : StoreWindow) → After w v → Spares base w v) → LeavesFound (count old.device) (changes old.device) (changes new.device) (facts_of old.state) → TakesStep count moment changes After old new
-    → Goes count moment changes base old new
-goes_step count moment changes base After old new later sectors fewer spares stays step = record {
+pub goes_step : {ends : Bool} {D : Type 0} (count moment : D → ℕ) (changes : D → Changes) (base : StoreFacts) (After : StoreWindow → StoreWindow → Type 0) (old new : Seen D) → moment old.device ≤ moment new.device → count new.device ≡ count old.device
+    → Fewer base (facts_of new.state) → ((w v : StoreWindow) → After w v → Spares base w v) → lap_behind (facts_of old.state) ≤ lap_behind (facts_of new.state) → LeavesFound ends (count old.device) (changes old.device) (changes new.device) (facts_of old.state) → TakesStepAs ends count moment changes After old new
+    → GoesAs ends ends count moment changes base old new
+goes_step count moment changes base After old new later sectors fewer spares rises stays step = record {
   later = later;
   sectors = sectors;
   fewer = fewer;
-  passes = passes_step base (count old.device) (moment old.device) (changes old.device) (changes new.device) (facts_of old.state) (facts_of new.state) After spares stays step;
+  passes = passes_step base (count old.device) (moment old.device) (changes old.device) (changes new.device) (facts_of old.state) (facts_of new.state) After spares rises stays step;
 }
 
-pub goes_joined : {D : Type 0} (count moment : D → ℕ) (changes : D → Changes) (base : StoreFacts) (old mid new : Seen D) → Goes count moment changes base old mid → Goes count moment changes (facts_of mid.state) mid new
-    → Goes count moment changes base old new
-goes_joined count moment changes base old mid new one two = record {
+pub goes_joined : {ends mid_ends last : Bool} {D : Type 0} (count moment : D → ℕ) (changes : D → Changes) (base : StoreFacts) (old mid new : Seen D) → GoesAs ends mid_ends count moment changes base old mid → GoesAs mid_ends last count moment changes (facts_of mid.state) mid new
+    → GoesAs ends last count moment changes base old new
+goes_joined {ends} {mid_ends} {last} {D} count moment changes base old mid new one two = record {
   later = (let a = one.later in let b = two.later in omega (arith, a, b));
   sectors = two.sectors ∙ one.sectors;
   fewer = fewer_joined base (facts_of mid.state) (facts_of new.state) one.fewer two.fewer;
   passes = passes_joined base (facts_of mid.state) (count old.device) (moment old.device) (moment mid.device) (changes old.device) (changes mid.device) (changes new.device) (facts_of old.state) (facts_of mid.state) (facts_of new.state) one.later
       (spared_on base (facts_of mid.state) one.fewer) one.passes
-      (subst (λ (n : ℕ). Passes (facts_of mid.state) n (moment mid.device) (changes mid.device) (changes new.device) (facts_of mid.state) (facts_of new.state)) one.sectors two.passes);
+      (subst (λ (n : ℕ). PassesAs mid_ends last (facts_of mid.state) n (moment mid.device) (changes mid.device) (changes new.device) (facts_of mid.state) (facts_of new.state)) one.sectors two.passes);
+}
+
+pub goes_to_end : {D : Type 0} (count moment : D → ℕ) (changes : D → Changes) (base : StoreFacts) (old new : Seen D) → GoesAs false false count moment changes base old new → GoesAs false true count moment changes base old new
+goes_to_end count moment changes base old new goes = record {
+  later = goes.later;
+  sectors = goes.sectors;
+  fewer = goes.fewer;
+  passes = passes_to_end base (count old.device) (moment old.device) (changes old.device) (changes new.device) (facts_of old.state) (facts_of new.state) goes.passes;
+}
+
+pub goes_from : {D : Type 0} (count moment : D → ℕ) (changes : D → Changes) (base : StoreFacts) (old new : Seen D) → GoesAs true true count moment changes base old new → GoesAs false true count moment changes base old new
+goes_from count moment changes base old new goes = record {
+  later = goes.later;
+  sectors = goes.sectors;
+  fewer = goes.fewer;
+  passes = passes_from base (count old.device) (moment old.device) (changes old.device) (changes new.device) (facts_of old.state) (facts_of new.state) goes.passes;
 }

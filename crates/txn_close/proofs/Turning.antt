@@ -1,12 +1,16 @@
 -- What one step of a store does to its marks, to its window and to the moment.
-use Rattle.std.proofs.Common.{◌≡◌, subst, ℕ, ◌+◌, ◌≤◌, Bool, true, false, cond, List, Option, Some, None, Result, Ok, Err, refl, sym, ap, ◌∙◌, inl, inr, arith}
-use Rattle.std.specs.Prelude.{◌&&◌, is_ok, is_some, nat_le, nat_lt}
+use Rattle.std.proofs.Common.{◌≡◌, subst, ℕ, zero, suc, ◌+◌, ◌/◌, ◌≤◌, Bool, true, false, cond, List, Option, Some, None, Result, Ok, Err, refl, sym, ap, ◌∙◌, inl, inr, arith}
+use Rattle.std.specs.Prelude.{◌&&◌, if◌then◌else◌, is_ok, is_some, nat_le, nat_lt}
+use Rattle.std.proofs.Math.Nat.{div-zero, div-mul-le_self}
+use Rattle.std.proofs.lemmas.Nat.{le-div}
 use Rattle.host_base.specs.Causes.{last_moment}
 use Rattle.host_base.specs.declared.outside.Failed.{Failed}
 use Rattle.disk_model.specs.declared.block.Block.{Block}
 use Rattle.disk_model.specs.declared.block.Body.{Body}
 use Rattle.disk_model.specs.Sectors.{same_block, are_rivals}
 use Rattle.sector_device.specs.Moments.{moment_after, Changes, Syncs}
+use Rattle.log_area.specs.declared.restart.SentRestart.{SentRestart}
+use Rattle.log_area.specs.Areas.{LogAreaOf, ring_size, is_filling, fits, lap_at, next_number, sealed_area}
 use Rattle.log_area.specs.Calls.{sending_moment, IsSentOrNot}
 use Rattle.store_claims.specs.Windows.{StoreWindow}
 use Rattle.store_model.proofs.Told.{true≢false}
@@ -15,7 +19,7 @@ use Rattle.flush_policy.specs.declared.facts.StoreStep.TheVariants.{SealPage, Wr
 use Rattle.txn_model.specs.declared.mark.Mark.{Mark}
 use Rattle.txn_model.specs.Values.{StoreFacts}
 use Rattle.txn_model.specs.Calls.{is_ready, is_buried}
-use Rattle.txn_laws.specs.Windows.{AfterWrite, MovesTo}
+use Rattle.txn_laws.specs.Windows.{lap_behind, AfterWrite, MovesTo}
 use Rattle.txn_laws.proofs.PageWrites.{sends_later}
 use Rattle.device_blocks.specs.declared.word.CheckWord.{CheckWord}
 use Rattle.device_blocks.specs.declared.word.CheckWord.TheVariants.{Unread, Missing, Stands, Sent}
@@ -26,9 +30,9 @@ use Rattle.txn_core.specs.Steps.{MayTurn, HasTurned, TurnsDevice, AfterTurn}
 use Rattle.txn_core.proofs.Outs.{ready_dirty}
 use Rattle.txn_state.specs.States.{facts_of}
 use Rattle.txn_laws.specs.Windows.{AfterGiveUp}
-use Rattle.txn_core.specs.Seen.{Seen, TakesStep}
+use Rattle.txn_core.specs.Seen.{Seen, TakesStepAs, TakesStep}
 use Rattle.txn_core.specs.Turns.{restart_facts, SendsRestartPage}
-use Rattle.txn_close.specs.Passing.{IsSpared, Spares, Fewer, Goes}
+use Rattle.txn_close.specs.Passing.{IsSpared, Spares, Fewer, GoesAs, Goes}
 use Rattle.found_stays.proofs.Bearing.{none_stays}
 use Rattle.found_stays.proofs.Writing.{sync_stays}
 use Rattle.found_stays.proofs.Turning.{restart_stays, turn_stays, window_machine}
@@ -100,10 +104,10 @@ fewer_turned WriteRestart (Err e) f g turned = at_facts f g _ turned (record { d
 -- ---- windows
 
 pub spares_written : (base : StoreFacts) (w v : StoreWindow) → AfterWrite w v → Spares base w v
-spares_written base w v after = subst (λ (u : StoreWindow). Spares base w u) (sym after.same) (record { waiting = omega arith; others = λ k le b spared. refl })
+spares_written base w v after = subst (λ (u : StoreWindow). Spares base w u) (sym after.same) (record { waiting = omega arith; others = λ k le b spared. refl; claims = λ k b is. is; kept = λ k le b is. refl })
 
 spares_moved : (base : StoreFacts) (lost : Block → Bool) (w v : StoreWindow) → ((b : Block) → IsSpared base b → lost b ≡ false) → MovesTo lost w v → Spares base w v
-spares_moved base lost w v none moved = record { waiting = moved.waiting; others = λ k le b spared. moved.others k le b (none b spared) }
+spares_moved base lost w v none moved = record { waiting = moved.waiting; others = λ k le b spared. moved.others k le b (none b spared); claims = moved.claimed.claims; kept = moved.kept }
 
 not_buried : (done : ℕ) (m : Mark) → m.dead ≡ false → is_buried done m ≡ false
 not_buried done m alive = ap (λ (t : Bool). t && nat_le m.killed done) alive
@@ -133,6 +137,56 @@ spares_turned base f SyncDevice result fewer may w v after = spares_synced base 
 spares_turned base f (WriteOut b) result fewer may w v after = spares_moved base _ w v (no_rival base f b fewer may) after
 spares_turned base f BeginCheckpoint result fewer may w v after = spares_written base w v after
 spares_turned base f WriteRestart result fewer may w v after = spares_written base w v after
+
+-- ---- laps
+
+div_rises : (k n m : ℕ) → n ≤ m → n / k ≤ m / k
+div_rises zero n m le = (let none = div-zero n in omega (arith, none))
+div_rises (suc k) n m le = le-div (n / suc k) m (suc k) (omega arith) (let part = div-mul-le_self n (suc k) in omega (arith, part, le))
+
+abbrev lap_next : LogAreaOf → ℕ
+lap_next a = suc (lap_at a (next_number a 0x58))
+
+at_most_next : (t : Bool) (n : ℕ) → (if t then n else n + 1) ≤ n + 1
+at_most_next true n = omega arith
+at_most_next false n = omega arith
+
+sealing_rises : (t : Bool) (a : LogAreaOf) → lap_next a ≤ lap_next (if t then record a { free = 0x40; sealed = a.sealed + 1 } else a)
+sealing_rises true a = (let less = div_rises (ring_size a) (next_number a 0x58) (a.sealed + 1) (at_most_next (fits a 0x58) a.sealed) in omega (arith, less))
+sealing_rises false a = omega arith
+
+-- the page that is filled is sealed, if it has an entry
+pub seal_rises : (a : LogAreaOf) → lap_next a ≤ lap_next (sealed_area a)
+seal_rises a = sealing_rises (is_filling a) a
+
+pub rises_at : (f g h : StoreFacts) → g ≡ h → lap_behind f ≤ lap_behind h → lap_behind f ≤ lap_behind g
+rises_at f g h is rises = subst (λ (x : StoreFacts). lap_behind f ≤ lap_behind x) (sym is) rises
+
+rises_out : (spells ok : Bool) (now : CheckWord) (b : Block) (f : StoreFacts) → lap_behind f ≤ lap_behind (out_facts spells ok now b f)
+rises_out true true now b f = omega arith
+rises_out true false (Sent check) b f = omega arith
+rises_out true false Unread b f = omega arith
+rises_out true false Missing b f = omega arith
+rises_out true false (Stands check) b f = omega arith
+rises_out false true now b f = omega arith
+rises_out false false now b f = omega arith
+
+rises_synced : (result : Result (Unit {0}) Failed) (f : StoreFacts) → lap_behind f ≤ lap_behind (sync_facts result f)
+rises_synced (Ok tt) f = omega arith
+rises_synced (Err e) f = omega arith
+
+rises_restarted : (result : Result (Unit {0}) Failed) (sent : Option SentRestart) (f : StoreFacts) → lap_behind f ≤ lap_behind (restart_facts result sent f)
+rises_restarted (Ok tt) sent f = omega arith
+rises_restarted (Err e) sent f = omega arith
+
+rises_turned : (step : StoreStep) (result : Result (Unit {0}) Failed) (f g : StoreFacts) → HasTurned step result f g → lap_behind f ≤ lap_behind g
+rises_turned SealPage result f g turned = rises_at f g _ turned.1 (seal_rises f.log)
+rises_turned WritePage (Ok tt) f g turned = rises_at f g _ turned (omega arith)
+rises_turned WritePage (Err e) f g turned = rises_at f g _ turned (omega arith)
+rises_turned SyncDevice result f g turned = rises_at f g _ turned (rises_synced result f)
+rises_turned (WriteOut b) result f g turned = rises_at f g _ turned.1 (rises_out (is_spelled f b) (is_ok result) turned.0 b f)
+rises_turned BeginCheckpoint result f g turned = rises_at f g _ turned.1 (seal_rises f.log)
+rises_turned WriteRestart result f g turned = rises_at f g _ turned (rises_restarted result g.log.sent f)
 
 -- ---- moments
 
@@ -195,7 +249,12 @@ pub fewer_at : (f g h : StoreFacts) → g ≡ h → Fewer f h → Fewer f g
 fewer_at f g h is fewer = at_facts f g h is fewer
 
 pub spares_given_up : (base : StoreFacts) (w v : StoreWindow) → AfterGiveUp w v → Spares base w v
-spares_given_up base w v after = record { waiting = (let e = after.waiting in omega (arith, e)); others = λ k le b spared. after.others k b }
+spares_given_up base w v after = record {
+  waiting = (let e = after.waiting in omega (arith, e));
+  others = λ k le b spared. after.others k b;
+  claims = λ k b is. subst (λ (claims : ℕ → Block → Bool). claims k b ≡ true) (sym after.claimed.claims) is;
+  kept = λ k le b is. after.others k b;
+}
 
 module _ {D : Type 0} (gives : D → Option (List (List ℕ))) (count moment : D → ℕ) (changes : D → Changes) (old new : Seen D) where
   abbrev f : StoreFacts
@@ -204,23 +263,23 @@ module _ {D : Type 0} (gives : D → Option (List (List ℕ))) (count moment : D
   abbrev g : StoreFacts
   g = facts_of new.state
 
-  pub goes_in_memory : (base : StoreFacts) (After : StoreWindow → StoreWindow → Type 0) → new.device ≡ old.device → Fewer base g → ((w v : StoreWindow) → After w v → Spares base w v) → TakesStep count moment changes After old new → Goes count moment changes base old new
-  goes_in_memory base After same fewer spares step = goes_step count moment changes base After old new (let e = ap moment same in omega (arith, e)) (ap count same) fewer spares (λ w first has off. none_stays (count old.device) f.found first (changes old.device) (changes new.device) (ap changes same)) step
+  pub goes_in_memory : (base : StoreFacts) (After : StoreWindow → StoreWindow → Type 0) → new.device ≡ old.device → Fewer base g → ((w v : StoreWindow) → After w v → Spares base w v) → lap_behind f ≤ lap_behind g → TakesStep count moment changes After old new → Goes count moment changes base old new
+  goes_in_memory base After same fewer spares rises step = goes_step count moment changes base After old new (let e = ap moment same in omega (arith, e)) (ap count same) fewer spares rises (λ w first has off. none_stays (count old.device) f.found first (changes old.device) (changes new.device) (ap changes same)) step
 
   pub goes_turned : (step : StoreStep) (result : Result (Unit {0}) Failed) → ((c : Block) → (f.mark c).dirty ≡ true → is_some (f.body c) ≡ true) → MayTurn f step → HasTurned step result f g
       → TurnsDevice gives changes moment step result f g old.words new.words old.device new.device → count new.device ≡ count old.device → TakesStep count moment changes (AfterTurn step result f) old new → Goes count moment changes f old new
   goes_turned step result kept may turned sent sectors takes =
       goes_step count moment changes f (AfterTurn step result f) old new (later_turned gives changes moment old.device new.device step result f g old.words new.words kept may sent) sectors (fewer_turned step result f g turned)
-      (spares_turned f f step result (fewer_same f) may)
+      (spares_turned f f step result (fewer_same f) may) (rises_turned step result f g turned)
       (λ w first has off. turn_stays gives changes moment (count old.device) first f g old.device new.device (window_machine (changes old.device) f w has) off step result old.words new.words kept may sent) takes
 
-  pub goes_restarted : (clean : Bool) (result : Result (Unit {0}) Failed) → g ≡ restart_facts result new.state.log.sent f → SendsRestartPage gives changes moment clean f g result old.device new.device → count new.device ≡ count old.device
-      → TakesStep count moment changes AfterWrite old new → Goes count moment changes f old new
+  pub goes_restarted : {ends : Bool} (clean : Bool) (result : Result (Unit {0}) Failed) → g ≡ restart_facts result new.state.log.sent f → SendsRestartPage gives changes moment clean f g result old.device new.device → count new.device ≡ count old.device
+      → TakesStepAs ends count moment changes AfterWrite old new → GoesAs ends ends count moment changes f old new
   goes_restarted clean result facts sent sectors takes =
-      goes_step count moment changes f AfterWrite old new (later_sent gives changes moment old.device new.device _ _ _ _ result sent) sectors (fewer_turned WriteRestart result f g facts) (spares_written f)
+      goes_step count moment changes f AfterWrite old new (later_sent gives changes moment old.device new.device _ _ _ _ result sent) sectors (fewer_turned WriteRestart result f g facts) (spares_written f) (rises_turned WriteRestart result f g facts)
       (λ w first has off. restart_stays gives changes moment (count old.device) first f g old.device new.device (window_machine (changes old.device) f w has) off clean result sent) takes
 
-  pub goes_synced : (result : Result (Unit {0}) Failed) → g ≡ sync_facts result f → Syncs (moment old.device) result (changes old.device) (changes new.device) → moment new.device ≡ moment_after (moment old.device) → count new.device ≡ count old.device → TakesStep count moment changes (AfterSync result f) old new → Goes count moment changes f old new
+  pub goes_synced : {ends : Bool} (result : Result (Unit {0}) Failed) → g ≡ sync_facts result f → Syncs (moment old.device) result (changes old.device) (changes new.device) → moment new.device ≡ moment_after (moment old.device) → count new.device ≡ count old.device → TakesStepAs ends count moment changes (AfterSync result f) old new → GoesAs ends ends count moment changes f old new
   goes_synced result facts syncs later sectors takes =
-      goes_step count moment changes f (AfterSync result f) old new (begun_later (moment old.device) (moment old.device) (moment new.device) (omega arith) later) sectors (fewer_turned SyncDevice result f g facts) (spares_synced f f result (fewer_same f))
+      goes_step count moment changes f (AfterSync result f) old new (begun_later (moment old.device) (moment old.device) (moment new.device) (omega arith) later) sectors (fewer_turned SyncDevice result f g facts) (spares_synced f f result (fewer_same f)) (rises_turned SyncDevice result f g facts)
       (λ w first has off. sync_stays (count old.device) (moment old.device) result f.found first (changes old.device) (changes new.device) syncs) takes

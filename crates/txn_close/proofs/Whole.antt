@@ -22,7 +22,7 @@ use Rattle.txn_laws.proofs.Telling.{at_return, waits}
 use Rattle.txn_core.specs.Seen.{Seen}
 use Rattle.txn_close.specs.declared.fault.CloseFault.{CloseFault}
 use Rattle.txn_close.specs.Rests.{IsAtRest}
-use Rattle.txn_close.specs.Passing.{Spares, Goes}
+use Rattle.txn_close.specs.Passing.{Spares, GoesToEnd}
 use Rattle.txn_close.specs.Ends.{IsLeftClean, IsLeftWhole, LeavesClean, LeavesWhole}
 use Rattle.txn_close.proofs.Passing.{here}
 
@@ -59,7 +59,7 @@ module _ (base f : StoreFacts) (w v : StoreWindow) (image : SectorBytes) (spares
 none_waits : (durable waiting commits : ℕ) → durable + waiting ≡ commits → durable ≡ commits → waiting ≡ 0
 none_waits durable waiting commits sum all = omega (arith, sum, all)
 
-pub leaves_whole : {D : Type 0} (count moment : D → ℕ) (changes : D → Changes) (base : StoreFacts) (old last : Seen D) (result : Result (Unit {0}) CloseFault) → Goes count moment changes base old last → OnOk result (IsAtRest (facts_of last.state))
+pub leaves_whole : {D : Type 0} (count moment : D → ℕ) (changes : D → Changes) (base : StoreFacts) (old last : Seen D) (result : Result (Unit {0}) CloseFault) → GoesToEnd count moment changes base old last → OnOk result (IsAtRest (facts_of last.state))
     → OnOk result (LeavesClean count changes old last.device) → OnOk result (LeavesWhole count changes base old last.device)
 leaves_whole count moment changes base old last (Ok tt) goes rests clean = λ w has image left.
     let f = facts_of old.state in

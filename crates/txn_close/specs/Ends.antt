@@ -26,7 +26,7 @@ use Rattle.txn_core.specs.Seen.{Seen}
 use Rattle.txn_close.specs.declared.fault.CloseFault.{CloseFault}
 use Rattle.txn_close.specs.declared.fault.CloseFault.TheVariants.{Fault, Unmarked}
 use Rattle.txn_close.specs.Rests.{IsAtRest, IsUnmarked, stopped_facts}
-use Rattle.txn_close.specs.Passing.{IsSpared, Goes}
+use Rattle.txn_close.specs.Passing.{IsSpared, GoesToEnd}
 
 -- why a store isn't closed: a failure of the device, or a refusal where no restart page can be made
 abbrev pub close_cause : CloseFault → Cause (Unit {0})
@@ -67,7 +67,7 @@ abbrev pub LeavesClean : {D : Type 0} → (D → ℕ) → (D → Changes) → Se
 LeavesClean count changes old device =
     (w : StoreWindow) → HasWindow (changes old.device) (facts_of old.state) w → (image : List (List ℕ)) → MayLeaveNow (count device) (changes device) image → IsLeftClean (facts_of old.state).place (sector_of image)
 
--- The log of a drained store was marked clean, which gave the device back: this was the store just before.
+-- The log of a drained store was marked clean, which gave the device back: this was the store just before, which ends.
 pub record MarksClean {D : Type 0} (gives : D → Option (List (List ℕ))) (count moment : D → ℕ) (changes : D → Changes) (store : Seen D) (result : Result (Unit {0}) CloseFault) (device : D) : Type 0 where
   pub last : Seen D
   pub gave : last.device ≡ device
@@ -75,7 +75,7 @@ pub record MarksClean {D : Type 0} (gives : D → Option (List (List ℕ))) (cou
   pub clean : OnOk result (EndsClean gives changes moment last)
   pub leaves : OnOk result (LeavesClean count changes store last.device)
   pub unmarked : IfErr result (λ fault. fault ≡ Unmarked → IsUnmarked (facts_of last.state))
-  pub goes : Goes count moment changes (facts_of store.state) store last
+  pub goes : GoesToEnd count moment changes (facts_of store.state) store last
 
 -- The image is of a clean log, and recovery of it, by no entries, leaves each known block that was spared as it is after all commits of this window.
 pub record IsLeftWhole (base f : StoreFacts) (w : StoreWindow) (image : SectorBytes) : Type 0 where
@@ -86,7 +86,7 @@ abbrev pub LeavesWhole : {D : Type 0} → (D → ℕ) → (D → Changes) → St
 LeavesWhole count changes base old device =
     (w : StoreWindow) → HasWindow (changes old.device) (facts_of old.state) w → (image : List (List ℕ)) → MayLeaveNow (count device) (changes device) image → IsLeftWhole base (facts_of old.state) w (sector_of image)
 
--- A store was closed, which gave the device back: this was the store just before.
+-- A store was closed, which gave the device back: this was the store just before, which ends.
 pub record Closes {D : Type 0} (gives : D → Option (List (List ℕ))) (count moment : D → ℕ) (changes : D → Changes) (store : Seen D) (result : Result (Unit {0}) CloseFault) (device : D) : Type 0 where
   pub last : Seen D
   pub gave : last.device ≡ device
@@ -94,4 +94,4 @@ pub record Closes {D : Type 0} (gives : D → Option (List (List ℕ))) (count m
   pub clean : OnOk result (EndsClean gives changes moment last)
   pub leaves : OnOk result (LeavesWhole count changes (stopped_facts (facts_of store.state)) store last.device)
   pub unmarked : IfErr result (λ fault. fault ≡ Unmarked → IsUnmarked (facts_of last.state))
-  pub goes : Goes count moment changes (stopped_facts (facts_of store.state)) store last
+  pub goes : GoesToEnd count moment changes (stopped_facts (facts_of store.state)) store last

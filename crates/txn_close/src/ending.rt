@@ -3,10 +3,10 @@ ghost use Rattle.std.specs.Prelude.{◌≡◌, ◌↔◌, OnOk, IfErr, IsSome, t
 ghost use Rattle.device_view.specs.Devices.{CountsOnDevice};
 ghost use Rattle.txn_model.specs.Calls.{named_facts, synced_facts};
 ghost use Rattle.txn_state.specs.States.{facts_of};
-ghost use Rattle.txn_core.specs.Turns.{HasNext};
+ghost use Rattle.txn_core.specs.Turns.{HasNext, IsLast};
 ghost use Rattle.txn_close.specs.declared.fault.CloseFault.TheVariants.{Fault, Unmarked};
 ghost use Rattle.txn_close.specs.Rests.{IsDrained, IsUnmarked};
-ghost use Rattle.txn_close.specs.Passing.{Goes};
+ghost use Rattle.txn_close.specs.Passing.{Goes, EndsFurther};
 ghost use Rattle.txn_close.specs.Ends.{close_cause, EndsBy, MarksClean};
 
 use crate::fault::CloseFault;
@@ -62,11 +62,12 @@ fn end_last<D: Device>(closing: &mut Closing<D>) -> Result<(), CloseFault>
     requires drained { IsDrained (facts_of closing.old.state) }
     requires begun { IsSome closing.old.state.noted }
     requires next { HasNext closing.old.state.log }
+    requires last { IsLast (facts_of closing.old.state) }
     ensures facts { OnOk result (facts_of closing.new.state ≡ synced_facts (named_facts (unwrap_or closing.old.state.noted 0) (facts_of closing.old.state))) }
     ensures ends { OnOk result (EndsBy D.gives D.changes_of D.moment_of (facts_of closing.old.state) closing.old.device closing.new.device) }
     ensures fault { IfErr result (λ fault. fault ≡ Fault) }
     ensures cause { CountsOnDevice close_cause (D.fault_count closing.old.device) (D.fault_count closing.new.device) (D.moment_of closing.new.device) result }
-    ensures goes { Goes D.sector_count D.moment_of D.changes_of (facts_of closing.old.state) closing.old closing.new }
+    ensures goes { EndsFurther D.sector_count D.moment_of D.changes_of (facts_of closing.old.state) closing.old closing.new }
 {
     closing.write_restart()?;
     closing.sync_device()?;

@@ -1,5 +1,5 @@
 -- What each call does to a store's window.
-use Rattle.std.proofs.Common.{◌≡◌, subst, ℕ, ◌<◌, true, false, List, Option, Some, None, Result, Ok, Err, refl, sym, ap}
+use Rattle.std.proofs.Common.{◌≡◌, subst, ℕ, ◌<◌, Bool, true, false, List, Option, Some, None, Result, Ok, Err, refl, sym, ap}
 use Rattle.std.specs.Prelude.{IfSome}
 use Rattle.host_base.specs.declared.outside.Failed.{Failed}
 use Rattle.fixup_record.specs.Protecting.{protected_bytes}
@@ -12,7 +12,7 @@ use Rattle.log_model.specs.declared.entry.Act.TheVariants.{Commit}
 use Rattle.txn_model.specs.Pieces.{next_entry}
 use Rattle.txn_model.specs.Appending.{MayAppend}
 use Rattle.txn_model.specs.Calls.{begun_facts, committed_facts, given_up_facts, sealed_facts}
-use Rattle.txn_laws.specs.Windows.{Simulates, AfterBegin, AfterCommit, AfterGiveUp, AfterWrite}
+use Rattle.txn_laws.specs.Windows.{SimulatesAs, Simulates, AfterBegin, AfterCommit, AfterGiveUp, AfterWrite}
 use Rattle.txn_laws.proofs.Telling.{in_memory, by_read, sync_fails}
 use Rattle.txn_laws.proofs.Memory.{begins, seals_page, gives_up}
 use Rattle.txn_laws.proofs.Commits.{commits_now}
@@ -42,8 +42,8 @@ failing fault = Err fault
 same_check : (f : StoreFacts) (now : Option ℕ) → now ≡ f.log.check → record f { log = record f.log { check = now } } ≡ f
 same_check f now e = ap (λ (o : Option ℕ). record f { log = record f.log { check = o } }) e
 
-pub asked_step : {D : Type 0} (gives : D → Option (List (List ℕ))) (changes : D → Changes) (moment : D → ℕ) (count : ℕ) (f : StoreFacts) (old new : D)
-    → IsAsked gives changes moment old new → Simulates count (moment old) (changes old) (changes new) f f AfterWrite
+pub asked_step : {ends : Bool} {D : Type 0} (gives : D → Option (List (List ℕ))) (changes : D → Changes) (moment : D → ℕ) (count : ℕ) (f : StoreFacts) (old new : D)
+    → IsAsked gives changes moment old new → SimulatesAs ends count (moment old) (changes old) (changes new) f f AfterWrite
 asked_step gives changes moment count f old new asked = by_read count (moment old) (changes old) (changes new) f AfterWrite (λ w. record { same = refl }) asked.unchanged
 
 page_failed : {D : Type 0} (gives : D → Option (List (List ℕ))) (changes : D → Changes) (moment : D → ℕ) (count : ℕ) (f : StoreFacts) (fault : Failed) (now : Option ℕ) (old new : D)
@@ -64,8 +64,8 @@ page_step gives changes moment count f (Err fault) now old new sees sized lt sen
 
 -- ---- syncs
 
-pub sync_step : {D : Type 0} (changes : D → Changes) (moment : D → ℕ) (count : ℕ) (f : StoreFacts) (result : Result (Unit {0}) Failed) (old new : D)
+pub sync_step : {ends : Bool} {D : Type 0} (changes : D → Changes) (moment : D → ℕ) (count : ℕ) (f : StoreFacts) (result : Result (Unit {0}) Failed) (old new : D)
     → IfSome (changes new).disk IsSized → Syncs (moment old) result (changes old) (changes new)
-    → Simulates count (moment old) (changes old) (changes new) f (sync_facts result f) (AfterSync result f)
+    → SimulatesAs ends count (moment old) (changes old) (changes new) f (sync_facts result f) (AfterSync result f)
 sync_step changes moment count f (Ok tt) old new sized syncs = is_synced changes moment count f old new sized syncs
 sync_step changes moment count f (Err fault) old new sized syncs = sync_fails count (moment old) fault (changes old) (changes new) f syncs

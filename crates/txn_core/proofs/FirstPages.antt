@@ -80,7 +80,7 @@ opens_then gives changes moment place lies lap restart opens oldest old new is s
     let mid = known_before_sync _ _ (changes named.mid) (changes new) named.syncs disk known in
     let first = known_before_write _ _ _ _ (changes old) (changes named.mid) named.sends.sends.writes mid.0 mid.1 in
     let on : OpensOn place lap restart opens first.0 = subst (λ (o : Option Disk). IfSome o (OpensOn place lap restart opens)) first.1 may in
-    opens_log gives changes moment place found lap restart opens on.ring on.restarts on.fields first.0 false named.word old named.mid new first.1 sees sized on.stands
+    opens_log gives changes moment place found lap restart opens on.ring on.restarts on.fields first.0 named.word old named.mid new first.1 sees sized on.stands
     (named_first place lies lap restart opens oldest first.0 on is small laps few)
     (subst (λ (n : ℕ). SendsRestart gives changes moment (new_area place lap restart opens) n false named.word (Ok tt) old named.mid) is named.sends) named.syncs
 

@@ -12,31 +12,31 @@ use Rattle.block_pool.specs.Pools.{held}
 use Rattle.txn_model.specs.Values.{StoreFacts}
 use Rattle.txn_model.specs.Calls.{given_up_facts, is_buried, written_facts, synced_facts}
 use Rattle.txn_state.specs.States.{StateOf, facts_of, IsStore}
-use Rattle.txn_laws.specs.Windows.{HasMachine, Simulates}
-use Rattle.txn_laws.proofs.Telling.{keeps}
+use Rattle.txn_laws.specs.Windows.{HasMachineAs, SimulatesAs}
+use Rattle.txn_laws.proofs.Telling.{keeps, machine_ends}
 use Rattle.device_blocks.specs.declared.word.CheckWord.{CheckWord}
 use Rattle.device_blocks.specs.Words.{IsFitWord}
 use Rattle.txn_core.specs.Kept.{IsKept}
 use Rattle.txn_core.specs.Calls.{page_facts, sync_facts}
-use Rattle.txn_core.specs.Seen.{Seen, StandsOn, TakesStep}
+use Rattle.txn_core.specs.Seen.{Seen, StandsOnAs, StandsOn, EndsOn, TakesStepAs}
 
 -- ---- from the fields to what contracts see
 
-pub step_of : {D : Type 0} (count moment : D → ℕ) (changes : D → Changes) (After : Seen D → StoreWindow → StoreWindow → Type 0) (old seen new : Seen D) (g : StoreFacts) → old ≡ seen → facts_of new.state ≡ g
-    → Simulates (count old.device) (moment old.device) (changes old.device) (changes new.device) (facts_of old.state) g (After old) → TakesStep count moment changes (After seen) seen new
-step_of {D} count moment changes After old seen new g is facts step =
-    subst (λ (s : Seen D). TakesStep count moment changes (After s) s new) is
-    (subst (λ (h : StoreFacts). Simulates (count old.device) (moment old.device) (changes old.device) (changes new.device) (facts_of old.state) h (After old)) (sym facts) step)
+pub step_of : {ends : Bool} {D : Type 0} (count moment : D → ℕ) (changes : D → Changes) (After : Seen D → StoreWindow → StoreWindow → Type 0) (old seen new : Seen D) (g : StoreFacts) → old ≡ seen → facts_of new.state ≡ g
+    → SimulatesAs ends (count old.device) (moment old.device) (changes old.device) (changes new.device) (facts_of old.state) g (After old) → TakesStepAs ends count moment changes (After seen) seen new
+step_of {ends} {D} count moment changes After old seen new g is facts step =
+    subst (λ (s : Seen D). TakesStepAs ends count moment changes (After s) s new) is
+    (subst (λ (h : StoreFacts). SimulatesAs ends (count old.device) (moment old.device) (changes old.device) (changes new.device) (facts_of old.state) h (After old)) (sym facts) step)
 
 pub facts_seen : {D : Type 0} (after : StoreFacts → StoreFacts) (old seen : Seen D) (new : StateOf) → old ≡ seen → facts_of new ≡ after (facts_of old.state) → facts_of new ≡ after (facts_of seen.state)
 facts_seen {D} after old seen new is facts = facts ∙ ap (λ (s : Seen D). after (facts_of s.state)) is
 
 -- ---- what is always so
 
-pub stands_after : (count later moment : ℕ) (old now : Changes) (before after : StateOf) (words left : List (Block × CheckWord)) (g : StoreFacts) (After : StoreWindow → StoreWindow → Type 0)
-    → later ≡ count → StandsOn count old before words → facts_of after ≡ g → Simulates count moment old now (facts_of before) g After → IsKept g
-    → ((b : Block) → is_some (g.body b) ≡ true → is_some (held left b) ≡ true) → ((b : Block) → IfSome (held left b) IsFitWord) → StandsOn later now after left
-stands_after count later moment old now before after words left g After same stands facts step kept worded fit =
+pub stands_after : {ends : Bool} (count later moment : ℕ) (old now : Changes) (before after : StateOf) (words left : List (Block × CheckWord)) (g : StoreFacts) (After : StoreWindow → StoreWindow → Type 0)
+    → later ≡ count → StandsOnAs ends count old before words → facts_of after ≡ g → SimulatesAs ends count moment old now (facts_of before) g After → IsKept g
+    → ((b : Block) → is_some (g.body b) ≡ true → is_some (held left b) ≡ true) → ((b : Block) → IfSome (held left b) IsFitWord) → StandsOnAs ends later now after left
+stands_after {ends} count later moment old now before after words left g After same stands facts step kept worded fit =
     let device : (facts_of after).place.device ≡ (facts_of before).place.device = ap (λ (f : StoreFacts). f.place.device) facts ∙ ap (λ (p : LogPlace). p.device) step.place in
     let inside = stands.place in
     record {
@@ -44,7 +44,7 @@ stands_after count later moment old now before after words left g After same sta
       kept = subst IsKept (sym facts) kept;
       worded = λ b h. worded b (ap (λ (f : StoreFacts). is_some (f.body b)) (sym facts) ∙ h);
       fit = fit;
-      machine = subst (λ (f : StoreFacts). HasMachine now f) (sym facts) (keeps count moment old now (facts_of before) g After step stands.machine);
+      machine = subst (λ (f : StoreFacts). HasMachineAs ends now f) (sym facts) (keeps count moment old now (facts_of before) g After step stands.machine);
     }
 
 -- a give-up brings back bodies of blocks that have one
@@ -84,5 +84,9 @@ read_stands count later old now state words same unchanged stands = record {
   kept = stands.kept;
   worded = stands.worded;
   fit = stands.fit;
-  machine = subst (λ (c : Changes). HasMachine c (facts_of state)) (sym unchanged) stands.machine;
+  machine = subst (λ (c : Changes). HasMachineAs false c (facts_of state)) (sym unchanged) stands.machine;
 }
+
+-- a store that goes on is one that ends
+pub stands_ends : (count : ℕ) (changes : Changes) (state : StateOf) (words : List (Block × CheckWord)) → StandsOn count changes state words → EndsOn count changes state words
+stands_ends count changes state words stands = record { place = stands.place; kept = stands.kept; worded = stands.worded; fit = stands.fit; machine = machine_ends changes (facts_of state) stands.machine }

@@ -18,15 +18,16 @@ use Rattle.ring_laws.proofs.Numbering.{says_lap, says_page, says_ring}
 use Rattle.txn_model.specs.Values.{StoreFacts}
 use Rattle.txn_model.specs.Calls.{noted_facts, front_lsn}
 use Rattle.txn_state.specs.States.{StateOf, facts_of, IsStore}
-use Rattle.txn_laws.specs.Windows.{Simulates, AfterWrite}
-use Rattle.txn_laws.specs.Laws.{MayEndCheckpoint}
+use Rattle.txn_laws.specs.Windows.{SimulatesAs, Simulates, AfterWrite}
+use Rattle.txn_model.specs.Told.{pages_end}
+use Rattle.txn_laws.specs.Laws.{MayEndCheckpoint, MayClose}
 use Rattle.txn_laws.proofs.Telling.{in_memory}
 use Rattle.txn_laws.proofs.Noting.{notes}
 use Rattle.txn_laws.proofs.Naming.{names_page, fails_to_name}
 use Rattle.txn_core.specs.declared.telling.Telling.{Telling}
 use Rattle.txn_core.specs.Kept.{IsKept}
 use Rattle.txn_core.specs.Tells.{TellsFront, LeavesOpen, IsTold}
-use Rattle.txn_core.specs.Turns.{MayRestart, restart_page, restart_facts}
+use Rattle.txn_core.specs.Turns.{MayRestart, IsLast, restart_page, restart_facts}
 use Rattle.txn_core.proofs.Calling.{asked_step}
 use Rattle.txn_core.proofs.Tellings.{named_front, sent_front}
 
@@ -125,6 +126,10 @@ module _ (f : StoreFacts) (kept : IsKept f) (store : IsStore f) (may : MayRestar
       by_fit true = omega arith
       by_fit false = omega arith
 
+  -- a store ends by a page that says so, where no page stands from the noted one on
+  pub may_close : (clean : Bool) → (clean ≡ true → IsLast f) → MayClose clean f named clean
+  may_close clean last is = (is, subst (λ (o : Option ℕ). IfSome o (λ page. pages_end f ≤ page)) noted_is (last is))
+
   module _ (front : ℕ) (told : TellsFront f.log f.noted front) where
     pub front_is : front ≡ lsn
     front_is = (subst (λ (o : Option ℕ). IfSome o (λ n. lap_at f.log n < 2 ^ sequence_bits f.log.pages → front ≡ front_lsn f.log n)) noted_is told.page) own_lap
@@ -175,24 +180,24 @@ none_word : (o : Option SentRestart) → sent_word o ≡ None → o ≡ None
 none_word (Some x) e = absurd cc
 none_word None e = refl
 
-restart_failed : {D : Type 0} (gives : D → Option (List (List ℕ))) (changes : D → Changes) (moment : D → ℕ) (count page : ℕ) (clean : Bool) (f : StoreFacts) (fault : Failed) (now : Option SentRestart) (old new : D)
-    → SeesDisk (gives old) (changes old).disk → IfSome (changes new).disk IsSized → MayEndCheckpoint f page → IfSome now (λ x. x.page ≡ page_to_send f.log (front_lsn f.log page) clean)
+restart_failed : {D : Type 0} (gives : D → Option (List (List ℕ))) (changes : D → Changes) (moment : D → ℕ) (count page : ℕ) (ends clean : Bool) (f : StoreFacts) (fault : Failed) (now : Option SentRestart) (old new : D)
+    → SeesDisk (gives old) (changes old).disk → IfSome (changes new).disk IsSized → MayEndCheckpoint f page → MayClose ends f page clean → IfSome now (λ x. x.page ≡ page_to_send f.log (front_lsn f.log page) clean)
     → SentOrAsked gives changes moment (sent_word f.log.sent) (restart_sector f.log) (protected_bytes (restart_spelling (page_to_send f.log (front_lsn f.log page) clean))) (failing fault) old new (sent_word now)
-    → Simulates count (moment old) (changes old) (changes new) f (record f { log = record f.log { sent = now } }) AfterWrite
-restart_failed gives changes moment count page clean f fault (Some x) old new sees sized may made sent =
-    subst (λ (o : Option SentRestart). Simulates count (moment old) (changes old) (changes new) f (record f { log = record f.log { sent = o } }) AfterWrite) (ap (λ (y : SentRestart). Some y) (sym (sent_made (page_to_send f.log (front_lsn f.log page) clean) x made)))
-    (fails_to_name gives changes moment count page x.check clean f old new sees sized may fault sent)
-restart_failed gives changes moment count page clean f fault None old new sees sized may made asked =
-    subst (λ (o : Option SentRestart). Simulates count (moment old) (changes old) (changes new) f (record f { log = record f.log { sent = o } }) AfterWrite) (none_word f.log.sent asked.0) (asked_step gives changes moment count f old new asked.1)
+    → SimulatesAs ends count (moment old) (changes old) (changes new) f (record f { log = record f.log { sent = now } }) AfterWrite
+restart_failed gives changes moment count page ends clean f fault (Some x) old new sees sized may close made sent =
+    subst (λ (o : Option SentRestart). SimulatesAs ends count (moment old) (changes old) (changes new) f (record f { log = record f.log { sent = o } }) AfterWrite) (ap (λ (y : SentRestart). Some y) (sym (sent_made (page_to_send f.log (front_lsn f.log page) clean) x made)))
+    (fails_to_name gives changes moment count page x.check ends clean f old new sees sized may close fault sent)
+restart_failed gives changes moment count page ends clean f fault None old new sees sized may close made asked =
+    subst (λ (o : Option SentRestart). SimulatesAs ends count (moment old) (changes old) (changes new) f (record f { log = record f.log { sent = o } }) AfterWrite) (none_word f.log.sent asked.0) (asked_step gives changes moment count f old new asked.1)
 
-pub restart_step : {D : Type 0} (gives : D → Option (List (List ℕ))) (changes : D → Changes) (moment : D → ℕ) (count page : ℕ) (clean : Bool) (f : StoreFacts) (result : Result (Unit {0}) Failed) (now : Option SentRestart) (old new : D)
-    → SeesDisk (gives old) (changes old).disk → IfSome (changes new).disk IsSized → MayEndCheckpoint f page → unwrap_or f.noted 0 ≡ page → OnErr result (IfSome now (λ x. x.page ≡ restart_page clean f))
+pub restart_step : {D : Type 0} (gives : D → Option (List (List ℕ))) (changes : D → Changes) (moment : D → ℕ) (count page : ℕ) (ends clean : Bool) (f : StoreFacts) (result : Result (Unit {0}) Failed) (now : Option SentRestart) (old new : D)
+    → SeesDisk (gives old) (changes old).disk → IfSome (changes new).disk IsSized → MayEndCheckpoint f page → MayClose ends f page clean → unwrap_or f.noted 0 ≡ page → OnErr result (IfSome now (λ x. x.page ≡ restart_page clean f))
     → IsSentOrNot gives changes moment (sent_word f.log.sent) (sent_word now) (restart_sector f.log) (protected_bytes (restart_spelling (restart_page clean f))) result old new
-    → Simulates count (moment old) (changes old) (changes new) f (restart_facts result now f) AfterWrite
-restart_step gives changes moment count page clean f (Ok tt) now old new sees sized may is made sent =
-    names_page gives changes moment count (unwrap_or f.noted 0) sent.sent.0 clean f old new sees sized (subst (λ (n : ℕ). MayEndCheckpoint f n) (sym is) may) sent.sent.1
-restart_step gives changes moment count page clean f (Err fault) now old new sees sized may is made sent =
-    restart_failed gives changes moment count (unwrap_or f.noted 0) clean f fault now old new sees sized (subst (λ (n : ℕ). MayEndCheckpoint f n) (sym is) may) made sent.failed
+    → SimulatesAs ends count (moment old) (changes old) (changes new) f (restart_facts result now f) AfterWrite
+restart_step gives changes moment count page ends clean f (Ok tt) now old new sees sized may close is made sent =
+    names_page gives changes moment count (unwrap_or f.noted 0) sent.sent.0 ends clean f old new sees sized (subst (λ (n : ℕ). MayEndCheckpoint f n) (sym is) may) (subst (λ (n : ℕ). MayClose ends f n clean) (sym is) close) sent.sent.1
+restart_step gives changes moment count page ends clean f (Err fault) now old new sees sized may close is made sent =
+    restart_failed gives changes moment count (unwrap_or f.noted 0) ends clean f fault now old new sees sized (subst (λ (n : ℕ). MayEndCheckpoint f n) (sym is) may) (subst (λ (n : ℕ). MayClose ends f n clean) (sym is) close) made sent.failed
 
 -- ---- what a store tells behind it
 

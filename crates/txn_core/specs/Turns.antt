@@ -1,5 +1,5 @@
 -- The steps of a store.
-use Rattle.std.specs.Prelude.{ℕ, ◌-◌, ◌^◌, ◌<◌, Bool, List, Option, unwrap_or, Result, Ok, Err}
+use Rattle.std.specs.Prelude.{ℕ, ◌-◌, ◌^◌, ◌<◌, ◌≤◌, Bool, List, Option, unwrap_or, IfSome, Result, Ok, Err}
 use Rattle.host_base.specs.declared.outside.Failed.{Failed}
 use Rattle.fixup_record.specs.Protecting.{protected_bytes}
 use Rattle.sector_device.specs.Moments.{Changes}
@@ -11,6 +11,7 @@ use Rattle.log_area.specs.Areas.{LogAreaOf, lap_at, next_number, restart_sector,
 use Rattle.log_area.specs.Calls.{IsSentOrNot}
 use Rattle.txn_model.specs.Values.{StoreFacts}
 use Rattle.txn_model.specs.Calls.{MayNameNoted, front_lsn, named_facts}
+use Rattle.txn_model.specs.Told.{pages_end}
 
 -- a restart page can be made: there is a lap for the least entry, and its count of opens isn't at its type's end
 pub record HasNext (a : LogAreaOf) : Type 0 where
@@ -20,6 +21,10 @@ pub record HasNext (a : LogAreaOf) : Type 0 where
 -- the checkpoint that has begun may end by a restart page
 abbrev pub MayRestart : StoreFacts → Type 0
 MayRestart f = ((page : ℕ) × MayNameNoted f page) × HasNext f.log
+
+-- no page of entries stands from the noted one on
+abbrev pub IsLast : StoreFacts → Type 0
+IsLast f = IfSome f.noted (λ page. pages_end f ≤ page)
 
 -- the restart page that ends a checkpoint: the one that was sent already, or else one that names the noted page
 abbrev pub restart_page : Bool → StoreFacts → Restart

@@ -1,15 +1,15 @@
 //! Checkpoints begin and end.
-ghost use Rattle.std.specs.Prelude.{◌≡◌, ◌≤◌, None, OnErr, IfSome, false, List};
+ghost use Rattle.std.specs.Prelude.{◌≡◌, ◌≤◌, None, OnErr, IfSome, true, false, List};
 ghost use Rattle.disk_model.specs.declared.block.Block.{Block};
 ghost use Rattle.host_base.specs.Causes.{FailsByCause};
 ghost use Rattle.device_blocks.specs.declared.word.CheckWord.{CheckWord};
 ghost use Rattle.txn_model.specs.Calls.{noted_facts};
 ghost use Rattle.txn_state.specs.States.{facts_of};
-ghost use Rattle.txn_laws.specs.Windows.{Simulates, AfterWrite};
+ghost use Rattle.txn_laws.specs.Windows.{SimulatesAs, AfterWrite};
 ghost use Rattle.txn_core.specs.Kept.{IsKept};
-ghost use Rattle.txn_core.specs.Seen.{StandsOn, TakesStep};
+ghost use Rattle.txn_core.specs.Seen.{StandsOnAs, TakesStep};
 ghost use Rattle.txn_core.specs.Tells.{TellsFront};
-ghost use Rattle.txn_core.specs.Turns.{MayRestart, restart_page, restart_facts, SendsRestartPage};
+ghost use Rattle.txn_core.specs.Turns.{MayRestart, IsLast, restart_page, restart_facts, SendsRestartPage};
 
 use crate::store::Store;
 use host_base::Failed;
@@ -29,7 +29,7 @@ fn flag_of(state: &StoreState, clean: bool) -> bool
 
 // Writes the restart page that names the place which a checkpoint noted, whose LSN is `front`, with
 // this flag that the log is closed; a page that was sent already goes out again, with the flag that
-// it had.
+// it had. A store ends by a page with the flag, and goes on behind one without it.
 pub(crate) fn send_restart<D: Device>(
     device: &mut D,
     state: &mut StoreState,
@@ -40,13 +40,14 @@ pub(crate) fn send_restart<D: Device>(
     requires kept { IsKept (facts_of state.old) }
     requires front { TellsFront state.old.log state.old.noted front }
     requires may { MayRestart (facts_of state.old) }
+    requires last { clean ≡ true → IsLast (facts_of state.old) }
     ensures facts { facts_of state.new ≡ restart_facts result state.new.log.sent (facts_of state.old) }
     ensures page { OnErr result (IfSome state.new.log.sent (λ s. s.page ≡ restart_page clean (facts_of state.old))) }
     ensures sent { SendsRestartPage D.gives D.changes_of D.moment_of clean (facts_of state.old) (facts_of state.new) result device.old device.new }
     ensures sectors { D.sector_count device.new ≡ D.sector_count device.old }
     ensures cause { FailsByCause (D.fault_count device.old) (D.fault_count device.new) (D.moment_of device.new) result }
-    ensures step { Simulates (D.sector_count device.old) (D.moment_of device.old) (D.changes_of device.old) (D.changes_of device.new) (facts_of state.old) (facts_of state.new) AfterWrite }
-    ensures stands { (words : List (Block × CheckWord)) → StandsOn (D.sector_count device.old) (D.changes_of device.old) state.old words → StandsOn (D.sector_count device.new) (D.changes_of device.new) state.new words }
+    ensures step { SimulatesAs clean (D.sector_count device.old) (D.moment_of device.old) (D.changes_of device.old) (D.changes_of device.new) (facts_of state.old) (facts_of state.new) AfterWrite }
+    ensures stands { (words : List (Block × CheckWord)) → StandsOnAs clean (D.sector_count device.old) (D.changes_of device.old) state.old words → StandsOnAs clean (D.sector_count device.new) (D.changes_of device.new) state.new words }
     ensures names { TellsFront state.new.log state.new.noted front }
 {
     state.known();

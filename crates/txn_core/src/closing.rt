@@ -5,8 +5,8 @@ ghost use Rattle.sector_device.specs.Moments.{moment_after, Syncs};
 ghost use Rattle.txn_state.specs.States.{facts_of};
 ghost use Rattle.txn_laws.specs.Windows.{AfterWrite};
 ghost use Rattle.txn_core.specs.Calls.{sync_facts, AfterSync};
-ghost use Rattle.txn_core.specs.Seen.{TakesStep};
-ghost use Rattle.txn_core.specs.Turns.{MayRestart, restart_page, restart_facts, SendsRestartPage};
+ghost use Rattle.txn_core.specs.Seen.{TakesEndStep};
+ghost use Rattle.txn_core.specs.Turns.{MayRestart, IsLast, restart_page, restart_facts, SendsRestartPage};
 
 use crate::checkpoints::send_restart;
 use crate::store::Store;
@@ -29,14 +29,14 @@ pub struct Closing<D: Device> {
 }
 
 impl<D: Device> Model for Closing<D> {
-    ghost use Rattle.txn_core.specs.Seen.{Seen, StandsOn};
+    ghost use Rattle.txn_core.specs.Seen.{Seen, EndsOn};
     ghost use Rattle.txn_core.specs.Tells.{TellsFront};
 
     ghost Value = { Seen D };
 
     ghost view = { λ s. record { device = s.device; state = s.state; words = s.words } };
 
-    ghost invariant = { λ s. StandsOn (D.sector_count s.device) (D.changes_of s.device) s.state s.words × TellsFront s.state.log s.state.noted s.front };
+    ghost invariant = { λ s. EndsOn (D.sector_count s.device) (D.changes_of s.device) s.state s.words × TellsFront s.state.log s.state.noted s.front };
 }
 
 impl<D: Device> Store<D> {
@@ -62,20 +62,22 @@ impl<D: Device> Store<D> {
 impl<D: Device> Closing<D> {
     /// Writes the restart page that names the place which a checkpoint noted, and says that the log
     /// is closed: nothing that it noted is still to be written out or synced, the pages sealed
-    /// before it are durable, and no restart page was written since the last sync. A page that was
-    /// sent already goes out again, with the same bytes.
+    /// before it are durable, no restart page was written since the last sync, and no entry stands
+    /// behind that place, since recovery reads none there. A page that was sent already goes out
+    /// again, with the same bytes.
     ///
     /// The error is a failure of the device: then any sectors of the page may stand, and the
     /// checkpoint hasn't ended. At most two calls of the device.
     pub fn write_restart(&mut self) -> Result<(), Failed>
         requires may { MayRestart (facts_of self.old.state) }
+        requires last { IsLast (facts_of self.old.state) }
         ensures facts { facts_of self.new.state ≡ restart_facts result self.new.state.log.sent (facts_of self.old.state) }
         ensures page { OnErr result (IfSome self.new.state.log.sent (λ s. s.page ≡ restart_page true (facts_of self.old.state))) }
         ensures sent { SendsRestartPage D.gives D.changes_of D.moment_of true (facts_of self.old.state) (facts_of self.new.state) result self.old.device self.new.device }
         ensures words { self.new.words ≡ self.old.words }
         ensures sectors { D.sector_count self.new.device ≡ D.sector_count self.old.device }
         ensures cause { FailsByCause (D.fault_count self.old.device) (D.fault_count self.new.device) (D.moment_of self.new.device) result }
-        ensures step { TakesStep D.sector_count D.moment_of D.changes_of AfterWrite self.old self.new }
+        ensures step { TakesEndStep D.sector_count D.moment_of D.changes_of AfterWrite self.old self.new }
     {
         send_restart(&mut self.device, &mut self.state, self.front, true)
     }
@@ -92,7 +94,7 @@ impl<D: Device> Closing<D> {
         ensures words { self.new.words ≡ self.old.words }
         ensures sectors { D.sector_count self.new.device ≡ D.sector_count self.old.device }
         ensures cause { FailsByCause (D.fault_count self.old.device) (D.fault_count self.new.device) (D.moment_of self.new.device) result }
-        ensures step { TakesStep D.sector_count D.moment_of D.changes_of (AfterSync result (facts_of self.old.state)) self.old self.new }
+        ensures step { TakesEndStep D.sector_count D.moment_of D.changes_of (AfterSync result (facts_of self.old.state)) self.old self.new }
     {
         self.state.sync(&mut self.device)
     }

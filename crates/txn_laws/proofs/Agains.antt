@@ -91,6 +91,7 @@ module _ (f : StoreFacts) (disk : Disk) (m : Store) (b : Block) (x : Body) (kept
     same = refl;
     sized = sized;
     own_pages = h.own_pages;
+    closes = h.closes;
     placed = h.placed;
     sound = sound-step h.geometry m (n now) (write_again (disk_without (own_of f) now) (as_before now between)) h.sound;
     window = h.window;
@@ -175,6 +176,7 @@ module _ (f : StoreFacts) (disk : Disk) (m : Store) (b : Block) (x : Body) (kept
         same = refl;
         sized = sized;
         own_pages = h.own_pages;
+        closes = h.closes;
         placed = h.placed;
         sound = sound-step h.geometry m (n now) (write_again (disk_without (own_of f) now) (as_before now between)) h.sound;
         window = record {

@@ -43,7 +43,8 @@ use Rattle.txn_model.specs.Values.{StoreFacts, own_of}
 use Rattle.txn_model.specs.Pieces.{Piece, logged_pieces, update_of_piece, entries_of}
 use Rattle.txn_model.specs.Calls.{body_before, changed_mark, rival_mark, change_acts, changed_facts}
 use Rattle.txn_model.specs.Appending.{MayAppendAll}
-use Rattle.txn_laws.specs.Standing.{HasBytes, IsMarked, IsImaged, IsKilled, StandsBehind, session_of, numbers_of}
+use Rattle.log_area.specs.declared.restart.SentRestart.{SentRestart}
+use Rattle.txn_laws.specs.Standing.{HasBytes, IsMarked, IsImaged, IsKilled, CloseNone, StandsBehindAs, StandsBehind, session_of, numbers_of}
 use Rattle.txn_laws.specs.Windows.{Simulates, AfterChange}
 use Rattle.txn_laws.specs.Laws.{MayChangeBlock}
 use Rattle.txn_laws.proofs.Telling.{in_memory}
@@ -52,6 +53,7 @@ use Rattle.txn_laws.proofs.Memory.{undone_none}
 use Rattle.txn_laws.proofs.Growing.{all_dropped}
 use Rattle.txn_laws.proofs.Cutting.{IsPiece, cut_within, Has, cut_has, cut_some, are_changes, stays_after, gets_after, has_undo}
 use Rattle.txn_laws.proofs.Mountable.{placed_pieces}
+use Rattle.txn_laws.proofs.Closed.{goes_on, sent_with}
 use Rattle.txn_laws.proofs.Chains.{by_all, by_some, by_page, by_killed, Chained, chain}
 use Rattle.store_claims.proofs.Moving.{claims_move}
 
@@ -86,7 +88,7 @@ or_known true b is none = absurd (true≢false none)
 or_known false b is none = is
 
 -- The present body of a block: the one that is kept, or what a read gives.
-pub is_present : (f : StoreFacts) (disk : Disk) (m : Store) (h : StandsBehind f disk m) (c : Block) (present : Body) → is_known (own_of f) c ≡ true → unwrap_or (f.body c) (content_of (seen disk) c) ≡ present
+pub is_present : {ends : Bool} (f : StoreFacts) (disk : Disk) (m : Store) (h : StandsBehindAs ends f disk m) (c : Block) (present : Body) → is_known (own_of f) c ≡ true → unwrap_or (f.body c) (content_of (seen disk) c) ≡ present
     → HasBytes c (m.window.body c) (m.window.is_torn c) present
 is_present f disk m h c present known is = by_body (f.body c) refl
   where
@@ -600,6 +602,8 @@ module _ (f : StoreFacts) (disk : Disk) (m : Store) (c : Block) (at : ℕ) (new 
         same = h.same;
         sized = h.sized;
         own_pages = h.own_pages;
+        closes = subst (λ (o : Option SentRestart). CloseNone false o h.restarts h.fields (length chained.more) (h.ring.oldest + length chained.more - h.noted)) (sym (sent_with (change_acts f c at new present) f.log f.tx f.last))
+            (goes_on f.log.sent h.restarts h.fields (length h.pages) (h.ring.oldest + length h.pages - h.noted) (length chained.more) (h.ring.oldest + length chained.more - h.noted) h.closes);
         placed = all_append (λ (x : Entry). is_misplaced f.place.clusters x.act ≡ false) m.log us h.placed (placed_pieces f.place.clusters c old after size size_after refl volume ps (are_pieces (f.mark c).imaged) f.log f.tx f.last);
         sound = sound-step h.geometry m n step h.sound;
         window = record {

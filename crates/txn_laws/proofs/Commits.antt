@@ -31,6 +31,7 @@ use Rattle.txn_laws.proofs.Mountable.{commit_placed}
 use Rattle.txn_laws.specs.Standing.{IsMarked, IsImaged, IsKilled, TellsEnds, StandsBehind, session_of}
 use Rattle.txn_laws.specs.Windows.{AfterCommit}
 use Rattle.txn_laws.proofs.Growing.{Grows, pages_grow, placed}
+use Rattle.txn_laws.proofs.Closed.{goes_on}
 use Rattle.txn_laws.proofs.Appended.{still_some, on_page, still_killed, stands_more, holds_more, ends_more}
 use Rattle.store_claims.proofs.Moving.{claims_move}
 
@@ -128,6 +129,7 @@ module _ (f : StoreFacts) (disk : Disk) (m : Store) (opened : f.is_open ≡ true
         same = h.same;
         sized = h.sized;
         own_pages = h.own_pages;
+        closes = goes_on f.log.sent h.restarts h.fields (length h.pages) (h.ring.oldest + length h.pages - h.noted) (length more) (h.ring.oldest + length more - h.noted) h.closes;
         placed = all_append (λ (x : Entry). is_misplaced f.place.clusters x.act ≡ false) m.log (mine ∷ []) h.placed (commit_placed f.place.clusters, tt);
         sound = sound-step h.geometry m n (commit e.lsn f.last (h.window.is_open ∙ opened)) h.sound;
         window = record {

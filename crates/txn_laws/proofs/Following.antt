@@ -52,6 +52,7 @@ recovers_since place own commits lost old new image follows x = record {
   chosen = x.chosen;
   list = x.list;
   reads = x.reads;
+  closed = x.closed;
   recovers = elim (cases_lt x.back commits) [
     | inl newer ↦ inl (x.back, newer, x.within, x.recovers)
     | inr older ↦

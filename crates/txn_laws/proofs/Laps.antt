@@ -30,8 +30,8 @@ use Rattle.area_laws.proofs.Entries.{lap_in_page}
 use Rattle.area_laws.proofs.Reading.{is_read}
 use Rattle.area_laws.proofs.Rising.{next_place}
 use Rattle.txn_model.specs.Values.{StoreFacts}
-use Rattle.txn_laws.specs.Standing.{StandsBehind, session_of}
-use Rattle.txn_laws.specs.Windows.{HasWindow, lap_behind, next_lap_in}
+use Rattle.txn_laws.specs.Standing.{StandsBehindAs, session_of}
+use Rattle.txn_laws.specs.Windows.{HasWindowAs, lap_behind, next_lap_in}
 
 -- ---- restart pages
 
@@ -96,12 +96,12 @@ lap_low a k lsn le =
 -- ---- of a store
 
 -- no page was sent behind the one that is filled
-pub sent_below : (f : StoreFacts) (disk : Disk) (m : Store) (h : StandsBehind f disk m) (c : Option ℕ) → f.log.check ≡ c → h.ring.sent ≤ f.log.sealed
+pub sent_below : {ends : Bool} (f : StoreFacts) (disk : Disk) (m : Store) (h : StandsBehindAs ends f disk m) (c : Option ℕ) → f.log.check ≡ c → h.ring.sent ≤ f.log.sealed
 sent_below f disk m h (Some word) is = omega (arith, h.stands.ring.ring.next, h.stands.ring.begun word is, h.stands.ring.done)
 sent_below f disk m h None is = omega (arith, h.stands.ring.ring.unbegun is, h.stands.ring.done, h.stands.ring.area.sealed_pages)
 
 -- a mount of an image begins the lap behind that at most
-pub next_lap_shown : (count : ℕ) (changes : Changes) (f : StoreFacts) (w : StoreWindow) (image : List (List ℕ)) → HasWindow changes f w → MayLeaveNow count changes image
+pub next_lap_shown : {ends : Bool} (count : ℕ) (changes : Changes) (f : StoreFacts) (w : StoreWindow) (image : List (List ℕ)) → HasWindowAs ends changes f w → MayLeaveNow count changes image
     → next_lap_in f.place (sector_of image) ≤ lap_behind f
 next_lap_shown count changes f w image has left =
     let may : MayLeave count has.0 image = subst (λ (o : Option Disk). IfSome o (λ d. MayLeave count d image)) has.1 left in

@@ -1,4 +1,5 @@
 pub mod Claiming
+pub mod Closed
 pub mod Telling
 pub mod Memory
 pub mod PageWrites

@@ -1,5 +1,5 @@
 -- The calls in memory: a begin, a give-up, and a page that is sealed.
-use Rattle.std.proofs.Common.{◌≡◌, subst, ℕ, suc, ◌+◌, ◌-◌, ◌*◌, ◌≤◌, Bool, true, false, cond, List, drop, Option, Some, None, refl, sym, ap, ap₂, ◌∙◌, inl, inr, arith}
+use Rattle.std.proofs.Common.{◌≡◌, subst, ℕ, suc, ◌+◌, ◌-◌, ◌*◌, ◌≤◌, Bool, true, false, cond, List, length, drop, Option, Some, None, refl, sym, ap, ap₂, ◌∙◌, inl, inr, arith}
 use Rattle.std.specs.Prelude.{◌&&◌, ◌||◌, is_some, IfSome, unwrap_or}
 use Rattle.std.specs.Option.{option_or}
 use Rattle.std.proofs.lemmas.Bool.{cases_Bool}
@@ -29,7 +29,7 @@ use Rattle.area_laws.proofs.Joined.{seals}
 use Rattle.txn_model.specs.declared.mark.Mark.{Mark}
 use Rattle.txn_model.specs.Values.{StoreFacts, own_of}
 use Rattle.txn_model.specs.Calls.{begun_facts, given_up_facts, sealed_facts}
-use Rattle.txn_laws.specs.Standing.{HasBytes, IsMarked, IsImaged, IsKilled, StandsBehind, session_of, numbers_of}
+use Rattle.txn_laws.specs.Standing.{HasBytes, IsMarked, IsImaged, IsKilled, CloseNone, StandsBehind, session_of, numbers_of}
 use Rattle.txn_laws.specs.Windows.{AfterBegin, AfterGiveUp, AfterWrite}
 use Rattle.txn_laws.proofs.Claiming.{after_beginning}
 
@@ -57,6 +57,7 @@ begins f disk m closed h = (record m { window = after_begin m.window }, stands, 
       same = h.same;
       sized = h.sized;
       own_pages = h.own_pages;
+      closes = h.closes;
       placed = h.placed;
       sound = sound-step h.geometry m (record m { window = after_begin m.window }) (begin (h.window.is_open ∙ closed)) h.sound;
       window = record { is_open = refl; tx = h.window.tx; waiting = h.window.waiting; body = h.window.body; changed = h.window.changed; before = h.window.before };
@@ -112,6 +113,7 @@ sealed_behind f disk m h = record {
   same = h.same;
   sized = h.sized;
   own_pages = h.own_pages;
+  closes = subst (λ (o : Option SentRestart). CloseNone false o h.restarts h.fields (length h.pages) (h.ring.oldest + length h.pages - h.noted)) (sym (sealed_sent f.log)) h.closes;
   placed = h.placed;
   sound = h.sound;
   window = record { is_open = h.window.is_open; tx = h.window.tx; waiting = h.window.waiting; body = h.window.body; changed = h.window.changed; before = h.window.before };
@@ -285,6 +287,7 @@ module _ (f : StoreFacts) (disk : Disk) (m : Store) (opened : f.is_open ≡ true
         same = h.same;
         sized = h.sized;
         own_pages = h.own_pages;
+        closes = h.closes;
         placed = h.placed;
         sound = sound-step h.geometry m n (give_up (h.window.is_open ∙ opened)) h.sound;
         window = record {

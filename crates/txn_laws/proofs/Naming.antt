@@ -41,9 +41,10 @@ use Rattle.area_laws.proofs.Rising.{next_place}
 use Rattle.txn_model.specs.Values.{StoreFacts, own_of}
 use Rattle.txn_model.specs.Calls.{front_lsn, MayNameNoted, named_facts, naming_facts}
 use Rattle.txn_laws.proofs.Mountable.{own_to_send, own_written, own_sent}
-use Rattle.txn_laws.specs.Standing.{StandsBehind, session_of}
-use Rattle.txn_laws.specs.Windows.{Simulates, AfterWrite}
-use Rattle.txn_laws.specs.Laws.{MayEndCheckpoint, SendsNaming}
+use Rattle.txn_laws.proofs.Closed.{closes_to_send, closes_written, closes_sent, pages_behind}
+use Rattle.txn_laws.specs.Standing.{ClosesNone, StandsBehindAs, session_of}
+use Rattle.txn_laws.specs.Windows.{SimulatesAs, AfterWrite}
+use Rattle.txn_laws.specs.Laws.{MayEndCheckpoint, MayClose, SendsNaming}
 use Rattle.txn_laws.proofs.PageWrites.{page_is_own, sends_later}
 use Rattle.txn_laws.proofs.Telling.{by_device, known_before_write, sized_of, some_is}
 use Rattle.txn_laws.proofs.Claiming.{after_step}
@@ -51,7 +52,7 @@ use Rattle.txn_laws.proofs.Claiming.{after_step}
 same_page : (a b : Restart) → ◌≡◌ {A = Option Restart} (Some a) (Some b) → a ≡ b
 same_page a b e = cc
 
-module _ (f : StoreFacts) (disk : Disk) (m : Store) (h : StandsBehind f disk m) (page : ℕ) (may : MayNameNoted f page) where
+module _ {ends : Bool} (f : StoreFacts) (disk : Disk) (m : Store) (h : StandsBehindAs ends f disk m) (page : ℕ) (may : MayNameNoted f page) where
   abbrev s : LogSession
   s = session_of f h.lap
 
@@ -141,6 +142,10 @@ module _ (f : StoreFacts) (disk : Disk) (m : Store) (h : StandsBehind f disk m) 
           ∙ subst (λ (o : Option SentRestart). IfSome o (λ y. y.page.oldest ≡ oldest)) is end.again
       by_sent None is = ap (λ (o : Option SentRestart). (page_to_send (record f.log { sent = o }) oldest clean).oldest) is
 
+  -- no page of entries stands behind it where it says that the log is closed
+  closes_page : (clean : Bool) → MayClose ends f page clean → ClosesNone ends (h.ring.oldest + length h.pages - h.noted) (page_to_send f.log oldest clean)
+  closes_page clean close = closes_to_send ends (h.ring.oldest + length h.pages - h.noted) f.log oldest clean h.closes.sent (λ is. let x = close is in (x.0, pages_behind f disk m h page x.1 page_is))
+
   -- its sectors are the log's
   same_disk : (next : Restart) (word : ℕ) (now : Disk) → IsBetween disk (put (restart_sector f.log) (sectors_of (protected_bytes (restart_spelling next) word)) disk) now → m.disk ≡ disk_without (own_of f) now
   same_disk next word now between =
@@ -160,10 +165,10 @@ module _ (f : StoreFacts) (disk : Disk) (m : Store) (h : StandsBehind f disk m) 
   abbrev n : Store
   n = record m { renamed = true; replaced = true }
 
-  named_behind : (clean : Bool) (end : MayEndCheckpoint f page) (places : PagePlaces) (told : RestartFields) (now : Disk) → told (suc h.restarts.sure) ≡ Some (page_to_send f.log oldest clean)
+  named_behind : (clean : Bool) (end : MayEndCheckpoint f page) → MayClose ends f page clean → (places : PagePlaces) (told : RestartFields) (now : Disk) → told (suc h.restarts.sure) ≡ Some (page_to_send f.log oldest clean)
       → ((i : ℕ) → i ≢ suc h.restarts.sure → told i ≡ h.fields i) → Stands s (named_area oldest f.log) h.ring (restart_written h.restarts places) h.pages told now → m.disk ≡ disk_without (own_of f) now → IsSized now
-      → StandsBehind (named_facts page f) now n
-  named_behind clean end places told now said others stands same sized = record {
+      → StandsBehindAs ends (named_facts page f) now n
+  named_behind clean end close places told now said others stands same sized = record {
     geometry = h.geometry;
     volume = h.volume;
     lap = h.lap;
@@ -202,6 +207,7 @@ module _ (f : StoreFacts) (disk : Disk) (m : Store) (h : StandsBehind f disk m) 
     same = same;
     sized = sized;
     own_pages = own_written h.restarts places h.fields told (page_to_send f.log oldest clean) h.own_pages said others (own_to_send f.log oldest clean h.stands.ring.area);
+    closes = closes_written ends f.log.sent h.restarts places h.fields told (length h.pages) (h.ring.oldest + length h.pages - h.noted) (page_to_send f.log oldest clean) h.closes said others (closes_page clean close);
     placed = h.placed;
     sound = sound-step h.geometry m n (write_restart renames) h.sound;
     window = record { is_open = h.window.is_open; tx = h.window.tx; waiting = h.window.waiting; body = h.window.body; changed = h.window.changed; before = h.window.before };
@@ -223,11 +229,11 @@ module _ (f : StoreFacts) (disk : Disk) (m : Store) (h : StandsBehind f disk m) 
   abbrev x : Store
   x = record m { renamed = true }
 
-  naming_behind : (clean : Bool) (end : MayEndCheckpoint f page) (word : ℕ) (places : PagePlaces) (told : RestartFields) (now : Disk) → told (suc h.restarts.sure) ≡ Some (page_to_send f.log oldest clean)
+  naming_behind : (clean : Bool) (end : MayEndCheckpoint f page) → MayClose ends f page clean → (word : ℕ) (places : PagePlaces) (told : RestartFields) (now : Disk) → told (suc h.restarts.sure) ≡ Some (page_to_send f.log oldest clean)
       → ((i : ℕ) → i ≢ suc h.restarts.sure → told i ≡ h.fields i)
       → Stands s (record f.log { sent = Some (record { page = page_to_send f.log oldest clean; check = word }) }) h.ring (restart_sent h.restarts places) h.pages told now → m.disk ≡ disk_without (own_of f) now → IsSized now
-      → StandsBehind (naming_facts page clean word f) now x
-  naming_behind clean end word places told now said others stands same sized = record {
+      → StandsBehindAs ends (naming_facts page clean word f) now x
+  naming_behind clean end close word places told now said others stands same sized = record {
     geometry = h.geometry;
     volume = h.volume;
     lap = h.lap;
@@ -266,6 +272,7 @@ module _ (f : StoreFacts) (disk : Disk) (m : Store) (h : StandsBehind f disk m) 
     same = same;
     sized = sized;
     own_pages = own_sent h.restarts places h.fields told (page_to_send f.log oldest clean) h.own_pages said others (own_to_send f.log oldest clean h.stands.ring.area);
+    closes = closes_sent ends f.log.sent h.restarts places h.fields told (length h.pages) (h.ring.oldest + length h.pages - h.noted) (page_to_send f.log oldest clean) h.closes said others (closes_page clean close) word;
     placed = h.placed;
     sound = sound-step h.geometry m x (write_restart_fails renames) h.sound;
     window = record { is_open = h.window.is_open; tx = h.window.tx; waiting = h.window.waiting; body = h.window.body; changed = h.window.changed; before = h.window.before };
@@ -284,21 +291,21 @@ module _ (f : StoreFacts) (disk : Disk) (m : Store) (h : StandsBehind f disk m) 
 
 -- ---- the calls
 
-pub may_rename : (f : StoreFacts) (page : ℕ) (disk : Disk) (m : Store) → StandsBehind f disk m → MayNameNoted f page → MayRename m
+pub may_rename : {ends : Bool} (f : StoreFacts) (page : ℕ) (disk : Disk) (m : Store) → StandsBehindAs ends f disk m → MayNameNoted f page → MayRename m
 may_rename f page disk m h may = renames f disk m h page may
 
-pub front_is_oldest : (f : StoreFacts) (page : ℕ) (disk : Disk) (m : Store) → StandsBehind f disk m → MayNameNoted f page → IsOldest f.log (front_lsn f.log page)
+pub front_is_oldest : {ends : Bool} (f : StoreFacts) (page : ℕ) (disk : Disk) (m : Store) → StandsBehindAs ends f disk m → MayNameNoted f page → IsOldest f.log (front_lsn f.log page)
 front_is_oldest f page disk m h may = may_front f disk m h page may
 
-module _ {D : Type 0} (gives : D → Option (List (List ℕ))) (changes : D → Changes) (moment : D → ℕ) (count page word : ℕ) (clean : Bool) (f : StoreFacts) (old new : D) (sees : SeesDisk (gives old) (changes old).disk)
-    (sized : IfSome (changes new).disk IsSized) (may : MayEndCheckpoint f page) where
+module _ {D : Type 0} (gives : D → Option (List (List ℕ))) (changes : D → Changes) (moment : D → ℕ) (count page word : ℕ) (ends clean : Bool) (f : StoreFacts) (old new : D) (sees : SeesDisk (gives old) (changes old).disk)
+    (sized : IfSome (changes new).disk IsSized) (may : MayEndCheckpoint f page) (close : MayClose ends f page clean) where
   abbrev sector : ℕ
   sector = restart_sector f.log
 
   abbrev bytes : List ℕ
   bytes = protected_bytes (restart_spelling (page_to_send f.log (front_lsn f.log page) clean)) word
 
-  pub names_page : SendsNaming gives changes moment f.log page clean word (Ok tt) old new → Simulates count (moment old) (changes old) (changes new) f (named_facts page f) AfterWrite
+  pub names_page : SendsNaming gives changes moment f.log page clean word (Ok tt) old new → SimulatesAs ends count (moment old) (changes old) (changes new) f (named_facts page f) AfterWrite
   names_page sent =
       by_device count (moment old) (sending_moment (sent_word f.log.sent) (moment old)) (changes old) (changes new) f (named_facts page f) AfterWrite refl refl
       (known_before_write _ _ _ _ (changes old) (changes new) sent.sends.writes) (sends_later (sent_word f.log.sent) (moment old)) sent.sends.writes.past
@@ -309,9 +316,9 @@ module _ {D : Type 0} (gives : D → Option (List (List ℕ))) (changes : D → 
       let now : put sector (sectors_of bytes) disk ≡ all.disk = some_is (put sector (sectors_of bytes) disk) all.disk (sym there ∙ all.known) in
       let same = subst (λ (d : Disk). m.disk ≡ disk_without (own_of f) d) now
       (same_disk f disk m h page may.may (page_to_send f.log (front_lsn f.log page) clean) word (put sector (sectors_of bytes) disk) (whole_between disk (put sector (sectors_of bytes) disk) (λ i. refl))) in
-      (all.disk, all.known, n f disk m h page may.may, named_behind f disk m h page may.may clean may all.places all.told all.disk all.said all.others all.stands same (sized_of (changes new) all.disk all.known sized), after_step m (n f disk m h page may.may) refl refl refl refl refl))
+      (all.disk, all.known, n f disk m h page may.may, named_behind f disk m h page may.may clean may close all.places all.told all.disk all.said all.others all.stands same (sized_of (changes new) all.disk all.known sized), after_step m (n f disk m h page may.may) refl refl refl refl refl))
 
-  pub fails_to_name : (fault : Failed) → SendsNaming gives changes moment f.log page clean word (Err fault) old new → Simulates count (moment old) (changes old) (changes new) f (naming_facts page clean word f) AfterWrite
+  pub fails_to_name : (fault : Failed) → SendsNaming gives changes moment f.log page clean word (Err fault) old new → SimulatesAs ends count (moment old) (changes old) (changes new) f (naming_facts page clean word f) AfterWrite
   fails_to_name fault sent =
       by_device count (moment old) (sending_moment (sent_word f.log.sent) (moment old)) (changes old) (changes new) f (naming_facts page clean word f) AfterWrite refl refl
       (known_before_write _ _ _ _ (changes old) (changes new) sent.sends.writes) (sends_later (sent_word f.log.sent) (moment old)) sent.sends.writes.past
@@ -321,4 +328,4 @@ module _ {D : Type 0} (gives : D → Option (List (List ℕ))) (changes : D → 
       let torn = torn_known sector (sectors_of bytes) disk (changes new).disk (subst (λ (o : Option Disk). IsTornDisk sector (sectors_of bytes) o (changes new).disk) is sent.sends.writes.err) in
       let now : torn.0 ≡ all.disk = some_is torn.0 all.disk (sym torn.1 ∙ all.known) in
       let same = subst (λ (d : Disk). m.disk ≡ disk_without (own_of f) d) now (same_disk f disk m h page may.may (page_to_send f.log (front_lsn f.log page) clean) word torn.0 torn.2) in
-      (all.disk, all.known, x f disk m h page may.may, naming_behind f disk m h page may.may clean may word all.places all.told all.disk all.said all.others all.stands same (sized_of (changes new) all.disk all.known sized), after_step m (x f disk m h page may.may) refl refl refl refl refl))
+      (all.disk, all.known, x f disk m h page may.may, naming_behind f disk m h page may.may clean may close word all.places all.told all.disk all.said all.others all.stands same (sized_of (changes new) all.disk all.known sized), after_step m (x f disk m h page may.may) refl refl refl refl refl))

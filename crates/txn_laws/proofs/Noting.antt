@@ -15,6 +15,7 @@ use Rattle.ring_laws.proofs.StoreEvents.{log_noted}
 use Rattle.txn_model.specs.declared.mark.Mark.{Mark}
 use Rattle.txn_model.specs.Values.{StoreFacts}
 use Rattle.txn_model.specs.Calls.{noted_facts, sealed_facts}
+use Rattle.txn_laws.proofs.Closed.{goes_on}
 use Rattle.txn_laws.specs.Standing.{IsMarked, StandsBehind, session_of, numbers_of}
 use Rattle.txn_laws.specs.Windows.{AfterWrite}
 use Rattle.txn_laws.proofs.Memory.{sealed_behind}
@@ -72,6 +73,7 @@ notes f disk m closed unnoted h = (checkpoint_begun m, stands, after_noting it.g
       same = it.same;
       sized = it.sized;
       own_pages = it.own_pages;
+      closes = goes_on (sealed_area f.log).sent it.restarts it.fields (length it.pages) (it.ring.oldest + length it.pages - it.noted) (length it.pages) (it.ring.oldest + length it.pages - (it.ring.oldest + length it.pages)) it.closes;
       placed = it.placed;
       sound = sound-step it.geometry m (checkpoint_begun m) (begin_checkpoint early (it.window.is_open ∙ closed)) it.sound;
       window = record { is_open = it.window.is_open; tx = it.window.tx; waiting = it.window.waiting; body = it.window.body; changed = it.window.changed; before = it.window.before };

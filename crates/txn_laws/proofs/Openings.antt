@@ -1,5 +1,5 @@
 -- A session is opened: a restart page that names its first page is written, and synced.
-use Rattle.std.proofs.Common.{◌≡◌, subst, ℕ, zero, suc, ◌-◌, Bool, List, [], drop, Option, Some, Ok, refl, sym, ap, ◌∙◌}
+use Rattle.std.proofs.Common.{◌≡◌, subst, ℕ, zero, suc, ◌-◌, false, List, [], drop, Option, Some, Ok, refl, sym, ap, ◌∙◌}
 use Rattle.std.specs.Prelude.{IfSome}
 use Rattle.std.specs.Option.{option_map}
 use Rattle.disk_model.specs.declared.block.Block.{Block}
@@ -30,15 +30,15 @@ abbrev first_area : LogPlace → ℕ → ℕ → ℕ → LogAreaOf
 first_area place lap restart opens = new_area place lap restart opens
 
 pub opens_log : {D : Type 0} (gives : D → Option (List (List ℕ))) (changes : D → Changes) (moment : D → ℕ) (place : LogPlace) (found : List Block) (lap restart opens : ℕ) (r : Ring) (q : Restarts) (fields : RestartFields) (disk : Disk)
-    (clean : Bool) (word : ℕ) (old mid new : D) → (changes old).disk ≡ Some disk → SeesDisk (gives old) (changes old).disk → IfSome (changes new).disk IsSized
-    → Stands (record { place = place; lap = lap }) (new_area place lap restart opens) r q [] fields disk → MayName (new_area place lap restart opens) q fields (first_lsn place lap restart opens) clean
-    → SendsRestart gives changes moment (new_area place lap restart opens) (first_lsn place lap restart opens) clean word (Ok tt) old mid → SyncsNow changes moment (Ok tt) mid new → StartsOn changes place (opened_area place lap restart opens) found new
-opens_log gives changes moment place found lap restart opens r q fields disk clean word old mid new is sees sized stands may sent syncs =
+    (word : ℕ) (old mid new : D) → (changes old).disk ≡ Some disk → SeesDisk (gives old) (changes old).disk → IfSome (changes new).disk IsSized
+    → Stands (record { place = place; lap = lap }) (new_area place lap restart opens) r q [] fields disk → MayName (new_area place lap restart opens) q fields (first_lsn place lap restart opens) false
+    → SendsRestart gives changes moment (new_area place lap restart opens) (first_lsn place lap restart opens) false word (Ok tt) old mid → SyncsNow changes moment (Ok tt) mid new → StartsOn changes place (opened_area place lap restart opens) found new
+opens_log gives changes moment place found lap restart opens r q fields disk word old mid new is sees sized stands may sent syncs =
     let s : LogSession = record { place = place; lap = lap } in
     let a = first_area place lap restart opens in
     let oldest = first_lsn place lap restart opens in
     let known : IsKnown gives changes old disk = record { known = is; sees = sees } in
-    let named = restart_names gives changes moment s a r q [] fields disk oldest clean word old mid known stands may sent in
+    let named = restart_names gives changes moment s a r q [] fields disk oldest false word old mid known stands may sent in
     let now : (changes new).disk ≡ Some (settled named.disk) = syncs.ok ∙ ap (option_map settled) named.known in
     let ring : Ring = record r { oldest = freed_to (named_area oldest a); synced = r.done; places = synced_places r.places } in
     let alone : Stands s (opened_area place lap restart opens) ring (restart_synced (restart_written q named.places)) [] named.told (settled named.disk)
@@ -50,5 +50,5 @@ opens_log gives changes moment place found lap restart opens r q fields disk cle
       disk = settled named.disk;
       known = now;
       start = starts_window place (opened_area place lap restart opens) found lap ring (restart_synced (restart_written q named.places)) named.told (settled named.disk)
-          (page_to_send a oldest clean) alone refl named.said (first ∙ ap (lsn_of_page s) (sym number)) (own_to_send a oldest clean stands.ring.area) (λ n. refl) (sized_of (changes new) (settled named.disk) now sized) (changes new) now;
+          (page_to_send a oldest false) alone refl named.said (first ∙ ap (lsn_of_page s) (sym number)) (own_to_send a oldest false stands.ring.area) refl refl (λ n. refl) (sized_of (changes new) (settled named.disk) now sized) (changes new) now;
     }

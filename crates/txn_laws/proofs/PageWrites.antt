@@ -143,6 +143,7 @@ module _ (f : StoreFacts) (disk : Disk) (m : Store) (h : StandsBehind f disk m) 
     same = same;
     sized = sized;
     own_pages = h.own_pages;
+    closes = h.closes;
     placed = h.placed;
     sound = sound-step h.geometry m n (write_page upto within.0 within.1) h.sound;
     window = record { is_open = h.window.is_open; tx = h.window.tx; waiting = h.window.waiting; body = h.window.body; changed = h.window.changed; before = h.window.before };
@@ -200,6 +201,7 @@ module _ (f : StoreFacts) (disk : Disk) (m : Store) (h : StandsBehind f disk m) 
     same = same;
     sized = sized;
     own_pages = h.own_pages;
+    closes = h.closes;
     placed = h.placed;
     sound = sound-step h.geometry m x (write_page_fails upto within.1) h.sound;
     window = record { is_open = h.window.is_open; tx = h.window.tx; waiting = h.window.waiting; body = h.window.body; changed = h.window.changed; before = h.window.before };

@@ -1,5 +1,5 @@
 -- What a window shows: the present bodies, and the laps that an image says.
-use Rattle.std.proofs.Common.{◌≡◌, subst, ℕ, ◌+◌, ◌-◌, ◌/◌, ◌≤◌, true, List, Option, Some, None, refl, sym, ap₂, arith}
+use Rattle.std.proofs.Common.{◌≡◌, subst, ℕ, ◌+◌, ◌-◌, ◌/◌, ◌≤◌, true, Bool, List, Option, Some, None, refl, sym, ap₂, arith}
 use Rattle.std.specs.Prelude.{IfSome, unwrap_or}
 use mathlib.Core.Path.{fun_ext}
 use Rattle.disk_model.specs.declared.block.Block.{Block}
@@ -19,15 +19,15 @@ use Rattle.ring_laws.specs.PageBytes.{raw_page}
 use Rattle.ring_laws.proofs.RingFacts.{laps_climb}
 use Rattle.ring_laws.proofs.RingReads.{laps_said}
 use Rattle.txn_model.specs.Values.{StoreFacts, own_of}
-use Rattle.txn_laws.specs.Standing.{StandsBehind, session_of}
-use Rattle.txn_laws.specs.Windows.{HasWindow, IsShown}
+use Rattle.txn_laws.specs.Standing.{StandsBehindAs, session_of}
+use Rattle.txn_laws.specs.Windows.{HasWindowAs, IsShown}
 use Rattle.txn_laws.proofs.Changes.{is_present}
 use Rattle.txn_laws.proofs.Laps.{sent_below}
 
-shown_of : (f : StoreFacts) (disk : Disk) (m : Store) → StandsBehind f disk m → (b : Block) → is_known (own_of f) b ≡ true → IsShown (store_window m) b (unwrap_or (f.body b) (content_of (seen disk) b))
+shown_of : {ends : Bool} (f : StoreFacts) (disk : Disk) (m : Store) → StandsBehindAs ends f disk m → (b : Block) → is_known (own_of f) b ≡ true → IsShown (store_window m) b (unwrap_or (f.body b) (content_of (seen disk) b))
 shown_of f disk m h b known = let x = is_present f disk m h b (unwrap_or (f.body b) (content_of (seen disk) b)) known refl in record { bytes = x.bytes; torn = x.torn }
 
-pub present_shown : (changes : Changes) (f : StoreFacts) (w : StoreWindow) (gives : Option (List (List ℕ))) → HasWindow changes f w → SeesDisk gives changes.disk → (b : Block) → is_known (own_of f) b ≡ true
+pub present_shown : {ends : Bool} (changes : Changes) (f : StoreFacts) (w : StoreWindow) (gives : Option (List (List ℕ))) → HasWindowAs ends changes f w → SeesDisk gives changes.disk → (b : Block) → is_known (own_of f) b ≡ true
     → IfSome gives (λ disk. IsShown w b (unwrap_or (f.body b) (content_of (sector_of disk) b)))
 present_shown changes f w None has sees b known = tt
 present_shown changes f w (Some d) has sees b known =
@@ -36,7 +36,7 @@ present_shown changes f w (Some d) has sees b known =
     (subst (λ (v : StoreWindow). IsShown v b (unwrap_or (f.body b) (content_of (seen has.0) b))) has.4 (shown_of f has.0 has.2 has.3 b known))
 
 -- no image says a lap above that of the page that is filled
-pub laps_shown : (count : ℕ) (changes : Changes) (f : StoreFacts) (w : StoreWindow) (image : List (List ℕ)) → HasWindow changes f w → MayLeaveNow count changes image
+pub laps_shown : {ends : Bool} (count : ℕ) (changes : Changes) (f : StoreFacts) (w : StoreWindow) (image : List (List ℕ)) → HasWindowAs ends changes f w → MayLeaveNow count changes image
     → (k lsn : ℕ) → IsInRing f.place k → said_lsn (raw_page f.place (sector_of image) k) ≡ Some lsn → lap_of f.place.pages lsn ≤ lap_at f.log f.log.sealed
 laps_shown count changes f w image has left k lsn inside said =
     let may : MayLeave count has.0 image = subst (λ (o : Option Disk). IfSome o (λ d. MayLeave count d image)) has.1 left in

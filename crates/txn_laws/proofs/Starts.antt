@@ -1,5 +1,5 @@
 -- A store at its start, on a log without entries.
-use Rattle.std.proofs.Common.{◌≡◌, subst, ℕ, ◌-◌, ◌*◌, true, false, List, [], length, Option, Some, refl, sym, ap, ◌∙◌, arith}
+use Rattle.std.proofs.Common.{◌≡◌, subst, ℕ, ◌+◌, ◌-◌, ◌*◌, true, false, List, [], length, Option, Some, None, refl, sym, ap, ◌∙◌, arith}
 use Rattle.std.specs.Prelude.{slice_index, IfSome}
 use Rattle.std.proofs.lemmas.List.{ext_get_or, length-replicate}
 use Rattle.disk_model.specs.declared.block.Block.{Block}
@@ -9,7 +9,8 @@ use Rattle.sector_device.specs.Disks.{Disk, IsSettled, IsSized, seen}
 use Rattle.sector_device.specs.Moments.{Changes}
 use Rattle.log_page.specs.declared.places.LogPlace.{LogPlace}
 use Rattle.log_page.specs.declared.restart.Restart.{Restart}
-use Rattle.log_page.specs.Restarts.{FitsRestart}
+use Rattle.log_page.specs.Restarts.{is_clean, FitsRestart}
+use Rattle.log_area.specs.declared.restart.SentRestart.{SentRestart}
 use Rattle.log_area.specs.Areas.{LogAreaOf, sent_word, ring_size as area_size}
 use Rattle.store_model.specs.Stores.{Store}
 use Rattle.store_model.specs.Rings.{Ring, Restarts}
@@ -27,7 +28,7 @@ use Rattle.ring_laws.proofs.StoreEvents.{log_starts}
 use Rattle.area_laws.specs.Standing.{Stands}
 use Rattle.txn_model.specs.Values.{StoreFacts, own_of}
 use Rattle.txn_model.specs.Calls.{first_facts}
-use Rattle.txn_laws.specs.Standing.{StandsBehind}
+use Rattle.txn_laws.specs.Standing.{ClosesNone, StandsBehind}
 use Rattle.txn_laws.specs.Windows.{HasStart}
 use Rattle.txn_laws.proofs.Changes.{seen_whole}
 use Rattle.store_claims.specs.Claims.{claims, will}
@@ -35,7 +36,7 @@ use Rattle.store_claims.proofs.Moving.{claims_move}
 
 module _ (place : LogPlace) (log : LogAreaOf) (found : List Block) (lap : ℕ) (r : Ring) (q : Restarts) (fields : RestartFields) (disk : Disk) (own : Restart)
     (stands : Stands (record { place = place; lap = lap }) log r q [] fields disk) (idle : q.begun ≡ false) (said : fields q.sure ≡ Some own) (names : own.oldest ≡ lsn_of_page (record { place = place; lap = lap }) r.oldest)
-    (fits : FitsRestart own) (settled : IsSettled disk) (sized : IsSized disk) where
+    (fits : FitsRestart own) (opens : is_clean own ≡ false) (unsent : log.sent ≡ None) (settled : IsSettled disk) (sized : IsSized disk) where
   abbrev f : StoreFacts
   f = first_facts place log found
 
@@ -76,6 +77,11 @@ module _ (place : LogPlace) (log : LogAreaOf) (found : List Block) (lap : ℕ) (
     same = refl;
     sized = sized;
     own_pages = record { sure = subst (λ (o : Option Restart). IfSome o FitsRestart) (sym said) fits; next = λ begun. absurd (true≢false (sym begun ∙ idle)) };
+    closes = record {
+      sure = subst (λ (o : Option Restart). IfSome o (ClosesNone false 0)) (sym said) (λ clean. absurd (true≢false (sym clean ∙ opens)));
+      next = λ begun. absurd (true≢false (sym begun ∙ idle));
+      sent = subst (λ (o : Option SentRestart). IfSome o (λ x. ClosesNone false (r.oldest + 0 - 0) x.page)) (sym unsent) tt;
+    };
     placed = tt;
     sound = sound_events_law.mounted (own_of f) (volume_geometry (own_of f)) (is_volume (own_of f)) 1 (content_of (seen disk)) (disk_without (own_of f) disk) bears;
     window = record { is_open = refl; tx = refl; waiting = omega arith; body = λ b. tt; changed = λ b. refl; before = λ b. tt };

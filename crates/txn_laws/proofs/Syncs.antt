@@ -35,8 +35,9 @@ use Rattle.area_laws.proofs.Reading.{is_first, number_is}
 use Rattle.txn_model.specs.Values.{StoreFacts, own_of}
 use Rattle.txn_model.specs.Calls.{is_buried, durable_after, synced_facts}
 use Rattle.txn_laws.proofs.Mountable.{own_synced}
-use Rattle.txn_laws.specs.Standing.{HasBytes, IsKilled, StandsBehind, session_of, numbers_of}
-use Rattle.txn_laws.specs.Windows.{Simulates, MovesTo}
+use Rattle.txn_laws.proofs.Closed.{closes_synced, closes_freed}
+use Rattle.txn_laws.specs.Standing.{HasBytes, IsKilled, StandsBehindAs, session_of, numbers_of}
+use Rattle.txn_laws.specs.Windows.{SimulatesAs, MovesTo}
 use Rattle.txn_laws.specs.Laws.{SyncsNow}
 use Rattle.txn_laws.proofs.Telling.{by_device, known_before_sync, sized_of}
 use Rattle.sector_device.specs.Moments.{Changes}
@@ -78,7 +79,7 @@ all_pages ((e ∷ es) ∷ pages) (suc n) some le =
     let rest = all_pages pages n (λ k lt. some (suc k) (omega (arith, lt))) (omega (arith, le, length-append (e ∷ es) (entries_on pages), length-append (e ∷ es) (entries_on (take n pages)))) in
     omega (arith, rest)
 
-module _ (f : StoreFacts) (disk : Disk) (m : Store) (h : StandsBehind f disk m) where
+module _ {ends : Bool} (f : StoreFacts) (disk : Disk) (m : Store) (h : StandsBehindAs ends f disk m) where
   abbrev s : LogSession
   s = session_of f h.lap
 
@@ -313,7 +314,7 @@ module _ (f : StoreFacts) (disk : Disk) (m : Store) (h : StandsBehind f disk m) 
         (subst (λ (o : ℕ). Stands s (synced_area f.log) (record h.ring { oldest = o; synced = h.ring.done; places = synced_places h.ring.places }) (restart_synced h.restarts) (drop (freed_to f.log - f.log.oldest) h.pages) h.fields (settled disk)) oldest_is
         (syncs_all s f.log h.ring h.restarts h.pages h.fields disk h.stands))
 
-    syncs_well : IsSized (settled disk) → (n : Store) × StandsBehind (synced_facts f) (settled disk) n × MovesTo (λ b. is_buried f.log.done (f.mark b)) (store_window m) (store_window n)
+    syncs_well : IsSized (settled disk) → (n : Store) × StandsBehindAs ends (synced_facts f) (settled disk) n × MovesTo (λ b. is_buried f.log.done (f.mark b)) (store_window m) (store_window n)
     syncs_well sized = (n, stands, moves)
       where
         moves : MovesTo (λ b. is_buried f.log.done (f.mark b)) (store_window m) (store_window n)
@@ -329,7 +330,7 @@ module _ (f : StoreFacts) (disk : Disk) (m : Store) (h : StandsBehind f disk m) 
               (claimed_stays.members h.geometry m n step h.sound k b claims (omega (arith, le))).1;
         }
 
-        stands : StandsBehind g (settled disk) n
+        stands : StandsBehindAs ends g (settled disk) n
         stands = record {
           geometry = h.geometry;
           volume = h.volume;
@@ -347,6 +348,7 @@ module _ (f : StoreFacts) (disk : Disk) (m : Store) (h : StandsBehind f disk m) 
           same = ap settled h.same ∙ sym (without_synced (own_of f) disk);
           sized = sized;
           own_pages = own_synced h.restarts h.fields h.stands.restarts.restarts.restarts h.own_pages;
+          closes = closes_synced ends f.log.sent h.restarts h.fields (length h.pages) (h.ring.oldest + length h.pages - h.noted) (h.stands.restarts.done ∙ ap (λ (o : Option ℕ). is_some o) unnamed) h.closes;
           placed = h.placed;
           sound = sound-step h.geometry m n step h.sound;
           window = record {
@@ -479,7 +481,7 @@ module _ (f : StoreFacts) (disk : Disk) (m : Store) (h : StandsBehind f disk m) 
           | inr x ↦ absurd (true≢false (sym x.0 ∙ (h.sound.paid renamed b).0))
         ]
 
-    frees_well : IsSized (settled disk) → (n : Store) × StandsBehind (synced_facts f) (settled disk) n × MovesTo (λ b. is_buried f.log.done (f.mark b)) (store_window m) (store_window n)
+    frees_well : IsSized (settled disk) → (n : Store) × StandsBehindAs ends (synced_facts f) (settled disk) n × MovesTo (λ b. is_buried f.log.done (f.mark b)) (store_window m) (store_window n)
     frees_well sized = (e, stands, moves)
       where
         moves : MovesTo (λ b. is_buried f.log.done (f.mark b)) (store_window m) (store_window e)
@@ -495,7 +497,7 @@ module _ (f : StoreFacts) (disk : Disk) (m : Store) (h : StandsBehind f disk m) 
               (claimed_stays.members h.geometry m e free_step h.sound k b claims (omega (arith, le))).1;
         }
 
-        stands : StandsBehind g (settled disk) e
+        stands : StandsBehindAs ends g (settled disk) e
         stands = record {
           geometry = h.geometry;
           volume = h.volume;
@@ -513,6 +515,8 @@ module _ (f : StoreFacts) (disk : Disk) (m : Store) (h : StandsBehind f disk m) 
           same = ap settled h.same ∙ sym (without_synced (own_of f) disk);
           sized = sized;
           own_pages = own_synced h.restarts h.fields h.stands.restarts.restarts.restarts h.own_pages;
+          closes = closes_freed ends f.log.sent h.restarts h.fields (length h.pages) (h.ring.oldest + length h.pages - h.noted) (length rest) (h.noted + length rest - h.noted)
+              (h.stands.restarts.done ∙ ap (λ (o : Option ℕ). is_some o) named) restart_begun (omega (arith, length-rest)) (omega (arith, length-rest)) h.closes;
           placed = all_drop (λ (x : Entry). is_misplaced f.place.clusters x.act ≡ false) m.place m.log h.placed;
           sound = sound-step h.geometry m e free_step h.sound;
           window = record {
@@ -552,17 +556,17 @@ module _ (f : StoreFacts) (disk : Disk) (m : Store) (h : StandsBehind f disk m) 
 
   -- ---- either
 
-  pub any_syncs : IsSized (settled disk) → (n : Store) × StandsBehind (synced_facts f) (settled disk) n × MovesTo (λ b. is_buried f.log.done (f.mark b)) (store_window m) (store_window n)
+  pub any_syncs : IsSized (settled disk) → (n : Store) × StandsBehindAs ends (synced_facts f) (settled disk) n × MovesTo (λ b. is_buried f.log.done (f.mark b)) (store_window m) (store_window n)
   any_syncs sized = by_named f.log.named refl
     where
-      by_named : (o : Option ℕ) → f.log.named ≡ o → (n : Store) × StandsBehind (synced_facts f) (settled disk) n × MovesTo (λ b. is_buried f.log.done (f.mark b)) (store_window m) (store_window n)
+      by_named : (o : Option ℕ) → f.log.named ≡ o → (n : Store) × StandsBehindAs ends (synced_facts f) (settled disk) n × MovesTo (λ b. is_buried f.log.done (f.mark b)) (store_window m) (store_window n)
       by_named None is = syncs_well is sized
       by_named (Some p) is = frees_well p is sized
 
 -- ---- the call
 
-pub is_synced : {D : Type 0} (changes : D → Changes) (moment : D → ℕ) (count : ℕ) (f : StoreFacts) (old new : D) → IfSome (changes new).disk IsSized → SyncsNow changes moment (Ok tt) old new
-    → Simulates count (moment old) (changes old) (changes new) f (synced_facts f) (MovesTo (λ b. is_buried f.log.done (f.mark b)))
+pub is_synced : {ends : Bool} {D : Type 0} (changes : D → Changes) (moment : D → ℕ) (count : ℕ) (f : StoreFacts) (old new : D) → IfSome (changes new).disk IsSized → SyncsNow changes moment (Ok tt) old new
+    → SimulatesAs ends count (moment old) (changes old) (changes new) f (synced_facts f) (MovesTo (λ b. is_buried f.log.done (f.mark b)))
 is_synced changes moment count f old new sized syncs =
     by_device count (moment old) (moment old) (changes old) (changes new) f (synced_facts f) (MovesTo (λ b. is_buried f.log.done (f.mark b))) refl refl
     (known_before_sync _ _ (changes old) (changes new) syncs) (omega arith) syncs.past

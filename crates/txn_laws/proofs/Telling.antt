@@ -1,5 +1,5 @@
 -- What a window says, and simulations from steps of the machine behind a store.
-use Rattle.std.proofs.Common.{◌≡◌, ◌⊎◌, subst, ℕ, ◌+◌, ◌-◌, ◌≤◌, max, false, List, drop, Option, Some, None, refl, sym, ap, ◌∙◌, inl, inr, arith}
+use Rattle.std.proofs.Common.{◌≡◌, ◌⊎◌, subst, ℕ, ◌+◌, ◌-◌, ◌≤◌, max, Bool, true, false, List, length, drop, Option, Some, None, refl, sym, ap, ◌∙◌, inl, inr, arith}
 use Rattle.std.specs.Prelude.{Result, Ok, Err, IfSome}
 use Rattle.std.specs.Option.{option_map}
 use Rattle.disk_model.specs.declared.block.Block.{Block}
@@ -28,10 +28,11 @@ use Rattle.store_model.specs.Volumes.{AreWhole}
 use Rattle.store_claims.specs.Windows.{StoreWindow, store_window}
 use Rattle.ring_laws.proofs.StoreRecovers.{image_recovers}
 use Rattle.txn_model.specs.Values.{StoreFacts, own_of, is_own}
-use Rattle.txn_laws.specs.Standing.{AreOwnPages, ArePlaced, StandsBehind, session_of, numbers_of}
+use Rattle.txn_laws.specs.Standing.{AreOwnPages, ArePlaced, StandsBehindAs, session_of, numbers_of}
 use Rattle.txn_laws.proofs.Mountable.{none_misplaced}
+use Rattle.txn_laws.proofs.Closed.{may_end, closed_list}
 use Rattle.txn_laws.proofs.Laps.{next_lap_shown}
-use Rattle.txn_laws.specs.Windows.{HasMachine, HasWindow, RecoversWithin, lap_behind, next_lap_in, During, LapsDuring, Simulates, AfterWrite}
+use Rattle.txn_laws.specs.Windows.{HasMachineAs, HasWindowAs, RecoversWithin, lap_behind, next_lap_in, During, LapsDuring, SimulatesAs, AfterWrite}
 use Rattle.store_claims.specs.Claims.{commits_behind}
 use Rattle.txn_laws.proofs.Claiming.{ClaimedImage, claimed, claimed_image}
 
@@ -54,8 +55,8 @@ own_chosen q fields own restart list l same_q same_fields of_log =
       | inr begun ↦ subst (λ (o : Option Restart). IfSome o FitsRestart) begun.1 (here.next begun.0)
     ]
 
-behind_recovers : (f : StoreFacts) (disk : Disk) (m : Store) → StandsBehind f disk m → (image : SectorBytes) → CanLeave disk image → AreWhole image → RecoversWithin f.place (own_of f) (store_window m) image
-behind_recovers f disk m h image left whole =
+behind_recovers : {ends : Bool} (f : StoreFacts) (disk : Disk) (m : Store) → StandsBehindAs ends f disk m → (image : SectorBytes) → CanLeave disk image → AreWhole image → RecoversWithin f.place (own_of f) (store_window m) image
+behind_recovers {ends} f disk m h image left whole =
     let x = image_recovers (own_of f) h.geometry h.volume (session_of f h.lap) (numbers_of f h.ring h.pages h.restarts h.fields h.noted) m disk h.sound h.holds h.same image left whole in
     let y =
     log_is_left (session_of f h.lap) (numbers_of f h.ring h.pages h.restarts h.fields h.noted) m disk h.holds image left (sectors_without (own_of f) image)
@@ -72,6 +73,7 @@ behind_recovers f disk m h image left whole =
       own_page = page;
       list = x.list;
       reads = x.reads;
+      closed = closed_list f disk m h x.restart x.list y.left x.of_log same;
       back = commits_behind m y.left;
       within = (claimed (own_of f) h.geometry h.volume (session_of f h.lap) (numbers_of f h.ring h.pages h.restarts h.fields h.noted) m h.sound image whole y).recoverable.within;
       recovers = kept.recovers;
@@ -83,22 +85,54 @@ behind_recovers f disk m h image left whole =
       spelled = λ b out other. kept.spelled b (x.known b out) out other;
     }
 
-pub at_return : (count : ℕ) (changes : Changes) (f : StoreFacts) (w : StoreWindow) (image : List (List ℕ)) → HasWindow changes f w → MayLeaveNow count changes image → RecoversWithin f.place (own_of f) w (sector_of image)
+pub at_return : {ends : Bool} (count : ℕ) (changes : Changes) (f : StoreFacts) (w : StoreWindow) (image : List (List ℕ)) → HasWindowAs ends changes f w → MayLeaveNow count changes image → RecoversWithin f.place (own_of f) w (sector_of image)
 at_return count changes f w image has left =
     let may : MayLeave count has.0 image = subst (λ (o : Option Disk). IfSome o (λ d. MayLeave count d image)) has.1 left in
     subst (λ (v : StoreWindow). RecoversWithin f.place (own_of f) v (sector_of image)) has.4
     (behind_recovers f has.0 has.2 has.3 (sector_of image) may.each (image_is_disk count has.0 image has.3.sized may).whole)
 
-pub waits : (changes : Changes) (f : StoreFacts) (w : StoreWindow) → HasWindow changes f w → f.durable + w.waiting ≡ f.commits
+pub waits : {ends : Bool} (changes : Changes) (f : StoreFacts) (w : StoreWindow) → HasWindowAs ends changes f w → f.durable + w.waiting ≡ f.commits
 waits changes f w has = subst (λ (v : StoreWindow). f.durable + v.waiting ≡ f.commits) has.4 has.3.window.waiting
 
-pub is_open_of : (changes : Changes) (f : StoreFacts) (w : StoreWindow) → HasWindow changes f w → w.is_open ≡ f.is_open
+pub is_open_of : {ends : Bool} (changes : Changes) (f : StoreFacts) (w : StoreWindow) → HasWindowAs ends changes f w → w.is_open ≡ f.is_open
 is_open_of changes f w has = subst (λ (v : StoreWindow). v.is_open ≡ f.is_open) has.4 has.3.window.is_open
 
-pub machine_of : (changes : Changes) (f : StoreFacts) (w : StoreWindow) → HasWindow changes f w → HasMachine changes f
-machine_of changes f w has disk is = (has.2, subst (λ (d : Disk). StandsBehind f d has.2) (some_inj has.0 disk (sym has.1 ∙ is)) has.3)
+pub machine_of : {ends : Bool} (changes : Changes) (f : StoreFacts) (w : StoreWindow) → HasWindowAs ends changes f w → HasMachineAs ends changes f
+machine_of {ends} changes f w has disk is = (has.2, subst (λ (d : Disk). StandsBehindAs ends f d has.2) (some_inj has.0 disk (sym has.1 ∙ is)) has.3)
 
-pub keeps : (count moment : ℕ) (old now : Changes) (f g : StoreFacts) (After : StoreWindow → StoreWindow → Type 0) → Simulates count moment old now f g After → HasMachine old f → HasMachine now g
+-- a store that goes on is one that ends
+pub behind_ends : {ends : Bool} (f : StoreFacts) (disk : Disk) (m : Store) → StandsBehindAs ends f disk m → StandsBehindAs true f disk m
+behind_ends {ends} f disk m h = record {
+  geometry = h.geometry;
+  volume = h.volume;
+  lap = h.lap;
+  ring = h.ring;
+  pages = h.pages;
+  restarts = h.restarts;
+  fields = h.fields;
+  noted = h.noted;
+  stands = h.stands;
+  holds = h.holds;
+  below = h.below;
+  note = h.note;
+  same = h.same;
+  sized = h.sized;
+  own_pages = h.own_pages;
+  closes = may_end ends f.log.sent h.restarts h.fields (length h.pages) (h.ring.oldest + length h.pages - h.noted) h.closes;
+  placed = h.placed;
+  sound = h.sound;
+  window = h.window;
+  marks = h.marks;
+  by_pages = h.by_pages;
+}
+
+pub window_ends : (changes : Changes) (f : StoreFacts) (w : StoreWindow) → HasWindowAs false changes f w → HasWindowAs true changes f w
+window_ends changes f w has = (has.0, has.1, has.2, behind_ends f has.0 has.2 has.3, has.4)
+
+pub machine_ends : (changes : Changes) (f : StoreFacts) → HasMachineAs false changes f → HasMachineAs true changes f
+machine_ends changes f has disk is = let m = has disk is in (m.0, behind_ends f disk m.0 m.1)
+
+pub keeps : {ends : Bool} (count moment : ℕ) (old now : Changes) (f g : StoreFacts) (After : StoreWindow → StoreWindow → Type 0) → SimulatesAs ends count moment old now f g After → HasMachineAs ends old f → HasMachineAs ends now g
 keeps count moment old now f g After step has e is =
     let d = step.known e is in
     let m = has d.0 d.1 in
@@ -108,8 +142,8 @@ keeps count moment old now f g After step has e is =
 -- ---- simulations
 
 -- a call in memory
-pub in_memory : (count moment : ℕ) (changes : Changes) (f g : StoreFacts) (After : StoreWindow → StoreWindow → Type 0) → g.place ≡ f.place → g.found ≡ f.found
-    → ((disk : Disk) (m : Store) → changes.disk ≡ Some disk → StandsBehind f disk m → (n : Store) × StandsBehind g disk n × After (store_window m) (store_window n)) → Simulates count moment changes changes f g After
+pub in_memory : {ends : Bool} (count moment : ℕ) (changes : Changes) (f g : StoreFacts) (After : StoreWindow → StoreWindow → Type 0) → g.place ≡ f.place → g.found ≡ f.found
+    → ((disk : Disk) (m : Store) → changes.disk ≡ Some disk → StandsBehindAs ends f disk m → (n : Store) × StandsBehindAs ends g disk n × After (store_window m) (store_window n)) → SimulatesAs ends count moment changes changes f g After
 in_memory count moment changes f g After place found step = record {
   known = λ e is. (e, is);
   place = place;
@@ -128,16 +162,16 @@ here f g w image place found x =
     subst (λ (bs : List Block). RecoversWithin f.place (is_own f.place bs) w image) found (subst (λ (p : LogPlace). RecoversWithin p (is_own p g.found) w image) place x)
 
 -- a call that makes one call of the device, which begins at this moment or later
-pub by_device : (count moment begun : ℕ) (old now : Changes) (f g : StoreFacts) (After : StoreWindow → StoreWindow → Type 0) → g.place ≡ f.place → g.found ≡ f.found
+pub by_device : {ends : Bool} (count moment begun : ℕ) (old now : Changes) (f g : StoreFacts) (After : StoreWindow → StoreWindow → Type 0) → g.place ≡ f.place → g.found ≡ f.found
     → ((e : Disk) → now.disk ≡ Some e → (d : Disk) × (old.disk ≡ Some d)) → moment ≤ begun → Remembers begun old now
-    → ((disk : Disk) (m : Store) → old.disk ≡ Some disk → StandsBehind f disk m → (e : Disk) × (now.disk ≡ Some e) × (n : Store) × StandsBehind g e n × After (store_window m) (store_window n))
-    → Simulates count moment old now f g After
-by_device count moment begun old now f g After place found known later remembers step = record {
+    → ((disk : Disk) (m : Store) → old.disk ≡ Some disk → StandsBehindAs ends f disk m → (e : Disk) × (now.disk ≡ Some e) × (n : Store) × StandsBehindAs ends g e n × After (store_window m) (store_window n))
+    → SimulatesAs ends count moment old now f g After
+by_device {ends} count moment begun old now f g After place found known later remembers step = record {
   known = known;
   place = place;
   found = found;
   steps = λ w has. let next = step has.0 has.2 has.1 has.3 in
-      let has' : HasWindow now g (store_window next.2) = (next.0, next.1, next.2, next.3, refl) in (
+      let has' : HasWindowAs ends now g (store_window next.2) = (next.0, next.1, next.2, next.3, refl) in (
         store_window next.2,
         has',
         subst (λ (u : StoreWindow). After u (store_window next.2)) has.4 next.4,
@@ -146,7 +180,7 @@ by_device count moment begun old now f g After place found known later remembers
   laps = λ w has t image le left. let next = step has.0 has.2 has.1 has.3 in laps t image (omega (arith, le, later)) (store_window next.2) (next.0, next.1, next.2, next.3, refl) left;
 }
   where
-    laps : (t : ℕ) (image : List (List ℕ)) → t ≤ begun → (v : StoreWindow) → HasWindow now g v → LeftSince count now t image → LeftSince count old t image ⊎ (next_lap_in f.place (sector_of image) ≤ max (lap_behind f) (lap_behind g))
+    laps : (t : ℕ) (image : List (List ℕ)) → t ≤ begun → (v : StoreWindow) → HasWindowAs ends now g v → LeftSince count now t image → LeftSince count old t image ⊎ (next_lap_in f.place (sector_of image) ≤ max (lap_behind f) (lap_behind g))
     laps t image le v has left =
         elim (one_call_more count begun t old now image remembers le left) [
           | inl before ↦ inl before
@@ -155,7 +189,7 @@ by_device count moment begun old now f g After place found known later remembers
               inr (omega (arith, low))
         ]
 
-    during : (t : ℕ) (image : List (List ℕ)) → t ≤ begun → (v : StoreWindow) → HasWindow now g v → LeftSince count now t image → (w : StoreWindow)
+    during : (t : ℕ) (image : List (List ℕ)) → t ≤ begun → (v : StoreWindow) → HasWindowAs ends now g v → LeftSince count now t image → (w : StoreWindow)
         → LeftSince count old t image ⊎ (RecoversWithin f.place (own_of f) w (sector_of image) ⊎ RecoversWithin f.place (own_of f) v (sector_of image))
     during t image le v has left w =
         elim (one_call_more count begun t old now image remembers le left) [
@@ -164,9 +198,9 @@ by_device count moment begun old now f g After place found known later remembers
         ]
 
 -- a call that reads, and changes nothing
-pub by_read : (count moment : ℕ) (old now : Changes) (f : StoreFacts) (After : StoreWindow → StoreWindow → Type 0) → ((w : StoreWindow) → After w w) → now ≡ old → Simulates count moment old now f f After
-by_read count moment old now f After same is =
-    subst (λ (c : Changes). Simulates count moment old c f f After) (sym is)
+pub by_read : {ends : Bool} (count moment : ℕ) (old now : Changes) (f : StoreFacts) (After : StoreWindow → StoreWindow → Type 0) → ((w : StoreWindow) → After w w) → now ≡ old → SimulatesAs ends count moment old now f f After
+by_read {ends} count moment old now f After same is =
+    subst (λ (c : Changes). SimulatesAs ends count moment old c f f After) (sym is)
     (record { known = λ e h. (e, h); place = refl; found = refl; steps = λ w has. (w, has, same w, λ t image le left. inl left); laps = λ w has t image le left. inl left })
 
 -- ---- disks that are known
@@ -223,25 +257,25 @@ joined_laps count early late old mid now f g t image first second le later left 
       | inr low ↦ inr low
     ]
 
-pub after_reading : (count early late : ℕ) (old mid now : Changes) (f g : StoreFacts) (After : StoreWindow → StoreWindow → Type 0) → early ≤ late → Simulates count early old mid f f AfterWrite → Simulates count late mid now f g After
-    → Simulates count early old now f g After
-after_reading count early late old mid now f g After later read then = record {
+pub after_reading : {ends : Bool} (count early late : ℕ) (old mid now : Changes) (f g : StoreFacts) (After : StoreWindow → StoreWindow → Type 0) → early ≤ late → SimulatesAs ends count early old mid f f AfterWrite → SimulatesAs ends count late mid now f g After
+    → SimulatesAs ends count early old now f g After
+after_reading {ends} count early late old mid now f g After later read then = record {
   known = λ e is. let d = then.known e is in read.known d.0 d.1;
   place = then.place;
   found = then.found;
   steps = λ w has.
       let one = read.steps w has in
       let same : one.0 ≡ w = one.2.same in
-      let two = then.steps w (subst (λ (v : StoreWindow). HasWindow mid f v) same one.1) in
+      let two = then.steps w (subst (λ (v : StoreWindow). HasWindowAs ends mid f v) same one.1) in
       (two.0, two.1, two.2, λ t image le left. joined count early late old mid now f w two.0 t image le later (subst (λ (v : StoreWindow). During count early old mid f w v) same one.3) two.3 left);
   laps = λ w has t image le left.
       let one = read.steps w has in
       let same : one.0 ≡ w = one.2.same in
-      joined_laps count early late old mid now f g t image (read.laps w has) (then.laps w (subst (λ (v : StoreWindow). HasWindow mid f v) same one.1)) le later left;
+      joined_laps count early late old mid now f g t image (read.laps w has) (then.laps w (subst (λ (v : StoreWindow). HasWindowAs ends mid f v) same one.1)) le later left;
 }
 
 -- ---- a sync that failed
 
-pub sync_fails : {T E : Type 0} (count moment : ℕ) (fault : E) (old now : Changes) (f : StoreFacts) → Syncs {T = T} {E = E} moment (Err fault) old now → Simulates count moment old now f f AfterWrite
+pub sync_fails : {ends : Bool} {T E : Type 0} (count moment : ℕ) (fault : E) (old now : Changes) (f : StoreFacts) → Syncs {T = T} {E = E} moment (Err fault) old now → SimulatesAs ends count moment old now f f AfterWrite
 sync_fails count moment fault old now f syncs =
     by_device count moment moment old now f f AfterWrite refl refl (λ e is. (e, sym syncs.err ∙ is)) (omega arith) syncs.past (λ disk m is h. (disk, syncs.err ∙ is, m, h, record { same = refl }))

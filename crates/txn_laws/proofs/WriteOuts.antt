@@ -484,6 +484,7 @@ module _ (f : StoreFacts) (disk : Disk) (m : Store) (b : Block) (x : Body) (kept
         same = refl;
         sized = sized;
         own_pages = h.own_pages;
+        closes = h.closes;
         placed = h.placed;
         sound = sound-step h.geometry m (n now) (step check small now is) h.sound;
         window = record { is_open = h.window.is_open; tx = h.window.tx; waiting = h.window.waiting; body = body_now now; changed = h.window.changed; before = λ c. before_kept (disk_without (own_of f) now) c (f.before c) refl };
@@ -677,6 +678,7 @@ module _ (f : StoreFacts) (disk : Disk) (m : Store) (b : Block) (x : Body) (kept
         same = refl;
         sized = sized;
         own_pages = h.own_pages;
+        closes = h.closes;
         placed = h.placed;
         sound = sound-step h.geometry m (nf now) (failed_step check now part) h.sound;
         window = record { is_open = h.window.is_open; tx = h.window.tx; waiting = h.window.waiting; body = body_still now; changed = h.window.changed; before = λ c. before_kept (disk_without (own_of f) now) c (f.before c) refl };

@@ -1,11 +1,12 @@
 -- Windows that follow one another: which contents stay, and what that says of images that were left since a moment.
-use Rattle.std.specs.Prelude.{◌≡◌, ◌⊎◌, ℕ, ◌+◌, ◌<◌, ◌≤◌, Bool, true, false, ◌||◌, List, Some, None}
+use Rattle.std.specs.Prelude.{◌≡◌, ◌⊎◌, ℕ, ◌+◌, ◌<◌, ◌≤◌, Bool, true, false, ◌||◌, List, [], Some, None}
 use Rattle.disk_model.specs.declared.block.Block.{Block}
 use Rattle.log_model.specs.declared.entry.Entry.{Entry}
 use Rattle.log_model.specs.Logs.{is_shadowed}
 use Rattle.log_page.specs.declared.places.LogPlace.{LogPlace}
 use Rattle.log_page.specs.declared.restart.Restart.{Restart}
 use Rattle.log_page.specs.LiveLogs.{live_log}
+use Rattle.log_page.specs.Restarts.{is_clean}
 use Rattle.log_reading.specs.Fronts.{chosen_in}
 use Rattle.store_model.specs.Geometry.{SectorBytes}
 use Rattle.store_model.specs.Volumes.{is_known, IsRecovered, RecoversToContent}
@@ -25,6 +26,7 @@ pub record RecoversSince (place : LogPlace) (own : ℕ → Bool) (commits : ℕ)
   pub chosen : chosen_in (raw_page place image 0) (raw_page place image 1) ≡ Some restart
   pub list : List Entry
   pub reads : live_log place.pages (raw_page place image) restart.oldest ≡ record { entries = list; foreign = None }
+  pub closed : is_clean restart ≡ true → list ≡ []
   pub recovers : ((k : ℕ) × (k < commits) × (k ≤ new.waiting) × RecoversToContent own list image (new.before k))
       ⊎ ((k : ℕ) × (k ≤ old.waiting) × ((b : Block) → lost b ≡ false → is_known own b ≡ true → is_shadowed list b ≡ false → IsRecovered list image (old.before k) b))
 

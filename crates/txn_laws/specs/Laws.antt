@@ -24,7 +24,7 @@ use Rattle.ring_laws.specs.Numbers.{lsn_of_page, IsInRing}
 use Rattle.ring_laws.specs.PageBytes.{raw_page}
 use Rattle.log_page.specs.Places.{lap_of, sequence_bits}
 use Rattle.log_page.specs.LiveLogs.{said_lsn}
-use Rattle.log_page.specs.Restarts.{FitsRestart}
+use Rattle.log_page.specs.Restarts.{is_clean, FitsRestart}
 use Rattle.ring_laws.specs.RestartPages.{RestartFields}
 use Rattle.area_laws.specs.Standing.{Stands}
 use Rattle.flush_policy.specs.declared.facts.Facts.{Facts}
@@ -32,38 +32,48 @@ use Rattle.flush_policy.specs.declared.facts.StoreStep.{StoreStep}
 use Rattle.flush_policy.specs.Choice.{next_step}
 use Rattle.flush_policy.specs.Steps.{CanBe}
 use Rattle.txn_model.specs.Calls.{front_lsn, MayNameNoted, named_facts, naming_facts}
-use Rattle.txn_model.specs.Told.{FactsTold, AreDirty, KeepsMarked, KeepsSteps, MayTakeStep}
-use Rattle.txn_laws.specs.Standing.{StandsBehind}
+use Rattle.txn_model.specs.Told.{pages_end, FactsTold, AreDirty, KeepsMarked, KeepsSteps, MayTakeStep}
+use Rattle.txn_laws.specs.Standing.{StandsBehindAs}
 use Rattle.area_laws.specs.Laws.{SendsNext, SendsRestart, MayName}
 use Rattle.txn_model.specs.Values.{StoreFacts, own_of}
 use Rattle.txn_model.specs.Pieces.{next_entry}
 use Rattle.txn_model.specs.Calls.{first_facts, begun_facts, committed_facts, given_up_facts, change_acts, changed_facts, sealed_facts, noted_facts, written_facts, sent_facts, is_buried, synced_facts, is_ready, written_out_facts, sent_out_facts, again_facts}
 use Rattle.txn_model.specs.Appending.{MayAppend, MayAppendAll}
-use Rattle.txn_laws.specs.Windows.{HasMachine, HasWindow, HasStart, IsShown, RecoversWithin, lap_behind, next_lap_in, Simulates, AfterBegin, AfterChange, AfterCommit, AfterGiveUp, AfterWrite, MovesTo}
+use Rattle.txn_laws.specs.Windows.{HasMachineAs, HasWindowAs, HasMachine, HasWindow, HasEndingMachine, HasEndingWindow, HasStart, IsShown, RecoversWithin, lap_behind, next_lap_in, SimulatesAs, Simulates, AfterBegin, AfterChange, AfterCommit, AfterGiveUp, AfterWrite, MovesTo}
 
--- What a window says.
-pub record WindowsTell : Type 0 where
+-- What a window says, of a store that ends or that goes on.
+pub record WindowsTellAs (ends : Bool) : Type 0 where
   -- at a return: whatever a crash may leave recovers to a content of the window
-  pub at_return : (count : ℕ) (changes : Changes) (f : StoreFacts) (w : StoreWindow) (image : List (List ℕ)) → HasWindow changes f w → MayLeaveNow count changes image → RecoversWithin f.place (own_of f) w (sector_of image)
+  pub at_return : (count : ℕ) (changes : Changes) (f : StoreFacts) (w : StoreWindow) (image : List (List ℕ)) → HasWindowAs ends changes f w → MayLeaveNow count changes image → RecoversWithin f.place (own_of f) w (sector_of image)
   -- and says no lap above that of the page that is filled
-  pub laps : (count : ℕ) (changes : Changes) (f : StoreFacts) (w : StoreWindow) (image : List (List ℕ)) → HasWindow changes f w → MayLeaveNow count changes image
+  pub laps : (count : ℕ) (changes : Changes) (f : StoreFacts) (w : StoreWindow) (image : List (List ℕ)) → HasWindowAs ends changes f w → MayLeaveNow count changes image
       → (k lsn : ℕ) → IsInRing f.place k → said_lsn (raw_page f.place (sector_of image) k) ≡ Some lsn → lap_of f.place.pages lsn ≤ lap_at f.log f.log.sealed
   -- and a mount of it begins at most one lap above that of the place where the least entry would go next
-  pub next_lap : (count : ℕ) (changes : Changes) (f : StoreFacts) (w : StoreWindow) (image : List (List ℕ)) → HasWindow changes f w → MayLeaveNow count changes image
+  pub next_lap : (count : ℕ) (changes : Changes) (f : StoreFacts) (w : StoreWindow) (image : List (List ℕ)) → HasWindowAs ends changes f w → MayLeaveNow count changes image
       → next_lap_in f.place (sector_of image) ≤ lap_behind f
   -- the present body of a known block is the one that is kept, or what a read gives
-  pub present : (changes : Changes) (f : StoreFacts) (w : StoreWindow) (gives : Option (List (List ℕ))) → HasWindow changes f w → SeesDisk gives changes.disk → (b : Block) → is_known (own_of f) b ≡ true
+  pub present : (changes : Changes) (f : StoreFacts) (w : StoreWindow) (gives : Option (List (List ℕ))) → HasWindowAs ends changes f w → SeesDisk gives changes.disk → (b : Block) → is_known (own_of f) b ≡ true
       → IfSome gives (λ disk. IsShown w b (unwrap_or (f.body b) (content_of (sector_of disk) b)))
   -- as many commits wait as aren't known durable
-  pub waiting : (changes : Changes) (f : StoreFacts) (w : StoreWindow) → HasWindow changes f w → f.durable + w.waiting ≡ f.commits
-  pub is_open : (changes : Changes) (f : StoreFacts) (w : StoreWindow) → HasWindow changes f w → w.is_open ≡ f.is_open
+  pub waiting : (changes : Changes) (f : StoreFacts) (w : StoreWindow) → HasWindowAs ends changes f w → f.durable + w.waiting ≡ f.commits
+  pub is_open : (changes : Changes) (f : StoreFacts) (w : StoreWindow) → HasWindowAs ends changes f w → w.is_open ≡ f.is_open
   -- and a machine stands behind the store
-  pub machine : (changes : Changes) (f : StoreFacts) (w : StoreWindow) → HasWindow changes f w → HasMachine changes f
+  pub machine : (changes : Changes) (f : StoreFacts) (w : StoreWindow) → HasWindowAs ends changes f w → HasMachineAs ends changes f
 
--- A store begins on a settled device whose log stands without entries, where the last durable restart page is of this host and names the ring's oldest page, and no other one was begun.
+-- what the window of a store says that goes on
+abbrev pub WindowsTell : Type 0
+WindowsTell = WindowsTellAs false
+
+-- A window of a store that goes on is one of a store that ends, and so is its machine; and each window of that says as much.
+pub record EndingsTell : Type 0 where
+  pub window : (changes : Changes) (f : StoreFacts) (w : StoreWindow) → HasWindow changes f w → HasEndingWindow changes f w
+  pub machine : (changes : Changes) (f : StoreFacts) → HasMachine changes f → HasEndingMachine changes f
+  pub tell : WindowsTellAs true
+
+-- A store begins on a settled device whose log stands without entries, where the last durable restart page is of this host, names the ring's oldest page and doesn't say that the log is closed, and no other one was begun or sent.
 pub record StoresStart : Type 0 where
   pub start : (changes : Changes) (place : LogPlace) (log : LogAreaOf) (found : List Block) (lap : ℕ) (r : Ring) (q : Restarts) (fields : RestartFields) (disk : Disk) (own : Restart) → changes.disk ≡ Some disk
-      → Stands (record { place = place; lap = lap }) log r q [] fields disk → q.begun ≡ false → fields q.sure ≡ Some own → own.oldest ≡ lsn_of_page (record { place = place; lap = lap }) r.oldest → FitsRestart own
+      → Stands (record { place = place; lap = lap }) log r q [] fields disk → q.begun ≡ false → fields q.sure ≡ Some own → own.oldest ≡ lsn_of_page (record { place = place; lap = lap }) r.oldest → FitsRestart own → is_clean own ≡ false → log.sent ≡ None
       → IsSettled disk → IsSized disk → HasStart changes (first_facts place log found) (content_of (seen disk))
 
 -- The open transaction may change the block in this way, where this is its present body: the block begins in the volume, the bytes fit, the body after them has a spelling, no rival of the
@@ -132,22 +142,22 @@ pub record StandsThere (gives : Option (List (List ℕ))) (f : StoreFacts) (b : 
 
 -- Calls of a device, of which these are the words of its contract.
 pub record DeviceSteps {D : Type 0} (gives : D → Option (List (List ℕ))) (changes : D → Changes) (moment : D → ℕ) : Type 0 where
-  -- a session is opened on a log of which its ring stands: a restart page that names its first page was written, and synced
-  pub open_log : (place : LogPlace) (found : List Block) (lap restart opens : ℕ) (r : Ring) (q : Restarts) (fields : RestartFields) (disk : Disk) (clean : Bool) (word : ℕ) (old mid new : D) → (changes old).disk ≡ Some disk
+  -- a session is opened on a log of which its ring stands: a restart page that names its first page was written, which doesn't say that the log is closed, and synced
+  pub open_log : (place : LogPlace) (found : List Block) (lap restart opens : ℕ) (r : Ring) (q : Restarts) (fields : RestartFields) (disk : Disk) (word : ℕ) (old mid new : D) → (changes old).disk ≡ Some disk
       → SeesDisk (gives old) (changes old).disk → IfSome (changes new).disk IsSized → Stands (record { place = place; lap = lap }) (new_area place lap restart opens) r q [] fields disk
-      → MayName (new_area place lap restart opens) q fields (first_lsn place lap restart opens) clean → SendsRestart gives changes moment (new_area place lap restart opens) (first_lsn place lap restart opens) clean word (Ok tt) old mid
+      → MayName (new_area place lap restart opens) q fields (first_lsn place lap restart opens) false → SendsRestart gives changes moment (new_area place lap restart opens) (first_lsn place lap restart opens) false word (Ok tt) old mid
       → SyncsNow changes moment (Ok tt) mid new → StartsOn changes place (opened_area place lap restart opens) found new
-  -- what reads alone leaves the window
-  pub read : (count : ℕ) (f : StoreFacts) (old new : D) → IsAsked gives changes moment old new → Simulates count (moment old) (changes old) (changes new) f f AfterWrite
+  -- what reads alone leaves the window, also of a store that ends
+  pub read : (ends : Bool) (count : ℕ) (f : StoreFacts) (old new : D) → IsAsked gives changes moment old new → SimulatesAs ends count (moment old) (changes old) (changes new) f f AfterWrite
   -- a page of the log was written; it was sent in a write that failed
   pub page : (count : ℕ) (f : StoreFacts) (word : ℕ) (old new : D) → SeesDisk (gives old) (changes old).disk → IfSome (changes new).disk IsSized → f.log.done < f.log.sealed
       → SendsNext gives changes moment f.log word (Ok tt) old new → Simulates count (moment old) (changes old) (changes new) f (written_facts f) AfterWrite
   pub page_fails : (count : ℕ) (f : StoreFacts) (word : ℕ) (old new : D) → SeesDisk (gives old) (changes old).disk → IfSome (changes new).disk IsSized → f.log.done < f.log.sealed
       → (fault : Failed) → SendsNext gives changes moment f.log word (Err fault) old new → Simulates count (moment old) (changes old) (changes new) f (sent_facts word f) AfterWrite
-  -- a sync where no restart page was written: dead bodies leave whose killers it made durable; and a sync that failed
-  pub sync : (count : ℕ) (f : StoreFacts) (old new : D) → IfSome (changes new).disk IsSized → f.log.named ≡ None → SyncsNow changes moment (Ok tt) old new
-      → Simulates count (moment old) (changes old) (changes new) f (synced_facts f) (MovesTo (λ b. is_buried f.log.done (f.mark b)))
-  pub sync_fails : (count : ℕ) (f : StoreFacts) (old new : D) (fault : Failed) → SyncsNow changes moment (Err fault) old new → Simulates count (moment old) (changes old) (changes new) f f AfterWrite
+  -- a sync where no restart page was written: dead bodies leave whose killers it made durable; and a sync that failed; also of a store that ends
+  pub sync : (ends : Bool) (count : ℕ) (f : StoreFacts) (old new : D) → IfSome (changes new).disk IsSized → f.log.named ≡ None → SyncsNow changes moment (Ok tt) old new
+      → SimulatesAs ends count (moment old) (changes old) (changes new) f (synced_facts f) (MovesTo (λ b. is_buried f.log.done (f.mark b)))
+  pub sync_fails : (ends : Bool) (count : ℕ) (f : StoreFacts) (old new : D) (fault : Failed) → SyncsNow changes moment (Err fault) old new → SimulatesAs ends count (moment old) (changes old) (changes new) f f AfterWrite
   -- a block was written out
   pub write_out : (count begun check : ℕ) (f : StoreFacts) (b : Block) (x : Body) (old new : D) → f.body b ≡ Some x → is_ready f b ≡ true → has_spelling b.kind x.bytes ≡ true → check < 2 ^ 16
       → IfSome (changes new).disk IsSized → moment old ≤ begun → SendsBody gives changes moment begun b x.bytes check (Ok tt) old new
@@ -170,23 +180,27 @@ pub record MayEndCheckpoint (f : StoreFacts) (page : ℕ) : Type 0 where
   pub lap : lap_at f.log (next_number f.log 0x58) < 2 ^ sequence_bits f.log.pages
   pub opens : f.log.opens < 2 ^ 32 - 1
 
+-- The restart page says that the log is closed only where the store ends, and no page of entries stands from the named one on: behind such a page recovery reads none.
+abbrev pub MayClose : (ends : Bool) → StoreFacts → (page : ℕ) → (clean : Bool) → Type 0
+MayClose ends f page clean = clean ≡ true → (ends ≡ true) × (pages_end f ≤ page)
+
 -- the restart page that names this page of the log is sent to its place
 abbrev pub SendsNaming : {D : Type 0} → (D → Option (List (List ℕ))) → (D → Changes) → (D → ℕ) → LogAreaOf → ℕ → Bool → ℕ → Result (Unit {0}) Failed → D → D → Type 0
 SendsNaming gives changes moment log page clean word result old new = SendsRestart gives changes moment log (front_lsn log page) clean word result old new
 
--- The end of a checkpoint, by calls of a device of which these are the words of its contract.
+-- The end of a checkpoint, by calls of a device of which these are the words of its contract; also of the last one of a store that ends.
 pub record CheckpointSteps {D : Type 0} (gives : D → Option (List (List ℕ))) (changes : D → Changes) (moment : D → ℕ) : Type 0 where
   -- the machine may write its restart page, and the log may name the noted page
-  pub renames : (f : StoreFacts) (page : ℕ) (disk : Disk) (m : Store) → StandsBehind f disk m → MayNameNoted f page → MayRename m
-  pub front : (f : StoreFacts) (page : ℕ) (disk : Disk) (m : Store) → StandsBehind f disk m → MayNameNoted f page → IsOldest f.log (front_lsn f.log page)
+  pub renames : (ends : Bool) (f : StoreFacts) (page : ℕ) (disk : Disk) (m : Store) → StandsBehindAs ends f disk m → MayNameNoted f page → MayRename m
+  pub front : (ends : Bool) (f : StoreFacts) (page : ℕ) (disk : Disk) (m : Store) → StandsBehindAs ends f disk m → MayNameNoted f page → IsOldest f.log (front_lsn f.log page)
   -- a restart page was written that names it; it was sent in a write that failed
-  pub name : (count page word : ℕ) (clean : Bool) (f : StoreFacts) (old new : D) → SeesDisk (gives old) (changes old).disk → IfSome (changes new).disk IsSized → MayEndCheckpoint f page
-      → SendsNaming gives changes moment f.log page clean word (Ok tt) old new → Simulates count (moment old) (changes old) (changes new) f (named_facts page f) AfterWrite
-  pub name_fails : (count page word : ℕ) (clean : Bool) (f : StoreFacts) (old new : D) → SeesDisk (gives old) (changes old).disk → IfSome (changes new).disk IsSized → MayEndCheckpoint f page
-      → (fault : Failed) → SendsNaming gives changes moment f.log page clean word (Err fault) old new → Simulates count (moment old) (changes old) (changes new) f (naming_facts page clean word f) AfterWrite
+  pub name : (ends : Bool) (count page word : ℕ) (clean : Bool) (f : StoreFacts) (old new : D) → SeesDisk (gives old) (changes old).disk → IfSome (changes new).disk IsSized → MayEndCheckpoint f page → MayClose ends f page clean
+      → SendsNaming gives changes moment f.log page clean word (Ok tt) old new → SimulatesAs ends count (moment old) (changes old) (changes new) f (named_facts page f) AfterWrite
+  pub name_fails : (ends : Bool) (count page word : ℕ) (clean : Bool) (f : StoreFacts) (old new : D) → SeesDisk (gives old) (changes old).disk → IfSome (changes new).disk IsSized → MayEndCheckpoint f page → MayClose ends f page clean
+      → (fault : Failed) → SendsNaming gives changes moment f.log page clean word (Err fault) old new → SimulatesAs ends count (moment old) (changes old) (changes new) f (naming_facts page clean word f) AfterWrite
   -- a sync: where a restart page was written it frees the ring up to the page that this names, and the checkpoint has ended; dead bodies leave as at each sync
-  pub sync : (count : ℕ) (f : StoreFacts) (old new : D) → IfSome (changes new).disk IsSized → SyncsNow changes moment (Ok tt) old new
-      → Simulates count (moment old) (changes old) (changes new) f (synced_facts f) (MovesTo (λ b. is_buried f.log.done (f.mark b)))
+  pub sync : (ends : Bool) (count : ℕ) (f : StoreFacts) (old new : D) → IfSome (changes new).disk IsSized → SyncsNow changes moment (Ok tt) old new
+      → SimulatesAs ends count (moment old) (changes old) (changes new) f (synced_facts f) (MovesTo (λ b. is_buried f.log.done (f.mark b)))
 
 -- The next step by what a store tells may be taken, where no transaction is open.
 abbrev pub NextStepsMayBeTaken : Type 0

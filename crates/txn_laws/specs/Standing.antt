@@ -1,5 +1,5 @@
 -- What stands behind what a store keeps: the machine, the log on the disk, and what the one says of the other.
-use Rattle.std.specs.Prelude.{◌≡◌, ◌≢◌, ◌⊎◌, ℕ, suc, ◌+◌, ◌-◌, ◌*◌, ◌%◌, ◌<◌, ◌≤◌, ◌&&◌, ◌||◌, Bool, true, false, List, [], length, take, drop, get_or, slice_index, Some, is_some, IfSome}
+use Rattle.std.specs.Prelude.{◌≡◌, ◌≢◌, ◌⊎◌, ℕ, suc, ◌+◌, ◌-◌, ◌*◌, ◌%◌, ◌<◌, ◌≤◌, ◌&&◌, ◌||◌, Bool, true, false, List, [], length, take, drop, get_or, slice_index, Option, Some, is_some, IfSome}
 use Rattle.std.specs.List.{AllByRecursion}
 use Rattle.disk_model.specs.declared.block.Block.{Block}
 use Rattle.disk_model.specs.declared.block.Body.{Body}
@@ -7,7 +7,9 @@ use Rattle.disk_model.specs.Sectors.{sectors, are_rivals}
 use Rattle.sector_device.specs.Disks.{Disk, IsSized}
 use Rattle.log_model.specs.declared.entry.Entry.{Entry}
 use Rattle.log_model.specs.Logs.{last_said, is_misplaced}
-use Rattle.log_page.specs.Restarts.{FitsRestart}
+use Rattle.log_page.specs.declared.restart.Restart.{Restart}
+use Rattle.log_page.specs.Restarts.{is_clean, FitsRestart}
+use Rattle.log_area.specs.declared.restart.SentRestart.{SentRestart}
 use Rattle.log_area.specs.Areas.{sent_word}
 use Rattle.store_model.specs.Logs.{BodyBytes, commits, undone, has_update, ended_with, IsOusted}
 use Rattle.store_model.specs.Geometry.{Geometry}
@@ -92,12 +94,22 @@ pub record AreOwnPages (q : Restarts) (fields : RestartFields) : Type 0 where
   pub sure : IfSome (fields q.sure) FitsRestart
   pub next : q.begun ≡ true → IfSome (fields (suc q.sure)) FitsRestart
 
+-- A restart page says that the log is closed only in a store that ends, and where none of the log's pages stands behind the place that it names, of so many there.
+abbrev pub ClosesNone : (ends : Bool) → (behind : ℕ) → Restart → Type 0
+ClosesNone ends behind page = is_clean page ≡ true → (ends ≡ true) × (behind ≡ 0)
+
+-- So it is of the last durable restart page, behind which all pages stand; and of the next one, once that was begun, and of one that was sent, behind which those from the noted one on do.
+pub record CloseNone (ends : Bool) (o : Option SentRestart) (q : Restarts) (fields : RestartFields) (all rest : ℕ) : Type 0 where
+  pub sure : IfSome (fields q.sure) (ClosesNone ends all)
+  pub next : q.begun ≡ true → IfSome (fields (suc q.sure)) (ClosesNone ends rest)
+  pub sent : IfSome o (λ x. ClosesNone ends rest x.page)
+
 -- each update is of bytes of a block that begins in the volume, of so many clusters
 abbrev pub ArePlaced : ℕ → List Entry → Type 0
 ArePlaced clusters log = AllByRecursion (λ (e : Entry). is_misplaced clusters e.act ≡ false) log
 
--- A sound machine stands behind a store, on this disk.
-pub record StandsBehind (f : StoreFacts) (disk : Disk) (m : Store) : Type 0 where
+-- A sound machine stands behind a store, on this disk: behind one that ends, or that goes on.
+pub record StandsBehindAs (ends : Bool) (f : StoreFacts) (disk : Disk) (m : Store) : Type 0 where
   pub geometry : Geometry
   pub volume : IsVolume (own_of f) geometry
   pub lap : ℕ
@@ -113,8 +125,13 @@ pub record StandsBehind (f : StoreFacts) (disk : Disk) (m : Store) : Type 0 wher
   pub same : m.disk ≡ disk_without (own_of f) disk
   pub sized : IsSized disk
   pub own_pages : AreOwnPages restarts fields
+  pub closes : CloseNone ends f.log.sent restarts fields (length pages) (ring.oldest + length pages - noted)
   pub placed : ArePlaced f.place.clusters m.log
   pub sound : IsSound geometry m
   pub window : KeepsWindow f m.window
   pub marks : KeepsMarks f geometry m
   pub by_pages : KeepsPages (session_of f lap) f ring pages m
+
+-- behind a store that goes on: no restart page that a crash may leave says that its log is closed
+abbrev pub StandsBehind : StoreFacts → Disk → Store → Type 0
+StandsBehind f disk m = StandsBehindAs false f disk m

@@ -1,5 +1,5 @@
 -- The window of a store, and what a call does to it.
-use Rattle.std.specs.Prelude.{◌≡◌, ◌⊎◌, ℕ, suc, ◌≤◌, max, Bool, true, false, List, Some, None}
+use Rattle.std.specs.Prelude.{◌≡◌, ◌⊎◌, ℕ, suc, ◌≤◌, max, Bool, true, false, List, [], Some, None}
 use Rattle.disk_model.specs.declared.block.Block.{Block}
 use Rattle.disk_model.specs.declared.block.Body.{Body}
 use Rattle.disk_model.specs.Bytes.{written}
@@ -13,7 +13,7 @@ use Rattle.log_model.specs.Logs.{is_shadowed, is_other, is_written_out, first_mi
 use Rattle.log_page.specs.declared.places.LogPlace.{LogPlace}
 use Rattle.log_page.specs.declared.restart.Restart.{Restart}
 use Rattle.log_page.specs.LiveLogs.{live_log, next_lap}
-use Rattle.log_page.specs.Restarts.{FitsRestart}
+use Rattle.log_page.specs.Restarts.{is_clean, FitsRestart}
 use Rattle.log_area.specs.Areas.{lap_at, next_number}
 use Rattle.log_reading.specs.Fronts.{chosen_in}
 use Rattle.store_model.specs.Logs.{has_update}
@@ -25,15 +25,31 @@ use Rattle.store_claims.specs.Windows.{StoreWindow, store_window}
 use Rattle.store_claims.specs.Moves.{Keeps, ClaimsStay, ClaimsAfterChange, ClaimsAfterCommit, ClaimsAfterGiveUp}
 use Rattle.ring_laws.specs.PageBytes.{raw_page}
 use Rattle.txn_model.specs.Values.{StoreFacts, own_of}
-use Rattle.txn_laws.specs.Standing.{StandsBehind}
+use Rattle.txn_laws.specs.Standing.{StandsBehindAs}
 
--- where the disk is known, a machine stands behind the store
+-- where the disk is known, a machine stands behind the store, as behind one that ends, or that goes on
+abbrev pub HasMachineAs : Bool → Changes → StoreFacts → Type 0
+HasMachineAs ends changes f = (disk : Disk) → changes.disk ≡ Some disk → (m : Store) × StandsBehindAs ends f disk m
+
+-- the disk is known, and this is the window of a machine that stands so behind the store
+abbrev pub HasWindowAs : Bool → Changes → StoreFacts → StoreWindow → Type 0
+HasWindowAs ends changes f w = (disk : Disk) × (changes.disk ≡ Some disk) × (m : Store) × StandsBehindAs ends f disk m × (store_window m ≡ w)
+
+-- where the disk is known, a machine stands behind a store that goes on
 abbrev pub HasMachine : Changes → StoreFacts → Type 0
-HasMachine changes f = (disk : Disk) → changes.disk ≡ Some disk → (m : Store) × StandsBehind f disk m
+HasMachine changes f = HasMachineAs false changes f
 
--- the disk is known, and this is the window of a machine that stands behind the store
+-- the disk is known, and this is the window of a machine that stands behind a store that goes on
 abbrev pub HasWindow : Changes → StoreFacts → StoreWindow → Type 0
-HasWindow changes f w = (disk : Disk) × (changes.disk ≡ Some disk) × (m : Store) × StandsBehind f disk m × (store_window m ≡ w)
+HasWindow changes f w = HasWindowAs false changes f w
+
+-- where the disk is known, a machine stands behind a store that ends
+abbrev pub HasEndingMachine : Changes → StoreFacts → Type 0
+HasEndingMachine changes f = HasMachineAs true changes f
+
+-- the disk is known, and this is the window of a machine that stands behind a store that ends
+abbrev pub HasEndingWindow : Changes → StoreFacts → StoreWindow → Type 0
+HasEndingWindow changes f w = HasWindowAs true changes f w
 
 -- This is the block's present body, torn at most where the content is.
 pub record IsShown (w : StoreWindow) (b : Block) (body : Body) : Type 0 where
@@ -54,7 +70,7 @@ pub record HasStart (changes : Changes) (f : StoreFacts) (content : Content) : T
   pub present : (b : Block) → window.present b ≡ content b
   pub claimed : ClaimsAll window.claimed
 
--- Recovery of the image chooses a restart page of this host, reads a list of entries from its oldest place on, and no entry of another shape; each entry updates bytes of a known block of the volume; it refuses
+-- Recovery of the image chooses a restart page of this host, reads a list of entries from its oldest place on, and no entry of another shape, and none where that page says that the log is closed; each entry updates bytes of a known block of the volume; it refuses
 -- the list for no block that is covered in part, and for no body that has no spelling; and it leaves the known blocks that the list doesn't shadow as they are so many commits back,
 -- and so all that are claimed there.
 pub record RecoversWithin (place : LogPlace) (own : ℕ → Bool) (w : StoreWindow) (image : SectorBytes) : Type 0 where
@@ -63,6 +79,7 @@ pub record RecoversWithin (place : LogPlace) (own : ℕ → Bool) (w : StoreWind
   pub own_page : FitsRestart restart
   pub list : List Entry
   pub reads : live_log place.pages (raw_page place image) restart.oldest ≡ record { entries = list; foreign = None }
+  pub closed : is_clean restart ≡ true → list ≡ []
   pub back : ℕ
   pub within : back ≤ w.waiting
   pub recovers : RecoversToContent own list image (w.before back)
@@ -91,13 +108,21 @@ abbrev pub LapsDuring : (count moment : ℕ) → Changes → Changes → StoreFa
 LapsDuring count moment old now f g = (t : ℕ) (image : List (List ℕ)) → t ≤ moment → LeftSince count now t image
     → LeftSince count old t image ⊎ (next_lap_in f.place (sector_of image) ≤ max (lap_behind f) (lap_behind g))
 
--- Whatever window the store had, it has one that follows; its device wasn't known only now; and its log lies where it did.
-pub record Simulates (count moment : ℕ) (old now : Changes) (f g : StoreFacts) (After : StoreWindow → StoreWindow → Type 0) : Type 0 where
+-- Whatever window the store had, as one that ends or that goes on, it has one that follows; its device wasn't known only now; and its log lies where it did.
+pub record SimulatesAs (ends : Bool) (count moment : ℕ) (old now : Changes) (f g : StoreFacts) (After : StoreWindow → StoreWindow → Type 0) : Type 0 where
   pub known : (e : Disk) → now.disk ≡ Some e → (d : Disk) × (old.disk ≡ Some d)
   pub place : g.place ≡ f.place
   pub found : g.found ≡ f.found
-  pub steps : (w : StoreWindow) → HasWindow old f w → (v : StoreWindow) × HasWindow now g v × After w v × During count moment old now f w v
-  pub laps : (w : StoreWindow) → HasWindow old f w → LapsDuring count moment old now f g
+  pub steps : (w : StoreWindow) → HasWindowAs ends old f w → (v : StoreWindow) × HasWindowAs ends now g v × After w v × During count moment old now f w v
+  pub laps : (w : StoreWindow) → HasWindowAs ends old f w → LapsDuring count moment old now f g
+
+-- whatever window a store had that goes on, it has one that follows, and goes on
+abbrev pub Simulates : (count moment : ℕ) → Changes → Changes → StoreFacts → StoreFacts → (StoreWindow → StoreWindow → Type 0) → Type 0
+Simulates count moment old now f g After = SimulatesAs false count moment old now f g After
+
+-- whatever window a store had that ends, it has one that follows
+abbrev pub SimulatesEnd : (count moment : ℕ) → Changes → Changes → StoreFacts → StoreFacts → (StoreWindow → StoreWindow → Type 0) → Type 0
+SimulatesEnd count moment old now f g After = SimulatesAs true count moment old now f g After
 
 -- ---- the windows after each call
 

@@ -3,6 +3,7 @@ ghost use Rattle.txn_laws.specs.Mounting.{MountsGoOn};
 ghost use Rattle.txn_laws.specs.Laws.{
   CheckpointSteps,
   DeviceSteps,
+  EndingsTell,
   MemoryCalls,
   NextStepsMayBeTaken,
   StoresStart,
@@ -17,6 +18,12 @@ use sector_device::Device;
 /// kept, or what a read gives.
 pub fn windows_tell()
     ensures { WindowsTell }
+{}
+
+/// Law: a store that goes on is one that ends; and the window of one that ends says as much, so that
+/// whatever a crash may leave behind its last restart page recovers to a content of the window.
+pub fn endings_tell()
+    ensures { EndingsTell }
 {}
 
 /// Law: a store on a settled device whose log has no entries has a window, whose present content is
@@ -39,7 +46,8 @@ pub fn device_steps<D: Device>(_device: &D)
 
 /// Law: so does the end of a checkpoint: the restart page that names the noted page, whether its
 /// write answers `Ok` or fails, again with the same bytes too, and the sync behind it, which frees
-/// the ring up to that page.
+/// the ring up to that page. Where a store ends, the page of its last checkpoint may say that the log
+/// is closed.
 pub fn checkpoint_steps<D: Device>(_device: &D)
     ensures { CheckpointSteps D.gives D.changes_of D.moment_of }
 {}

@@ -8,6 +8,6 @@
 mod laws;
 
 pub use laws::{
-    checkpoint_steps, device_steps, memory_calls, mounts_go_on, next_steps_may_be_taken,
-    stores_start, told_can_be, windows_follow, windows_tell,
+    checkpoint_steps, device_steps, endings_tell, memory_calls, mounts_go_on,
+    next_steps_may_be_taken, stores_start, told_can_be, windows_follow, windows_tell,
 };

@@ -180,4 +180,4 @@ module _ (place : LogPlace) (ring : IsRingPlace place) (kept : List Block) (firs
       pub begins_on : (by : List Block) (changes : Changes) → changes.disk ≡ Some disk → HasStart changes (first_facts place (opened_area place state.next_lap state.restart state.opens) by) (content_of (seen disk))
       begins_on by changes known = subst (λ (l : LogAreaOf). HasStart changes (first_facts place l by) (content_of (seen disk))) (sym opened_is)
           (starts_window place b by state.next_lap (first_ring s) (found_restarts (1 - state.restart)) (λ n. Some page) disk page stands_b refl refl (is_first s b (first_ring s) (found_restarts (1 - state.restart)) [] (λ n. Some page) disk stands_b 0) (record { major = refl; minor = refl; own = refl })
-          (λ n. refl) sized changes known)
+          refl refl (λ n. refl) sized changes known)

@@ -1,10 +1,7 @@
 pub mod Volumes
-pub mod Changes
-pub mod Rooms
-pub mod Claims
-pub mod Windows
-pub mod Logging
-pub mod Preparing
-pub mod Puts
-pub mod Turns
-pub mod Spared
+pub mod Looks
+pub mod Staying
+pub mod Histories
+pub mod Calls
+pub mod Trees
+pub mod Telling

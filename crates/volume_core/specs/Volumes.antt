@@ -1,39 +1,39 @@
--- What a volume keeps in memory of the state that its store shows.
-use Rattle.std.specs.Prelude.{◌≡◌, ℕ, ◌^◌, ◌≤◌, false, List, Option, IfSome}
-use Rattle.disk_model.specs.declared.block.Block.{Block}
-use Rattle.disk_model.specs.Content.{Content}
-use Rattle.state_model.specs.declared.geometry.Geometry.{Geometry}
+-- A volume on a device: what it is seen as, and what is always so of it.
+use Rattle.std.specs.Prelude.{◌≡◌, ℕ, List, length, Option, IfSome}
+use Rattle.std.specs.Option.{option_map}
 use Rattle.sector_device.specs.Moments.{Changes}
-use Rattle.volume_model.specs.Volumes.{Volume, upper_of}
-use Rattle.map_change.specs.Parts.{MapParts, parts_of}
-use Rattle.plan_owners.specs.States.{Stands}
-use Rattle.state_blocks.specs.Needing.{IsNeeded}
-use Rattle.store_claims.specs.Windows.{StoreWindow}
-use Rattle.txn_model.specs.Values.{StoreFacts}
-use Rattle.txn_laws.specs.Windows.{HasWindow}
+use Rattle.file_tree.specs.declared.tree.Tree.{Tree}
+use Rattle.log_reading.specs.Rings.{IsRingPlace}
+use Rattle.volume_state.specs.Trees.{tree_of}
+use Rattle.map_change.specs.Parts.{MapParts}
+use Rattle.volume_tree.specs.declared.names.Names.{Names}
+use Rattle.volume_tree.specs.Named.{AreNamesOf}
+use Rattle.file_puts.specs.declared.streams.VolumeStreams.{VolumeStreams}
 use Rattle.txn_state.specs.States.{StateOf, facts_of}
-use Rattle.txn_core.specs.Views.{present_on, present_content}
-use Rattle.turn_laws.specs.Sparing.{IsSpared}
+use Rattle.txn_core.specs.Seen.{Seen}
+use Rattle.txn_core.specs.Views.{present_content}
+use Rattle.state_store.specs.Volumes.{HoldsState}
+use Rattle.working_volume.specs.Ready.{IsReady}
 
--- where the file table of a map's volume is found
-abbrev pub geometry_of : MapParts → Geometry
-geometry_of m = record { per_cluster = m.volume.per; mft = m.volume.mft }
+-- A volume: its store on a device, the map of its content, its table of upper-case units, and the streams of its file table, of the table's mirror and of the bits of its clusters.
+pub record SeenVolume (D : Type 0) : Type 0 where
+  pub store : Seen D
+  pub map : MapParts
+  pub table : List ℕ
+  pub streams : VolumeStreams
 
--- The content is a state, of which this is the map, and this the table of upper-case units.
-pub record IsStateOf (m : MapParts) (table : List ℕ) (c : Content) : Type 0 where
-  pub stands : Stands c (geometry_of m) m.volume.clusters m.volume
-  pub map : m ≡ parts_of c m.volume
-  pub upper : table ≡ upper_of c m.volume
+-- the tree of the present content, where it is known
+abbrev pub present_tree : Option (List (List ℕ)) → StateOf → MapParts → Option Tree
+present_tree gives state m = option_map (λ c. tree_of c m.volume) (present_content gives state)
 
--- The store has a window, and no step of it takes the body of a block from which its present content, over these sectors, is read as a state of this volume.
-pub record SparesState (changes : Changes) (f : StoreFacts) (v : Volume) (disk : List (List ℕ)) : Type 0 where
-  pub window : StoreWindow
-  pub has : HasWindow changes f window
-  pub spared : (b : Block) → IsNeeded (present_on disk f) v b → IsSpared f window disk b
+abbrev pub volume_tree : {D : Type 0} → (D → Option (List (List ℕ))) → SeenVolume D → Option Tree
+volume_tree gives v = present_tree (gives v.store.device) v.store.state v.map
 
--- What is always so of a volume: no transaction is open, and the present content of its store is such a state, which no step of the store takes from it, where it is known.
-pub record HoldsState (gives : Option (List (List ℕ))) (changes : Changes) (state : StateOf) (m : MapParts) (table : List ℕ) : Type 0 where
-  pub closed : state.is_open ≡ false
-  pub near : state.place.device ≤ 2 ^ 62
-  pub shown : IfSome (present_content gives state) (IsStateOf m table)
-  pub spares : IfSome gives (SparesState changes (facts_of state) m.volume)
+-- What is always so of a volume: its store shows a state, of which this is the map, this the table of upper-case units, and these the names of the files; its log lies as a ring asks; it is ready for
+-- operations, where the content is known; and there is room for a piece of the device.
+pub record IsWorking (gives : Option (List (List ℕ))) (changes : Changes) (state : StateOf) (m : MapParts) (table : List ℕ) (s : VolumeStreams) (names : Names) (room : List ℕ) : Type 0 where
+  pub holds : HoldsState gives changes state m table
+  pub ring : IsRingPlace state.place
+  pub named : AreNamesOf names m.volume.files
+  pub ready : IfSome (present_content gives state) (IsReady (facts_of state) m table s)
+  pub sized : length room ≡ 65536

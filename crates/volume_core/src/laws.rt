@@ -1,9 +1,12 @@
-//! The law of these definitions.
-ghost use Rattle.volume_core.specs.Spared.{PutsSpare};
+//! The laws of these definitions.
+ghost use Rattle.volume_core.specs.Staying.{ReadyStays};
 
-/// Law: where a window of the store spared each block from which its present content was read as a
-/// state, each window that follows changes which were put, or weren't, spares each block from which
-/// the content behind them is read.
-pub fn puts_spare()
-    ensures { PutsSpare }
-{}
+use state_blocks::needed_is_all;
+
+/// Law: a content from which operations are planned stays one where the blocks stay from which it is
+/// read as a state.
+pub fn ready_stays()
+    ensures { ReadyStays }
+{
+    needed_is_all();
+}

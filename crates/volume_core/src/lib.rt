@@ -1,25 +1,24 @@
-//! Lists of changes that lead from a state to a state, through a store of a device's blocks that shows
-//! a state, of which the map in memory follows the content: each list as one transaction. They keep
-//! the names of the files, so that what is told by these needn't be made anew.
+//! A volume on a device: it takes operations one at a time through its store, and what it keeps in
+//! memory stays right.
 //!
-//! The contract: the present content of the store is a state, of which the map is the map. After a
-//! call that answers `Ok` it is the content after the changes, with one commit more; after any error
-//! content, map and commits are as before. A step of the store itself, as a page written or a block
-//! written out, leaves them too, whatever it answers: it takes no body from which the state is read.
+//! The contract: the present content of the store is a state, of which the map is the map; each
+//! operation that looks is replied what the tree of this state says, and each one that writes, fills
+//! or cuts a file is a step of it, as one transaction, or leaves it as it is. A step of the store
+//! leaves it too. Whatever a crash leaves mounts as one of the trees that the volume had, those of
+//! its last operations that aren't known durable, or the newest one that is.
 #![tactic(auto)]
 
-mod fault;
+mod changing;
+mod closing;
 mod laws;
-mod logging;
-mod preparing;
-mod putting;
-mod rooms;
+mod looking;
+mod telling;
 mod turning;
+mod volume;
 
-pub use disk_model::Change;
-pub use fault::PutFault;
-pub use flush_policy::StoreStep;
+pub use flush_policy::{Facts, StoreStep};
 pub use host_base::Failed;
-pub use laws::puts_spare;
-pub use putting::put_changes;
-pub use turning::turn_store;
+pub use laws::ready_stays;
+pub use txn_close::CloseFault;
+pub use volume::Volume;
+pub use working_volume::DoFault;

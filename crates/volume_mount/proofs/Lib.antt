@@ -5,3 +5,4 @@ pub mod Opened
 pub mod Sectors
 pub mod Replying
 mod Fronting
+pub mod Booting

@@ -1,5 +1,5 @@
 -- A volume that was opened and loaded is the mounted one that is meant.
-use Rattle.std.proofs.Common.{◌≡◌, ℕ, Option, Some, None, Result, Ok, Err, refl, sym, ap, ◌∙◌, subst}
+use Rattle.std.proofs.Common.{◌≡◌, ℕ, List, Option, Some, None, Result, Ok, Err, refl, sym, ap, ◌∙◌, subst}
 use Rattle.std.proofs.Math.Path.{fun_ext}
 use Rattle.std.specs.Prelude.{Bool, is_some, IfSome}
 use Rattle.std.specs.Int.{div_ceil}
@@ -9,11 +9,11 @@ use Rattle.disk_model.specs.Content.{Content}
 use Rattle.record_model.proofs.Answering.{steps_from_ok}
 use Rattle.state_model.specs.declared.geometry.Geometry.{Geometry}
 use Rattle.state_model.specs.Rules.{first_failing}
-use Rattle.volume_model.specs.Volumes.{Volume, upper_of}
+use Rattle.volume_model.specs.Volumes.{Volume, cluster_bits, upper_of}
 use Rattle.volume_state.specs.Rules.{first_broken}
 use Rattle.volume_state.specs.Trees.{tree_of, checked}
 use Rattle.volume_state.proofs.Reports.{reports}
-use Rattle.volume_map.specs.Maps.{volume_in}
+use Rattle.volume_map.specs.Maps.{IsMapOf, volume_in}
 use Rattle.log_page.specs.declared.places.LogPlace.{LogPlace}
 use Rattle.log_recovery.specs.Recovering.{content_with, shadow_lsn}
 use Rattle.volume_shadows.specs.Live.{least_lsn, least_live}
@@ -30,7 +30,7 @@ use Rattle.image_read.specs.Errors.{broken_refusal}
 use Rattle.image_read.specs.Checks.{volume_on, has_version, tree_on}
 use Rattle.volume_mount.specs.declared.loading.LoadedVolume.{LoadedVolume}
 use Rattle.volume_mount.specs.declared.mounted.Mounted.{Mounted}
-use Rattle.volume_mount.specs.Mounts.{Said, unless_said, unshadowed, placed, has_no_journal, is_there, begun_sectors, or_all, front_sectors, has_pages, pages_lie, may_be_changed, ruled, settled, paged, unjournaled, tried, loaded_on, MountedVolume, content_behind, mounted_as, mounted_by, mounted_in}
+use Rattle.volume_mount.specs.Mounts.{Said, unless_said, unshadowed, placed, has_no_journal, is_there, begun_sectors, or_all, front_sectors, has_pages, pages_lie, changeable, ruled, settled, paged, unjournaled, tried, loaded_on, MountedVolume, content_behind, mounted_as, mounted_by, mounted_in}
 use Rattle.volume_mount.specs.Trees.{content_of_mounted}
 use Rattle.volume_mount.specs.Answers.{IsMounted, IsMountedAs, MountsAs}
 
@@ -57,8 +57,8 @@ same_unless (Some lsn) w v e = absurd cc
 settled_unbroken : (said : Said) (place : LogPlace) (c : Content) (w v : Volume) → settled said place c w ≡ Ok v → first_broken c v ≡ None
 unfolding settled placed unshadowed
 settled_unbroken said place c w v is =
-    let s = steps_from_ok (ruled c w) (placed said place) v is in
-    let l = steps_from_ok (may_be_changed place s.0) (λ _. unshadowed said s.0) v s.2 in
+    let s = steps_from_ok (ruled c w) (λ x. placed said place (cluster_bits c x) x) v is in
+    let l = steps_from_ok (changeable place (cluster_bits c s.0) s.0) (λ _. unshadowed said s.0) v s.2 in
     subst (λ (x : Volume). first_broken c x ≡ None) (same_unless (least_live said s.0) s.0 v l.2) (ruled_unbroken c w s.0 s.1)
 
 tried_unbroken : (said : Said) (place : LogPlace) (c : Content) (w v : Volume) → tried said place c w ≡ Ok v → first_broken c v ≡ None
@@ -88,9 +88,9 @@ pages_alike : (p q : LogPlace) → LieAlike p q → has_pages p ≡ has_pages q
 unfolding has_pages
 pages_alike p q alike = rw (alike.pages, alike.initialised, alike.clusters) refl
 
-whole_alike : (p q : LogPlace) (v : Volume) → LieAlike p q → may_be_changed p v ≡ may_be_changed q v
-unfolding may_be_changed pages_lie
-whole_alike p q v alike = rw (front_alike p q alike, alike.pages, alike.clusters) refl
+whole_alike : (p q : LogPlace) (bits : List Bool) (v : Volume) → LieAlike p q → changeable p bits v ≡ changeable q bits v
+unfolding changeable pages_lie
+whole_alike p q bits v alike = rw (front_alike p q alike, alike.pages, alike.clusters) refl
 
 then_alike : {A B : Type 0} (first : Result A Refusal) (f g : A → Result B Refusal) → ((x : A) → f x ≡ g x) → (first >>= f) ≡ (first >>= g)
 then_alike (Ok x) f g same = same x
@@ -99,7 +99,8 @@ then_alike (Err e) f g same = refl
 settled_alike : (said : Said) (p q : LogPlace) (c : Content) (v : Volume) → LieAlike p q → settled said p c v ≡ settled said q c v
 unfolding settled placed
 settled_alike said p q c v alike =
-    then_alike (ruled c v) (λ w. may_be_changed p w >>= λ _. unshadowed said w) (λ w. may_be_changed q w >>= λ _. unshadowed said w) (λ w. ap (λ (r : Result (Unit {0}) Refusal). r >>= λ _. unshadowed said w) (whole_alike p q w alike))
+    then_alike (ruled c v) (λ w. changeable p (cluster_bits c w) w >>= λ _. unshadowed said w) (λ w. changeable q (cluster_bits c w) w >>= λ _. unshadowed said w)
+    (λ w. ap (λ (r : Result (Unit {0}) Refusal). r >>= λ _. unshadowed said w) (whole_alike p q (cluster_bits c w) w alike))
 
 tried_alike : (said : Said) (p q : LogPlace) (c : Content) (v : Volume) → LieAlike p q → tried said p c v ≡ tried said q c v
 unfolding tried unjournaled paged
@@ -139,12 +140,13 @@ module _ (c : Content) (meant : OpenedToWrite) (m : Mounted) (h : IsOpenedToWrit
   shown : Content
   shown = content_of_mounted m c
 
-  module _ (is : loaded_on (least_lsn m.opening.found.recovered.blocks.shadows.items) m.opening.place (content_of_mounted m c) m.opening.geometry m.opening.total ≡ Ok (volume_in m.map)) (upper : m.upper ≡ upper_of (content_of_mounted m c) (volume_in m.map)) where
+  module _ (is : loaded_on (least_lsn m.opening.found.recovered.blocks.shadows.items) m.opening.place (content_of_mounted m c) m.opening.geometry m.opening.total ≡ Ok (volume_in m.map)) (upper : m.upper ≡ upper_of (content_of_mounted m c) (volume_in m.map)) (of : IsMapOf (content_of_mounted m c) m.map) where
     parts : IsMounted c (mounted_as c meant (volume_in m.map)) m
     parts = record {
       opened = h;
       content = h.found.recovered.blocks.content;
       volume = refl;
+      parts = subst (λ (x : Content). IsMapOf x m.map) h.found.recovered.blocks.content of;
       upper = upper ∙ ap (λ (x : Content). upper_of x (volume_in m.map)) h.found.recovered.blocks.content;
       tree = known_where (Some (content_of_mounted m c)) m.upper (volume_in m.map) (unbroken (least_lsn m.opening.found.recovered.blocks.shadows.items) m.opening.place (content_of_mounted m c) m.opening.geometry m.opening.total (volume_in m.map) is) upper
           ∙ ap (λ (x : Content). Some (tree_of x (volume_in m.map))) h.found.recovered.blocks.content;
@@ -169,10 +171,10 @@ opening_fails known o e h = one known _ (λ c. (meant : OpenedToWrite) → IsOpe
 -- and what was loaded is mounted
 pub opening_is : (known : Option Content) (m : Mounted)
     → IfSome known (λ c. loaded_on (least_lsn m.opening.found.recovered.blocks.shadows.items) m.opening.place (content_of_mounted m c) m.opening.geometry m.opening.total ≡ Ok (volume_in m.map))
-    → IfSome known (λ c. m.upper ≡ upper_of (content_of_mounted m c) (volume_in m.map))
+    → IfSome known (λ c. m.upper ≡ upper_of (content_of_mounted m c) (volume_in m.map)) → IfSome known (λ c. IsMapOf (content_of_mounted m c) m.map)
     → IfSome known (λ c. (meant : OpenedToWrite) → IsOpenedToWrite c meant m.opening → MountsAs c (mounted_by c meant) (Ok m))
-opening_is known m first second =
-    both known _ _ (λ c. (meant : OpenedToWrite) → IsOpenedToWrite c meant m.opening → MountsAs c (mounted_by c meant) (Ok m)) (λ c p q meant is. loaded c meant m is p q) first second
+opening_is None m first second third = tt
+opening_is (Some c) m first second third = λ meant is. loaded c meant m is first second third
 
 opened_then : (c : Content) (o : OpeningToWrite) (result : Result Mounted MountFault) (opened : Result OpenedToWrite Refusal) → IsOpenedAs c opened o
     → ((meant : OpenedToWrite) → IsOpenedToWrite c meant o → MountsAs c (mounted_by c meant) result) → MountsAs c (opened >>= mounted_by c) result

@@ -6,7 +6,7 @@ use Rattle.disk_model.specs.Content.{Content}
 use Rattle.file_tree.specs.declared.tree.Tree.{Tree}
 use Rattle.tree_model.specs.declared.reply.Reply.{Reply}
 use Rattle.tree_model.specs.declared.reply.Reply.TheVariants.{Fault}
-use Rattle.volume_map.specs.Maps.{volume_in}
+use Rattle.volume_map.specs.Maps.{IsMapOf, volume_in}
 use Rattle.image_open.specs.declared.refusal.Refusal.{Refusal}
 use Rattle.image_open.specs.declared.refusal.MountFault.{MountFault}
 use Rattle.image_open.specs.Errors.{scan_cause}
@@ -17,12 +17,13 @@ use Rattle.volume_mount.specs.Trees.{content_of_mounted, tree_over}
 
 -- ---- a mount
 
--- What was mounted is what is meant, over the content of its disk: opened so, with the recovered content, the loaded volume and its table
--- of upper-case units; and its tree is the one that the volume stands for.
+-- What was mounted is what is meant, over the content of its disk: opened so, with the recovered content, the loaded volume, the heads and
+-- bits of this content, and its table of upper-case units; and its tree is the one that the volume stands for.
 pub record IsMounted (c : Content) (meant : MountedVolume) (m : Mounted) : Type 0 where
   pub opened : IsOpenedToWrite c meant.opened m.opening
   pub content : content_of_mounted m c ≡ meant.content
   pub volume : volume_in m.map ≡ meant.volume
+  pub parts : IsMapOf meant.content m.map
   pub upper : m.upper ≡ upper_in meant
   pub tree : tree_over m (Some c) ≡ Some (tree_in meant)
 

@@ -12,7 +12,7 @@ use Rattle.file_tree.specs.Walks.{child_in}
 use Rattle.state_model.specs.declared.geometry.Geometry.{Geometry}
 use Rattle.state_model.specs.Rules.{first_failing}
 use Rattle.state_model.specs.Trees.{all_links}
-use Rattle.volume_model.specs.Volumes.{Volume, files_by_number, file_in, count_of, log_file, upper_of}
+use Rattle.volume_model.specs.Volumes.{Volume, files_by_number, file_in, count_of, log_file, cluster_bits, upper_of}
 use Rattle.volume_state.specs.Journals.{extend_file, journal_name}
 use Rattle.volume_state.specs.Trees.{tree_of}
 use Rattle.log_model.specs.Logs.{recovered}
@@ -26,6 +26,7 @@ use Rattle.image_open.specs.Volumes.{on_disk}
 use Rattle.image_open.specs.Writing.{OpenedToWrite, opened_to_write_in}
 use Rattle.image_read.specs.Checks.{volume_on, has_version, tree_on}
 use Rattle.volume_shadows.specs.Live.{least_live}
+use Rattle.volume_mount.specs.Boot.{keeps_boot}
 
 -- ---- what a loaded volume is tried by
 
@@ -94,9 +95,14 @@ unless_failing (Some n) = Err (BadVolume 4 n)
 unfoldable pub has_single_lists : Volume → Result (Unit {0}) Refusal
 has_single_lists v = unless_failing (first_failing (λ n. has_single_list (file_in v n)) (count_of v))
 
--- What a volume has to show beside the rules before it is changed: the log's pages lie on the device, and no attribute list has a second piece.
-unfoldable pub may_be_changed : LogPlace → Volume → Result (Unit {0}) Refusal
-may_be_changed place v = pages_lie place v >>= λ _. has_single_lists v
+-- What a volume has to show beside the rules before it is changed, by these bits of its clusters: the log's pages lie on the device, no attribute list has a second piece, and the boot
+-- sector is kept.
+unfoldable pub changeable : LogPlace → List Bool → Volume → Result (Unit {0}) Refusal
+changeable place bits v = pages_lie place v >>= λ _. has_single_lists v >>= λ _. keeps_boot bits v
+
+-- the same by the bits of a content
+abbrev pub may_be_changed : LogPlace → Content → Volume → Result (Unit {0}) Refusal
+may_be_changed place c v = changeable place (cluster_bits c v) v
 
 -- what the entries of a log say of a block: the LSN of the first update of a rival, where they shadow it
 abbrev pub Said : Type 0
@@ -116,13 +122,13 @@ unshadowed said v = unless_said (least_live said v) v
 unfoldable pub ruled : Content → Volume → Result Volume Refusal
 ruled c v = tree_on c v >>= λ _. Ok v
 
--- the log's own pages, at this place, and what else is asked of a volume that is to be changed; and then the live blocks
-unfoldable pub placed : Said → LogPlace → Volume → Result Volume Refusal
-placed said place v = may_be_changed place v >>= λ _. unshadowed said v
+-- the log's own pages, at this place, and what else is asked of a volume that is to be changed, by these bits of its clusters; and then the live blocks
+unfoldable pub placed : Said → LogPlace → List Bool → Volume → Result Volume Refusal
+placed said place bits v = changeable place bits v >>= λ _. unshadowed said v
 
 -- these come behind the rules
 unfoldable pub settled : Said → LogPlace → Content → Volume → Result Volume Refusal
-settled said place c v = ruled c v >>= placed said place
+settled said place c v = ruled c v >>= λ w. placed said place (cluster_bits c w) w
 
 -- how many pages the log has comes before them
 unfoldable pub paged : Said → LogPlace → Content → Volume → Result Volume Refusal
@@ -174,7 +180,7 @@ mounted_in c sectors = opened_to_write_in c sectors >>= mounted_by c
 
 -- The mounted volume on these sectors; or the first refusal that applies: a device of no sectors; the sectors of a cluster, the boot sector,
 -- the device's length, record 2, and the log, as a mount that writes opens a volume; the records of the file table; the version; a change
--- journal; the pages of the log; the nine rules of a volume; a page of the log that lies nowhere; an attribute list in two pieces; and the log,
--- by which a live block is shadowed.
+-- journal; the pages of the log; the nine rules of a volume; a page of the log that lies nowhere; an attribute list in two pieces; a first cluster that
+-- another stream than $Boot's data has, or whose bit is clear; and the log, by which a live block is shadowed.
 unfoldable pub mounted_of : List (List ℕ) → Result MountedVolume Refusal
 mounted_of disk = on_disk mounted_in disk

@@ -5,13 +5,15 @@ ghost use Rattle.state_model.specs.Rules.{first_failing};
 ghost use Rattle.volume_model.specs.Volumes.{file_in, count_of};
 ghost use Rattle.volume_map.specs.Maps.{volume_in};
 ghost use Rattle.image_open.specs.Errors.{scan_cause};
-ghost use Rattle.volume_mount.specs.Mounts.{list_count, has_single_list, has_single_lists, may_be_changed};
+ghost use Rattle.volume_mount.specs.Mounts.{list_count, has_single_list, has_single_lists, changeable};
 
+use crate::boot::keeps_boot;
 use crate::pages::pages_lie;
 use file_record::{FileRec, file_at};
 use image_open::{MountFault, Refusal};
 use log_page::LogPlace;
 use record_model::ATTRIBUTE_LIST;
+use std::alloc::Global;
 use volume_map::VolumeMap;
 
 // How many attributes of a file are attribute lists.
@@ -55,14 +57,20 @@ fn has_single_lists(map: &VolumeMap) -> Result<(), MountFault>
 }
 
 /// Refuses a loaded volume that keeps the nine rules and can't be changed yet without harm
-/// (Linux-NTFS documentation, "$LogFile", "$ATTRIBUTE_LIST"): with the first that applies of
-/// [`Refusal::LogSmall`] where a page of the log at this place lies nowhere, as [`pages_lie`] says,
-/// and [`Refusal::BadVolume`] with rule 4 and the least number of a file whose attribute list has a
-/// second piece. It takes time linear in the attributes of all files and in the runs of the log.
-#[tactic(auto, unfolding(crate::specs::Mounts::may_be_changed))]
-pub fn may_be_changed(place: &LogPlace, map: &VolumeMap) -> Result<(), MountFault>
-    ensures { Gives (λ x. x) scan_cause result (may_be_changed place.now (volume_in map.now)) }
+/// (Linux-NTFS documentation, "$LogFile", "$ATTRIBUTE_LIST", "$Boot"). It takes time linear in the
+/// attributes of all files and in the runs of the log, and beside it what [`keeps_boot`] takes.
+///
+/// - [`MountFault::Refused`]: the first that applies of [`Refusal::LogSmall`] where a page of the log
+///   at this place lies nowhere, as [`pages_lie`] says; [`Refusal::BadVolume`] with rule 4 and the
+///   least number of a file whose attribute list has a second piece; and [`Refusal::BadVolume`] with
+///   number 0, and rule 5 where a stream has the first cluster, in which the boot sector lies, that
+///   isn't the data of `$Boot`, or rule 6 where the bit of that cluster is clear.
+/// - [`MountFault::Memory`]: want of memory.
+#[tactic(auto, unfolding(crate::specs::Mounts::changeable))]
+pub fn may_be_changed(alloc: Global, place: &LogPlace, map: &VolumeMap) -> Result<(), MountFault>
+    ensures { Gives (λ x. x) scan_cause result (changeable place.now map.now.cluster_bits (volume_in map.now)) }
 {
     pages_lie(place, map)?;
-    has_single_lists(map)
+    has_single_lists(map)?;
+    keeps_boot(alloc, map)
 }

@@ -10,8 +10,10 @@
 #![tactic(auto)]
 
 mod asking;
+mod boot;
 mod holding;
 mod journal;
+mod laws;
 mod lent;
 mod loading;
 mod mounted;
@@ -20,5 +22,6 @@ mod pages;
 
 pub use asking::MountedTree;
 pub use image_open::{MountFault, OpeningToWrite, Refusal};
+pub use laws::boot_is_tried;
 pub use mounted::Mounted;
 pub use mounting::mount;

@@ -62,9 +62,9 @@ fn placed(
     place: &LogPlace,
     map: &VolumeMap,
 ) -> Result<(), MountFault>
-    ensures { Gives (λ _. volume_in map.now) scan_cause result (placed (least_lsn shadows.now) place.now (volume_in map.now)) }
+    ensures { Gives (λ _. volume_in map.now) scan_cause result (placed (least_lsn shadows.now) place.now map.now.cluster_bits (volume_in map.now)) }
 {
-    may_be_changed(place, map)?;
+    may_be_changed(alloc, place, map)?;
     unshadowed(alloc, map, shadows)
 }
 
@@ -173,6 +173,7 @@ fn loaded_on<V: View>(
     requires table { geometry.now.mft * geometry.now.per_cluster < 2 ^ 62 }
     ensures answer { IfSome (V.content view.old) (λ c. GivesOrFails (λ l. volume_in l.map) scan_cause result (loaded_on (least_lsn shadows.now) place.now c geometry.now total)) }
     ensures upper { IfSome (V.content view.old) (λ c. IfOk result (λ l. l.upper ≡ upper_of c (volume_in l.map))) }
+    ensures parts { IfSome (V.content view.old) (λ c. IfOk result (λ l. IsMapOf c l.map)) }
     ensures kept { AsksView V.content V.kept V.faults scan_cause view.old view.new result }
 {
     let map = volume_on(alloc, view, geometry, total)?;
@@ -186,9 +187,10 @@ fn loaded_on<V: View>(
 /// - [`MountFault::Refused`]: the first refusal of the file table's records; then of the version;
 ///   then of a change journal; then of the log's pages; then of the nine rules; then
 ///   [`Refusal::LogSmall`] where a page of the log lies nowhere; then [`Refusal::BadVolume`] with
-///   rule 4 and the number of a file with an attribute list in two pieces; then
-///   [`Refusal::ForeignLog`] where the log shadows a live block, with the LSN of the first update of
-///   a rival, of several the least.
+///   rule 4 and the number of a file with an attribute list in two pieces; then with number 0, and
+///   rule 5 where a stream has the first cluster that isn't the data of `$Boot`, or rule 6 where the
+///   bit of that cluster is clear; then [`Refusal::ForeignLog`] where the log shadows a live block,
+///   with the LSN of the first update of a rival, of several the least.
 /// - [`MountFault::Device`]: the view failed.
 /// - [`MountFault::Memory`]: want of memory.
 pub fn load_recovered<V: View>(
@@ -202,6 +204,7 @@ pub fn load_recovered<V: View>(
     requires right { HasPlaces opening.now.found.recovered.blocks.bodies.items places.now }
     ensures answer { IfSome (V.content view.old) (λ c. GivesOrFails (λ l. volume_in l.map) scan_cause result (loaded_on (least_lsn opening.now.found.recovered.blocks.shadows.items) opening.now.place (content_with opening.now.found.recovered.blocks.bodies.items c) opening.now.geometry opening.now.total)) }
     ensures upper { IfSome (V.content view.old) (λ c. IfOk result (λ l. l.upper ≡ upper_of (content_with opening.now.found.recovered.blocks.bodies.items c) (volume_in l.map))) }
+    ensures parts { IfSome (V.content view.old) (λ c. IfOk result (λ l. IsMapOf (content_with opening.now.found.recovered.blocks.bodies.items c) l.map)) }
     ensures kept { AsksView V.content V.kept V.faults scan_cause view.old view.new result }
 {
     let bodies = &opening.found.recovered.blocks.bodies;

@@ -83,7 +83,9 @@ fn mount_sectors<D: Device>(
 ///   are more; then [`Refusal::BadVolume`] with the first of the nine rules that is broken, and the
 ///   least number at which it is; then [`Refusal::LogSmall`] with the log's pages that lie on the
 ///   device, where record 2 has only the first pieces of its data; then [`Refusal::BadVolume`] with 4
-///   and the number of a file whose attribute list has a second piece; then [`Refusal::ForeignLog`]
+///   and the number of a file whose attribute list has a second piece; then with number 0, and rule 5
+///   where a stream has the first cluster, in which the boot sector lies, that isn't the unnamed data
+///   of `$Boot`, or rule 6 where the bit of that cluster is clear; then [`Refusal::ForeignLog`]
 ///   where the log shadows a block that a stream owns and that isn't wholly past the stream's
 ///   initialised size: with the LSN of the first update of a rival of such a block, of several the
 ///   least.

@@ -6,7 +6,7 @@ use Rattle.record_model.proofs.Answering.{steps_from_ok, needs_from_ok}
 use Rattle.disk_model.specs.Content.{Content, content_of}
 use Rattle.disk_model.specs.Sectors.{sector_of}
 use Rattle.state_model.specs.declared.geometry.Geometry.{Geometry}
-use Rattle.volume_model.specs.Volumes.{Volume, upper_of}
+use Rattle.volume_model.specs.Volumes.{Volume, cluster_bits, upper_of}
 use Rattle.volume_state.specs.Journals.{journal_file, journal_of, some_journal, file_or_none, journal_of_file}
 use Rattle.volume_state.specs.Trees.{volume_journal, tree_with, tree_of}
 use Rattle.log_recovery.specs.Recovering.{shadow_lsn}
@@ -59,8 +59,8 @@ tried_is said place c v w e =
     let version = steps_from_ok (has_version v) (λ _. unjournaled said (upper_of c v) place c v) w e in
     let journal = steps_from_ok (has_no_journal (upper_of c v) v) (λ _. paged said place c v) w version.2 in
     let pages = steps_from_ok (has_pages place) (λ _. settled said place c v) w journal.2 in
-    let blocks = steps_from_ok (ruled c v) (placed said place) w pages.2 in
-    let lying = steps_from_ok (may_be_changed place blocks.0) (λ _. unshadowed said blocks.0) w blocks.2 in
+    let blocks = steps_from_ok (ruled c v) (λ x. placed said place (cluster_bits c x) x) w pages.2 in
+    let lying = steps_from_ok (may_be_changed place c blocks.0) (λ _. unshadowed said blocks.0) w blocks.2 in
     let rules = steps_from_ok (tree_on c v) (λ _. Ok v) blocks.0 blocks.1 in
     (journal_none c v (number_none (upper_of c v) v (journal.1 ∙ ap (λ (x : Unit {0}). Ok x) (same_unit journal.0))), ok_same v blocks.0 rules.2 ∙ unless_is (least_live said blocks.0) blocks.0 w lying.2)
 

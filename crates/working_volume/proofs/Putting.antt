@@ -14,6 +14,7 @@ use Rattle.map_change.specs.Parts.{MapParts}
 use Rattle.state_model.specs.declared.geometry.Geometry.{Geometry}
 use Rattle.volume_model.specs.Volumes.{Volume}
 use Rattle.file_puts.specs.declared.streams.VolumeStreams.{VolumeStreams}
+use Rattle.plans_lead.specs.Leading.{LeadsAsAsked}
 use Rattle.put_checks.specs.Checks.{may_put}
 use Rattle.change_plan.specs.Plans.{IsPlan}
 use Rattle.same_names.specs.Names.{SameNames}
@@ -22,16 +23,17 @@ use Rattle.tree_model.specs.declared.script.Op.{Op}
 use Rattle.tree_model.specs.declared.reply.Reply.{Reply}
 use Rattle.tree_model.specs.Steps.{is_given_up}
 use Rattle.step_model.specs.Steps.{Step}
+use Rattle.txn_model.specs.Values.{StoreFacts}
 use Rattle.txn_state.specs.States.{StateOf, facts_of, IsStore}
 use Rattle.txn_core.specs.Seen.{Seen}
 use Rattle.txn_core.specs.Views.{present_content}
-use Rattle.volume_core.specs.declared.fault.PutFault.{PutFault}
-use Rattle.volume_core.specs.Volumes.{geometry_of, HoldsState}
-use Rattle.volume_core.specs.Changes.{MayLog, AreApart, LeadsOn}
-use Rattle.volume_core.specs.Rooms.{room_in, room_cause}
-use Rattle.volume_core.specs.Preparing.{KeepsSeen}
-use Rattle.volume_core.specs.Puts.{PutsOver, IsUnknownWhereBroken, HasPutCauses}
-use Rattle.volume_core.proofs.Outcomes.{nothing_put}
+use Rattle.state_store.specs.declared.fault.PutFault.{PutFault}
+use Rattle.state_store.specs.Volumes.{geometry_of, HoldsState}
+use Rattle.state_store.specs.Changes.{MayLog, AreApart, LeadsOn}
+use Rattle.state_store.specs.Rooms.{room_in, room_cause}
+use Rattle.state_store.specs.Preparing.{KeepsSeen}
+use Rattle.state_store.specs.Puts.{PutsOver, IsUnknownWhereBroken, HasPutCauses}
+use Rattle.state_store.proofs.Outcomes.{nothing_put}
 use Rattle.change_plan.specs.declared.plan.ChangePlan.{ChangePlan}
 use Rattle.change_plan.specs.States.{is_data_change}
 use Rattle.working_volume.specs.declared.fault.DoFault.{DoFault}
@@ -44,17 +46,20 @@ use Rattle.working_volume.proofs.Readying.{put_ready, still_ready}
 
 -- ---- changes that were put, or weren't
 
+all_taken : (known : Option Content) (f : StoreFacts) (m : MapParts) (table : List ℕ) (s : VolumeStreams) (xs : List Change) → IfSome known (IsTaken f m table s xs) → IfSome known (λ c. LeadsAsAsked m table c s xs)
+all_taken known f m table s xs taken = one known (IsTaken f m table s xs) (λ c. LeadsAsAsked m table c s xs) (λ c is. is.leads) taken
+
 pub tried : {D : Type 0} (names_stay : NamesStay) (gives : D → Option (List (List ℕ))) (count : D → ℕ) (moments : D → Changes) (failures moment : D → ℕ) (result : Result Reply DoFault) (plan : ChangePlan) (old new : Seen D) (m next : MapParts) (table : List ℕ) (put : Result (Unit {0}) PutFault)
     → 0 < length plan.changes.items → All (MayLog (facts_of old.state)) plan.changes.items → AreApart plan.changes.items → IfSome (present_content (gives old.device) old.state) (LeadsOn m table plan.changes.items) → is_given_up plan.reply ≡ false → result ≡ put_answer plan.reply put
     → HoldsState (gives new.device) (moments new.device) new.state next table → PutsOver put plan.changes.items (gives old.device) (gives new.device) old.state new.state (moments old.device) (moments new.device) m next → count new.device ≡ count old.device
     → GivesOrFails (λ u. u) room_cause put (room_in (facts_of old.state) plan.changes.items) → IsUnknownWhereBroken put (gives old.device) → HasPutCauses failures moment put old new → SameNames m.volume.files next.volume.files → PutsPlan gives count moments failures moment result plan old new m next table
 tried {D} names_stay gives count moments failures moment result plan old new m next table put some each apart leads kept is holds over sectors room broken causes same = record {
   holds = holds;
-  puts = record {
+  puts = λ s taken. record {
     list = plan.changes.items;
     put = put;
     over = over;
-    asked = λ more. record { each = each; apart = apart; leads = leads };
+    asked = λ more. record { each = each; apart = apart; leads = leads; taken = all_taken (present_content (gives old.device) old.state) (facts_of old.state) m table s plan.changes.items (taken more) };
     room = λ more. room;
     answered = is_answered result plan.changes.items put plan.reply some is;
   };
@@ -69,12 +74,12 @@ tried {D} names_stay gives count moments failures moment result plan old new m n
 -- ---- none that were
 
 -- nothing is put, and this is answered
-pub nothing_done : (result : Result Reply DoFault) (gives gave : Option (List (List ℕ))) (count : ℕ) (old new : StateOf) (before now : Changes) (m : MapParts) (table : List ℕ) → IsAnswered result [] (Ok tt) → new ≡ old → gave ≡ gives → now ≡ before → HoldsState gives before old m table → IsStore (facts_of old)
-    → IfSome gives (IsDiskOf count) → PutsAndAnswers table result gives gave old new before now m m
-nothing_done result gives gave count old new before now m table is state same unchanged holds k whole =
-    subst (λ (x : StateOf). PutsAndAnswers table result gives gave old x before now m m) (sym state)
-    (subst (λ (x : Option (List (List ℕ))). PutsAndAnswers table result gives x old old before now m m) (sym same)
-    (subst (λ (x : Changes). PutsAndAnswers table result gives gives old old before x m m) (sym unchanged)
+pub nothing_done : (s : VolumeStreams) (result : Result Reply DoFault) (gives gave : Option (List (List ℕ))) (count : ℕ) (old new : StateOf) (before now : Changes) (m : MapParts) (table : List ℕ) → IsAnswered result [] (Ok tt) → new ≡ old → gave ≡ gives → now ≡ before → HoldsState gives before old m table → IsStore (facts_of old)
+    → IfSome gives (IsDiskOf count) → PutsAndAnswers table s result gives gave old new before now m m
+nothing_done s result gives gave count old new before now m table is state same unchanged holds k whole =
+    subst (λ (x : StateOf). PutsAndAnswers table s result gives gave old x before now m m) (sym state)
+    (subst (λ (x : Option (List (List ℕ))). PutsAndAnswers table s result gives x old old before now m m) (sym same)
+    (subst (λ (x : Changes). PutsAndAnswers table s result gives gives old old before x m m) (sym unchanged)
     (record {
       list = [];
       put = Ok tt;
@@ -92,7 +97,7 @@ pub none_to_put : {D : Type 0} (gives : D → Option (List (List ℕ))) (count :
     → HoldsState (gives old.device) (moments old.device) old.state m table → IsStore (facts_of old.state) → IfSome (gives old.device) (IsDiskOf (count old.device)) → PutsPlan gives count moments failures moment (Ok said) plan old old m m table
 none_to_put {D} gives count moments failures moment said plan old m table none is kept holds k whole = record {
   holds = holds;
-  puts = nothing_done (Ok said) (gives old.device) (gives old.device) (count old.device) old.state old.state (moments old.device) (moments old.device) m table refl refl refl refl holds k whole;
+  puts = λ s taken. nothing_done s (Ok said) (gives old.device) (gives old.device) (count old.device) old.state old.state (moments old.device) (moments old.device) m table refl refl refl refl holds k whole;
   steps = λ op stamp of_file step. subst (λ (r : Reply). DoesStep op stamp m (Ok r) (present_content (gives old.device) old.state) (present_content (gives old.device) old.state)) (sym is)
       (changes op stamp m plan.reply plan.changes.items (present_content (gives old.device) old.state) (present_content (gives old.device) old.state) (subst (λ (xs : List Change). present_content (gives old.device) old.state ≡ option_map (content_after xs) (present_content (gives old.device) old.state)) (sym none)
       (after_none (gives old.device) (gives old.device) (count old.device) old.state (moments old.device) m table holds k whole)) step);
@@ -113,7 +118,7 @@ pub refused : {D : Type 0} (gives : D → Option (List (List ℕ))) (count : D �
     → HoldsState (gives old.device) (moments old.device) old.state m table → IsStore (facts_of old.state) → IfSome (gives old.device) (IsDiskOf (count old.device)) → PutsPlan gives count moments failures moment (Err Unknown) plan old old m m table
 refused {D} gives count moments failures moment plan old m table passes is isnt holds k whole = record {
   holds = holds;
-  puts = nothing_done (Err Unknown) (gives old.device) (gives old.device) (count old.device) old.state old.state (moments old.device) (moments old.device) m table refl refl refl refl holds k whole;
+  puts = λ s taken. nothing_done s (Err Unknown) (gives old.device) (gives old.device) (count old.device) old.state old.state (moments old.device) (moments old.device) m table refl refl refl refl holds k whole;
   steps = λ op stamp of_file step. stays op stamp m Unknown _ _ refl;
   ready = λ s ready taken. ready;
   unknown = λ u. none_where (gives old.device) old.state passes is isnt;
@@ -128,13 +133,18 @@ module _ {D : Type 0} (gives : D → Option (List (List ℕ))) (count : D → �
   known : present_content (gives mid.device) mid.state ≡ present_content (gives old.device) old.state
   known = ap₂ present_content kept.same kept.state
 
+  taken_since : (m : MapParts) (table : List ℕ) (s : VolumeStreams) (xs : List Change) → (0 < length xs → IfSome (present_content (gives old.device) old.state) (IsTaken (facts_of old.state) m table s xs)) → 0 < length xs → IfSome (present_content (gives mid.device) mid.state) (IsTaken (facts_of mid.state) m table s xs)
+  taken_since m table s xs taken some =
+      subst (λ (x : StateOf). IfSome (present_content (gives mid.device) x) (IsTaken (facts_of x) m table s xs)) (sym kept.state)
+      (subst (λ (o : Option (List (List ℕ))). IfSome (present_content o old.state) (IsTaken (facts_of old.state) m table s xs)) (sym kept.same) (taken some))
+
   pub since : (result : Result Reply DoFault) (plan : ChangePlan) (new : Seen D) (m next : MapParts) (table : List ℕ) → PutsPlan gives count moments failures moment result plan mid new m next table → PutsPlan gives count moments failures moment result plan old new m next table
   since result plan new m next table p = record {
     holds = p.holds;
-    puts =
-        subst (λ (x : StateOf). PutsAndAnswers table result (gives old.device) (gives new.device) x new.state (moments old.device) (moments new.device) m next) kept.state
-        (subst (λ (x : Option (List (List ℕ))). PutsAndAnswers table result x (gives new.device) mid.state new.state (moments old.device) (moments new.device) m next) kept.same
-        (subst (λ (x : Changes). PutsAndAnswers table result (gives mid.device) (gives new.device) mid.state new.state x (moments new.device) m next) kept.unchanged p.puts));
+    puts = λ s taken.
+        subst (λ (x : StateOf). PutsAndAnswers table s result (gives old.device) (gives new.device) x new.state (moments old.device) (moments new.device) m next) kept.state
+        (subst (λ (x : Option (List (List ℕ))). PutsAndAnswers table s result x (gives new.device) mid.state new.state (moments old.device) (moments new.device) m next) kept.same
+        (subst (λ (x : Changes). PutsAndAnswers table s result (gives mid.device) (gives new.device) mid.state new.state x (moments new.device) m next) kept.unchanged (p.puts s (λ some. taken_since m table s plan.changes.items taken some))));
     steps = λ op stamp of_file.
         subst (λ (o : Option Content). IfSome o (λ c. Step (geometry_of m) m.volume.clusters op stamp plan.reply c (content_after plan.changes.items c)) → DoesStep op stamp m result o (present_content (gives new.device) new.state)) known (p.steps op stamp of_file);
     ready = λ s.
@@ -163,17 +173,17 @@ module _ {D : Type 0} (gives : D → Option (List (List ℕ))) (count : D → �
       (one (present_content (gives old.device) old.state) (IsTaken (facts_of old.state) m table s xs) (λ c. may_put old.state.place old.state.found xs ≡ true) (λ c is. is.passes) (taken some)))
 
   -- a plan that isn't there is an answer
-  pub unplanned : (result : Result Reply DoFault) (op : Op) (stamp : ℕ) (m : MapParts) (table : List ℕ) → IsAnswered result [] (Ok tt) → HoldsState (gives old.device) (moments old.device) old.state m table → IsStore (facts_of old.state) → IfSome (gives old.device) (IsDiskOf (count old.device))
-      → DoesStep op stamp m result (present_content (gives old.device) old.state) (present_content (gives mid.device) mid.state) → Does op stamp table result (gives old.device) (gives mid.device) old.state mid.state (moments old.device) (moments mid.device) m m
-  unplanned result op stamp m table is holds k whole step = record { puts = nothing_done result (gives old.device) (gives mid.device) (count old.device) old.state mid.state (moments old.device) (moments mid.device) m table is kept.state kept.same kept.unchanged holds k whole; step = step }
+  pub unplanned : (result : Result Reply DoFault) (op : Op) (stamp : ℕ) (m : MapParts) (table : List ℕ) (s : VolumeStreams) → IsAnswered result [] (Ok tt) → HoldsState (gives old.device) (moments old.device) old.state m table → IsStore (facts_of old.state) → IfSome (gives old.device) (IsDiskOf (count old.device))
+      → DoesStep op stamp m result (present_content (gives old.device) old.state) (present_content (gives mid.device) mid.state) → Does op stamp table s result (gives old.device) (gives mid.device) old.state mid.state (moments old.device) (moments mid.device) m m
+  unplanned result op stamp m table s is holds k whole step = record { puts = nothing_done s result (gives old.device) (gives mid.device) (count old.device) old.state mid.state (moments old.device) (moments mid.device) m table is kept.state kept.same kept.unchanged holds k whole; step = step }
 
-  pub unplanned_unknown : (op : Op) (stamp : ℕ) (m : MapParts) (table : List ℕ) → HoldsState (gives old.device) (moments old.device) old.state m table → IsStore (facts_of old.state) → IfSome (gives old.device) (IsDiskOf (count old.device))
-      → Does op stamp table (Err Unknown) (gives old.device) (gives mid.device) old.state mid.state (moments old.device) (moments mid.device) m m
-  unplanned_unknown op stamp m table holds k whole = unplanned (Err Unknown) op stamp m table refl holds k whole (stays op stamp m Unknown _ _ known)
+  pub unplanned_unknown : (op : Op) (stamp : ℕ) (m : MapParts) (table : List ℕ) (s : VolumeStreams) → HoldsState (gives old.device) (moments old.device) old.state m table → IsStore (facts_of old.state) → IfSome (gives old.device) (IsDiskOf (count old.device))
+      → Does op stamp table s (Err Unknown) (gives old.device) (gives mid.device) old.state mid.state (moments old.device) (moments mid.device) m m
+  unplanned_unknown op stamp m table s holds k whole = unplanned (Err Unknown) op stamp m table s refl holds k whole (stays op stamp m Unknown _ _ known)
 
-  pub unplanned_reply : (said : Reply) (op : Op) (stamp : ℕ) (m : MapParts) (table : List ℕ) → IfSome (present_content (gives old.device) old.state) (λ c. Step (geometry_of m) m.volume.clusters op stamp said c c) → HoldsState (gives old.device) (moments old.device) old.state m table → IsStore (facts_of old.state)
-      → IfSome (gives old.device) (IsDiskOf (count old.device)) → Does op stamp table (Ok said) (gives old.device) (gives mid.device) old.state mid.state (moments old.device) (moments mid.device) m m
-  unplanned_reply said op stamp m table step holds k whole = unplanned (Ok said) op stamp m table refl holds k whole (replies op stamp m said _ _ known step)
+  pub unplanned_reply : (said : Reply) (op : Op) (stamp : ℕ) (m : MapParts) (table : List ℕ) (s : VolumeStreams) → IfSome (present_content (gives old.device) old.state) (λ c. Step (geometry_of m) m.volume.clusters op stamp said c c) → HoldsState (gives old.device) (moments old.device) old.state m table → IsStore (facts_of old.state)
+      → IfSome (gives old.device) (IsDiskOf (count old.device)) → Does op stamp table s (Ok said) (gives old.device) (gives mid.device) old.state mid.state (moments old.device) (moments mid.device) m m
+  unplanned_reply said op stamp m table s step holds k whole = unplanned (Ok said) op stamp m table s refl holds k whole (replies op stamp m said _ _ known step)
 
   pub ready_since : (m : MapParts) (table : List ℕ) (s : VolumeStreams) → IfSome (present_content (gives old.device) old.state) (IsReady (facts_of old.state) m table s) → IfSome (present_content (gives mid.device) mid.state) (IsReady (facts_of mid.state) m table s)
   ready_since m table s ready = still_ready (gives old.device) (gives mid.device) old.state mid.state m table s kept.state kept.same ready
@@ -184,6 +194,6 @@ plan_step : (known : Option Content) (g : Geometry) (clusters : ℕ) (v : Volume
 plan_step known g clusters v s op stamp plan is = one known (λ c. IsPlan c g clusters v s op stamp plan) (λ c. Step g clusters op stamp plan.reply c (content_after plan.changes.items c)) (λ c k. k.step) is
 
 pub does : {D : Type 0} (gives : D → Option (List (List ℕ))) (count : D → ℕ) (moments : D → Changes) (failures moment : D → ℕ) (result : Result Reply DoFault) (plan : ChangePlan) (old new : Seen D) (m next : MapParts) (table : List ℕ) (s : VolumeStreams) (op : Op) (stamp : ℕ) → is_data_change op ≡ true
-    → IfSome (present_content (gives old.device) old.state) (λ c. IsPlan c (geometry_of m) m.volume.clusters m.volume s op stamp plan) → PutsPlan gives count moments failures moment result plan old new m next table
-    → Does op stamp table result (gives old.device) (gives new.device) old.state new.state (moments old.device) (moments new.device) m next
-does {D} gives count moments failures moment result plan old new m next table s op stamp of_file plans p = record { puts = p.puts; step = p.steps op stamp of_file (plan_step (present_content (gives old.device) old.state) (geometry_of m) m.volume.clusters m.volume s op stamp plan plans) }
+    → IfSome (present_content (gives old.device) old.state) (λ c. IsPlan c (geometry_of m) m.volume.clusters m.volume s op stamp plan) → (0 < length plan.changes.items → IfSome (present_content (gives old.device) old.state) (IsTaken (facts_of old.state) m table s plan.changes.items)) → PutsPlan gives count moments failures moment result plan old new m next table
+    → Does op stamp table s result (gives old.device) (gives new.device) old.state new.state (moments old.device) (moments new.device) m next
+does {D} gives count moments failures moment result plan old new m next table s op stamp of_file plans taken p = record { puts = p.puts s taken; step = p.steps op stamp of_file (plan_step (present_content (gives old.device) old.state) (geometry_of m) m.volume.clusters m.volume s op stamp plan plans) }

@@ -1,5 +1,5 @@
 -- The state behind changes is ready for the next operation.
-use Rattle.std.proofs.Common.{◌≡◌, subst, ℕ, ◌+◌, ◌*◌, ◌/◌, ◌<◌, ◌≤◌, List, [], ◌∷◌, Option, Some, None, Result, Ok, Err, sym, ap, ap₂, ◌∙◌, inl, inr, arith}
+use Rattle.std.proofs.Common.{◌≡◌, subst, ℕ, ◌+◌, ◌*◌, ◌/◌, ◌<◌, ◌≤◌, List, [], ◌∷◌, Option, Some, None, Result, Ok, Err, sym, ap, ap₂, ◌∙◌, inl, inr}
 use Rattle.std.specs.Prelude.{IfSome, unwrap_or}
 use Rattle.std.specs.List.{AllByRecursion}
 use Rattle.disk_model.specs.declared.block.Change.{Change}
@@ -25,14 +25,14 @@ use Rattle.txn_model.specs.Values.{StoreFacts}
 use Rattle.txn_model.specs.Calls.{begun_facts, changed_facts}
 use Rattle.txn_state.specs.States.{StateOf, facts_of}
 use Rattle.txn_core.specs.Views.{present_on, present_content}
-use Rattle.volume_core.specs.declared.fault.PutFault.{PutFault}
-use Rattle.volume_core.specs.Volumes.{geometry_of, IsStateOf}
-use Rattle.volume_core.specs.Logging.{ChangedBy, StoppedBy}
-use Rattle.volume_core.specs.Puts.{PutsContent, PutsMap, PutsFacts, PutsOver}
-use Rattle.volume_core.proofs.Following.{next_map, state_after}
-use Rattle.volume_core.proofs.Sparing.{place_stays}
+use Rattle.state_store.specs.declared.fault.PutFault.{PutFault}
+use Rattle.state_store.specs.Volumes.{geometry_of, IsStateOf}
+use Rattle.state_store.specs.Logging.{ChangedBy, StoppedBy}
+use Rattle.state_store.specs.Puts.{PutsContent, PutsMap, PutsFacts, PutsOver}
+use Rattle.state_store.proofs.Following.{next_map, state_after}
+use Rattle.state_store.proofs.Sparing.{place_stays}
 use Rattle.change_plan.specs.States.{HasFewClusters}
-use Rattle.plans_lead.specs.Leading.{HasLogOf, LeadsAsAsked, boot_key}
+use Rattle.plans_lead.specs.Leading.{HasLogOf, LeadsAsAsked}
 use Rattle.working_volume.specs.Ready.{RunsLieInLog, IsReady, IsTaken}
 
 each_as : {X : Type 0} (P Q : X → Type 0) → ((x : X) → P x → Q x) → (xs : List X) → AllByRecursion P xs → AllByRecursion Q xs
@@ -71,7 +71,7 @@ same_ready f g m table s c place found r = record {
     found = found ∙ r.log.found;
   };
   runs = subst (λ (p : LogPlace). RunsLieInLog p m.volume) (sym place) r.runs;
-  boot = r.boot;
+  welcome = r.welcome;
 }
 
 -- ---- behind changes that were put
@@ -127,7 +127,7 @@ module _ (f : StoreFacts) (m next : MapParts) (table : List ℕ) (s : VolumeStre
     lists = leads.lists;
     log = log;
     runs = each_as (InLog m.volume) (InLog w) (λ e lies n from below. used (n / 8) (lies n from below)) f.place.runs ready.runs;
-    boot = subst (λ (runs : List Run). 0 < uses runs 0) (sym (leads.boot boot_key (omega arith))) ready.boot;
+    welcome = leads.welcome ready.welcome;
   }
 
   pub ready_next : IsReady f next table s d

@@ -14,10 +14,10 @@ use Rattle.tree_model.specs.declared.reply.Reply.{Reply}
 use Rattle.tree_model.specs.declared.reply.Reply.TheVariants as reply
 use Rattle.tree_model.specs.Steps.{is_given_up}
 use Rattle.step_model.specs.Steps.{Answer, GivenUp, answer_of, IsDoneIn, IsRefused, StepBy, Step}
-use Rattle.volume_core.specs.declared.fault.PutFault.{PutFault}
-use Rattle.volume_core.specs.declared.fault.PutFault.TheVariants as faults
-use Rattle.volume_core.specs.Volumes.{geometry_of}
-use Rattle.volume_core.specs.Puts.{PutsContent, IsUnknownWhereBroken}
+use Rattle.state_store.specs.declared.fault.PutFault.{PutFault}
+use Rattle.state_store.specs.declared.fault.PutFault.TheVariants as faults
+use Rattle.state_store.specs.Volumes.{geometry_of}
+use Rattle.state_store.specs.Puts.{PutsContent, IsUnknownWhereBroken}
 use Rattle.change_plan.specs.States.{is_data_change}
 use Rattle.working_volume.specs.declared.fault.DoFault.{DoFault}
 use Rattle.working_volume.specs.declared.fault.DoFault.TheVariants.{NeedsRoom, Unknown}

@@ -28,7 +28,7 @@ use Rattle.step_model.specs.Steps.{Step}
 use Rattle.txn_model.specs.Values.{StoreFacts}
 use Rattle.txn_state.specs.States.{StateOf, facts_of}
 use Rattle.txn_core.specs.Views.{present_on, present_content}
-use Rattle.volume_core.specs.Volumes.{geometry_of, IsStateOf, SparesState, HoldsState}
+use Rattle.state_store.specs.Volumes.{geometry_of, IsStateOf, SparesState, HoldsState}
 use Rattle.change_plan.specs.declared.plan.ChangePlan.{ChangePlan}
 use Rattle.change_plan.specs.declared.fault.PlanFault.{PlanFault}
 use Rattle.change_plan.specs.declared.fault.PlanFault.TheVariants.{Fault, Memory, Unknown}
@@ -112,7 +112,7 @@ module _ (lead : PlansLeadOn) (met : ChecksAreMet) (moments : Changes) (f : Stor
       let leads = lead.leads m table c s op k.number stamp k.a k.r k.written.change k.touched changes (file_plan k) in
       record {
         leads = leads;
-        passes = met f changes near (lead.logged m table c s op k.number stamp k.a k.r k.written.change k.touched changes f (file_plan k) ready.log ready.boot) leads.apart in_order
+        passes = met f changes near (lead.logged m table c s op k.number stamp k.a k.r k.written.change k.touched changes f (file_plan k) ready.log ready.welcome.boot) leads.apart in_order
             (each_as (λ (x : Change). IsOffLog m.volume x.block) (λ (x : Change). list_any (meets_run x.block) f.place.runs ≡ false) (λ x off. off_runs m.volume x.block off f.place.runs ready.runs) changes leads.off);
       }
 

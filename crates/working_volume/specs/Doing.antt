@@ -6,17 +6,19 @@ use Rattle.disk_model.specs.Content.{Content}
 use Rattle.sector_device.specs.Moments.{Changes}
 use Rattle.map_change.specs.Parts.{MapParts}
 use Rattle.tree_model.specs.declared.script.Op.{Op}
+use Rattle.file_puts.specs.declared.streams.VolumeStreams.{VolumeStreams}
+use Rattle.plans_lead.specs.Leading.{LeadsAsAsked}
 use Rattle.tree_model.specs.declared.reply.Reply.{Reply}
 use Rattle.tree_model.specs.declared.reply.Reply.TheVariants as reply
 use Rattle.step_model.specs.Steps.{Step}
 use Rattle.txn_state.specs.States.{StateOf, facts_of}
 use Rattle.txn_core.specs.Views.{present_content}
-use Rattle.volume_core.specs.declared.fault.PutFault.{PutFault}
-use Rattle.volume_core.specs.declared.fault.PutFault.TheVariants as faults
-use Rattle.volume_core.specs.Volumes.{geometry_of}
-use Rattle.volume_core.specs.Changes.{MayLog, AreApart, LeadsOn}
-use Rattle.volume_core.specs.Puts.{PutsOver}
-use Rattle.volume_core.specs.Rooms.{room_in, room_cause}
+use Rattle.state_store.specs.declared.fault.PutFault.{PutFault}
+use Rattle.state_store.specs.declared.fault.PutFault.TheVariants as faults
+use Rattle.state_store.specs.Volumes.{geometry_of}
+use Rattle.state_store.specs.Changes.{MayLog, AreApart, LeadsOn}
+use Rattle.state_store.specs.Puts.{PutsOver}
+use Rattle.state_store.specs.Rooms.{room_in, room_cause}
 use Rattle.working_volume.specs.declared.fault.DoFault.{DoFault}
 use Rattle.working_volume.specs.declared.fault.DoFault.TheVariants.{NeedsRoom, Unknown}
 
@@ -39,18 +41,19 @@ IsAnswered (Err Unknown) [] put = put ≡ Ok tt
 
 -- ---- the changes
 
--- A volume may be asked to put these changes: its store may log each, no two are of one block or of rivals, and they lead on from what is known.
-pub record ArePutAsAsked (state : StateOf) (m : MapParts) (table : List ℕ) (known : Option Content) (changes : List Change) : Type 0 where
+-- A volume may be asked to put these changes: its store may log each, no two are of one block or of rivals, and they lead on from what is known, as those of a volume with these streams do.
+pub record ArePutAsAsked (state : StateOf) (m : MapParts) (table : List ℕ) (s : VolumeStreams) (known : Option Content) (changes : List Change) : Type 0 where
   pub each : All (MayLog (facts_of state)) changes
   pub apart : AreApart changes
   pub leads : IfSome known (LeadsOn m table changes)
+  pub taken : IfSome known (λ c. LeadsAsAsked m table c s changes)
 
 -- Some changes, or none, were put as a volume may be asked, or weren't; how, is the answer. Some wanted room exactly where the log has none for them, unless memory was wanted or the device failed.
-pub record PutsAndAnswers (table : List ℕ) (result : Result Reply DoFault) (gives gave : Option (List (List ℕ))) (old new : StateOf) (before now : Changes) (m next : MapParts) : Type 0 where
+pub record PutsAndAnswers (table : List ℕ) (s : VolumeStreams) (result : Result Reply DoFault) (gives gave : Option (List (List ℕ))) (old new : StateOf) (before now : Changes) (m next : MapParts) : Type 0 where
   pub list : List Change
   pub put : Result (Unit {0}) PutFault
   pub over : PutsOver put list gives gave old new before now m next
-  pub asked : 0 < length list → ArePutAsAsked old m table (present_content gives old) list
+  pub asked : 0 < length list → ArePutAsAsked old m table s (present_content gives old) list
   pub room : 0 < length list → GivesOrFails (λ u. u) room_cause put (room_in (facts_of old) list)
   pub answered : IsAnswered result list put
 
@@ -65,6 +68,6 @@ DoesStep op stamp m result None (Some d) = ⊥
 DoesStep op stamp m result None None = ⊤
 
 -- The operation is done: by changes that were put, or weren't, the content and its map are those that its step leaves.
-pub record Does (op : Op) (stamp : ℕ) (table : List ℕ) (result : Result Reply DoFault) (gives gave : Option (List (List ℕ))) (old new : StateOf) (before now : Changes) (m next : MapParts) : Type 0 where
-  pub puts : PutsAndAnswers table result gives gave old new before now m next
+pub record Does (op : Op) (stamp : ℕ) (table : List ℕ) (s : VolumeStreams) (result : Result Reply DoFault) (gives gave : Option (List (List ℕ))) (old new : StateOf) (before now : Changes) (m next : MapParts) : Type 0 where
+  pub puts : PutsAndAnswers table s result gives gave old new before now m next
   pub step : DoesStep op stamp m result (present_content gives old) (present_content gave new)

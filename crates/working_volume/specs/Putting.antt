@@ -16,16 +16,17 @@ use Rattle.change_plan.specs.States.{is_data_change}
 use Rattle.txn_state.specs.States.{facts_of}
 use Rattle.txn_core.specs.Seen.{Seen}
 use Rattle.txn_core.specs.Views.{present_content}
-use Rattle.volume_core.specs.Volumes.{geometry_of, HoldsState}
+use Rattle.state_store.specs.Volumes.{geometry_of, HoldsState}
 use Rattle.working_volume.specs.declared.fault.DoFault.{DoFault}
 use Rattle.working_volume.specs.declared.fault.DoFault.TheVariants.{Unknown}
 use Rattle.working_volume.specs.Ready.{IsReady, IsTaken}
 use Rattle.working_volume.specs.Doing.{PutsAndAnswers, DoesStep}
 
--- The volume holds a state again. Each operation of which the plan's reply and changes are a step is done; a state that was ready, and took the changes, leaves one that is. What is held of the names of its files stays so.
+-- The volume holds a state again. Each operation of which the plan's reply and changes are a step is done, where the volume took the changes by its streams; a state that was ready, and took the changes, leaves one that is. What is held of the names of its files stays so.
 pub record PutsPlan {D : Type 0} (gives : D → Option (List (List ℕ))) (count : D → ℕ) (changes : D → Changes) (faults moment : D → ℕ) (result : Result Reply DoFault) (plan : ChangePlan) (old new : Seen D) (m next : MapParts) (table : List ℕ) : Type 0 where
   pub holds : HoldsState (gives new.device) (changes new.device) new.state next table
-  pub puts : PutsAndAnswers table result (gives old.device) (gives new.device) old.state new.state (changes old.device) (changes new.device) m next
+  pub puts : (s : VolumeStreams) → (0 < length plan.changes.items → IfSome (present_content (gives old.device) old.state) (IsTaken (facts_of old.state) m table s plan.changes.items))
+      → PutsAndAnswers table s result (gives old.device) (gives new.device) old.state new.state (changes old.device) (changes new.device) m next
   pub steps : (op : Op) (stamp : ℕ) → is_data_change op ≡ true → IfSome (present_content (gives old.device) old.state) (λ c. Step (geometry_of m) m.volume.clusters op stamp plan.reply c (content_after plan.changes.items c))
       → DoesStep op stamp m result (present_content (gives old.device) old.state) (present_content (gives new.device) new.state)
   pub ready : (s : VolumeStreams) → IfSome (present_content (gives old.device) old.state) (IsReady (facts_of old.state) m table s) → (0 < length plan.changes.items → IfSome (present_content (gives old.device) old.state) (IsTaken (facts_of old.state) m table s plan.changes.items))

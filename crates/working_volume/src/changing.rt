@@ -9,10 +9,10 @@ ghost use Rattle.volume_map.specs.Maps.{volume_in};
 ghost use Rattle.volume_tree.specs.Named.{AreNamesOf};
 ghost use Rattle.txn_state.specs.States.{facts_of};
 ghost use Rattle.txn_core.specs.Views.{present_content};
-ghost use Rattle.volume_core.specs.Volumes.{geometry_of, HoldsState};
-ghost use Rattle.volume_core.specs.Changes.{MayLog, AreApart, LeadsOn};
-ghost use Rattle.volume_core.specs.Rooms.{MayNumber};
-ghost use Rattle.volume_core.specs.Preparing.{KeepsSeen, FailsSeen};
+ghost use Rattle.state_store.specs.Volumes.{geometry_of, HoldsState};
+ghost use Rattle.state_store.specs.Changes.{MayLog, AreApart, LeadsOn};
+ghost use Rattle.state_store.specs.Rooms.{MayNumber};
+ghost use Rattle.state_store.specs.Preparing.{KeepsSeen, FailsSeen};
 ghost use Rattle.change_plan.specs.declared.fault.PlanFault.TheVariants as plan_faults;
 ghost use Rattle.change_plan.specs.States.{is_data_change};
 ghost use Rattle.change_plan.specs.Plans.{Plans};
@@ -31,9 +31,9 @@ use names_stay::names_stay;
 use plans_lead::plans_lead_on;
 use put_checks::{checks_are_enough, checks_are_met, may_put};
 use sector_device::Device;
+use state_store::{PutFault, put_changes};
 use std::alloc::Global;
 use txn_core::Store;
-use volume_core::{PutFault, put_changes};
 
 // What is answered where the changes of an operation with this reply were put, or weren't.
 fn answered(reply: Reply, put: Result<(), PutFault>) -> Result<Reply, DoFault>
@@ -175,7 +175,7 @@ fn plan_on<D: Device>(
 ///   known.
 ///
 /// After each of them content and map are as before. It takes the time and memory of the plan, and
-/// of [`volume_core::put_changes`].
+/// of [`state_store::put_changes`].
 pub fn change_over<D: Device>(
     store: &mut Store<D>,
     live: &mut LiveMap,
@@ -196,7 +196,7 @@ pub fn change_over<D: Device>(
     requires named { AreNamesOf names.now (live_parts live.old).volume.files }
     requires ready { IfSome (present_content (D.gives store.old.device) store.old.state) (IsReady (facts_of store.old.state) (live_parts live.old) upper.now streams.now) }
     ensures holds { HoldsState (D.gives store.new.device) (D.changes_of store.new.device) store.new.state (live_parts live.new) upper.now }
-    ensures does { Does op.now stamp upper.now result (D.gives store.old.device) (D.gives store.new.device) store.old.state store.new.state (D.changes_of store.old.device) (D.changes_of store.new.device) (live_parts live.old) (live_parts live.new) }
+    ensures does { Does op.now stamp upper.now streams.now result (D.gives store.old.device) (D.gives store.new.device) store.old.state store.new.state (D.changes_of store.old.device) (D.changes_of store.new.device) (live_parts live.old) (live_parts live.new) }
     ensures named { AreNamesOf names.now (live_parts live.new).volume.files }
     ensures ready { IfSome (present_content (D.gives store.new.device) store.new.state) (IsReady (facts_of store.new.state) (live_parts live.new) upper.now streams.now) }
     ensures unknown { result ≡ Err do_faults.Unknown → D.gives store.old.device ≡ None }

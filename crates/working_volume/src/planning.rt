@@ -4,7 +4,7 @@ ghost use Rattle.tree_model.specs.Steps.{IsWithinBounds};
 ghost use Rattle.volume_map.specs.Maps.{IsMapOf, volume_in};
 ghost use Rattle.volume_lookup.specs.Known.{known_tree};
 ghost use Rattle.txn_core.specs.Views.{present_content};
-ghost use Rattle.volume_core.specs.Preparing.{KeepsSeen, FailsSeen, CountsSeen};
+ghost use Rattle.state_store.specs.Preparing.{KeepsSeen, FailsSeen, CountsSeen};
 ghost use Rattle.change_plan.specs.Faults.{plan_cause};
 ghost use Rattle.change_plan.specs.States.{is_data_change};
 ghost use Rattle.change_plan.specs.Plans.{IsSound, PlansFrom, KnowsFrom};

@@ -37,6 +37,7 @@ use Rattle.stream_laws.specs.Rewrites.{StandsAlone, ChangesRecords, is_edited, c
 use Rattle.stream_laws.specs.Sharing.{StreamKey, stream_at, runs_in}
 use Rattle.stream_laws.specs.Tables.{table_key}
 use Rattle.stream_laws.specs.Volumes.{base_record}
+use Rattle.stream_laws.proofs.Editing.{length-with_edits}
 use Rattle.stream_laws.proofs.Framing.{same_slot}
 use Rattle.stream_laws.proofs.Owning.{one_owner}
 use Rattle.stream_laws.proofs.Rewriting.{volume_parts, volume_now, goes_on_itself, edits_in_place, count_is}
@@ -301,6 +302,9 @@ module _ (c : Content) (g : Geometry) (clusters : ℕ) (v : Volume) (s : VolumeS
 
     pub same_file : HasOwnLists c v → (m : ℕ) → m ≢ n → file_in w m ≡ file_in v m
     same_file lists m other = ap (λ (y : Volume). file_in y m) (volume_is lists) ∙ elsewhere v n m q other
+
+    pub count_after : HasOwnLists c v → count_of w ≡ count_of v
+    count_after lists = ap count_of (volume_is lists) ∙ length-with_edits v.files edits
 
     -- ---- attribute lists
 

@@ -6,7 +6,7 @@ use Rattle.std.proofs.lemmas.Bool.{le-ltb, leb-false}
 use Rattle.std.proofs.lemmas.List.Elements.{All-head, All-tail}
 use Rattle.disk_model.specs.declared.block.Block.{Block}
 use Rattle.disk_model.specs.declared.block.BlockKind.{BlockKind}
-use Rattle.disk_model.specs.declared.block.BlockKind.TheVariants.{Plain, FileRec, Index}
+use Rattle.disk_model.specs.declared.block.BlockKind.TheVariants.{Plain, FileRec}
 use Rattle.disk_model.specs.declared.block.Change.{Change}
 use Rattle.disk_model.specs.Bodies.{BodyOf}
 use Rattle.disk_model.specs.Content.{Content}
@@ -28,10 +28,10 @@ use Rattle.state_model.specs.Streams.{block_at}
 use Rattle.volume_model.specs.Volumes.{Volume, file_in, file_stream, cluster_bits, cluster_bitmap, bytes_or, log_file}
 use Rattle.volume_model.specs.Sizes.{has_hole}
 use Rattle.volume_model.specs.Owners.{uses}
-use Rattle.stream_laws.specs.Owners.{stream_kind, initialised_in}
+use Rattle.stream_laws.specs.Owners.{initialised_in}
 use Rattle.stream_laws.specs.Sharing.{StreamKey, stream_at, runs_in}
 use Rattle.stream_laws.specs.Tables.{table_key}
-use Rattle.stream_laws.proofs.Placing.{lies, lies_in_used}
+use Rattle.stream_laws.proofs.Placing.{lies}
 use Rattle.stream_laws.proofs.Recording.{record_read}
 use Rattle.stream_laws.proofs.Rewriting.{volume_parts}
 use Rattle.stream_laws.proofs.Sharing.{streams_apart}
@@ -78,7 +78,8 @@ use Rattle.writes_keep.proofs.Given.{IsDataOf, is_data_of}
 use Rattle.writes_keep.proofs.Touching.{IsWell, AreSectors, IsRecord}
 use Rattle.writes_keep.proofs.Putting.{judged_sector, grown_sector, GoesTo, AllWell, change_well}
 use Rattle.writes_keep.proofs.Second.{off_second}
-use Rattle.writes_keep.proofs.Behind.{IsTouched, table_kind, bitmap_kind, other_file, user_is, v_per, w_per, w_once, same_clusters, not_user, same_runs, log_stays, data_after, data_kind, is_touched, q, q_file, q_user, lists_after, upper_stays, streams_after, journal_after}
+use Rattle.writes_keep.proofs.Behind.{IsTouched, table_kind, bitmap_kind, other_file, user_is, v_per, w_per, w_once, same_clusters, not_user, same_runs, log_stays, data_after, data_kind, is_touched, q, q_file, q_user, lists_after, upper_stays, streams_after, journal_after, same_file, count_after}
+use Rattle.writes_keep.proofs.Aside.{has_cluster, takes_clear, still_aside, off_cluster}
 
 few_runs : (o : Option Stream) (runs : List Run) (most : ℕ) → ((e : Extents) → o ≡ Some (Placed e) → total_clusters e.runs ≤ most) → runs_in o ≡ runs → total_clusters runs ≤ most
 few_runs None runs most each is = subst (λ (l : List Run). total_clusters l ≤ most) is (omega arith)
@@ -276,8 +277,7 @@ module _ (keeps : PlansKeep) (body : RecordIsBody) (c : Content) (g : Geometry) 
   -- the cluster of a block that is touched is none of another stream
   none_there : (t : StreamKey) (b : Block) → t.file ≢ n → t ≢ table_key → t ≢ bitmap_key → IsTouched w n b → uses (runs_in (stream_at v t)) (cluster_of b) ≡ 0
   none_there t b file no_table no_bits touched =
-      let first : b.first < b.first + sectors b.kind = (let some = some_sectors b.kind in omega (arith, some)) in
-      let used : 1 ≤ uses (runs_in (stream_at w touched.own.stream)) (b.first / 8) = subst (λ (p : ℕ). 1 ≤ uses (runs_in (stream_at w touched.own.stream)) (b.first / p)) (w_per c g clusters v s op n stamp a r via x new k h) (lies_in_used w.per (runs_in (stream_at w touched.own.stream)) (stream_kind touched.own.stream) touched.own.number b h.draft.stands.some touched.own.lies b.first (omega arith, first)) in
+      let used : 1 ≤ uses (runs_in (stream_at w touched.own.stream)) (b.first / 8) = has_cluster w b touched.own (w_per c g clusters v s op n stamp a r via x new k h) h.draft.stands.some in
       let apart : uses (runs_in (stream_at w touched.own.stream)) (b.first / 8) + uses (runs_in (stream_at w t)) (b.first / 8) ≤ 1 = streams_apart w touched.own.stream t (w_once c g clusters v s op n stamp a r via x new k h) (other touched.own.stream touched.own.number touched.which) (b.first / 8) in
       let same : uses (runs_in (stream_at w t)) (b.first / 8) ≡ uses (runs_in (stream_at v t)) (b.first / 8) = ap (λ (l : List Run). uses l (b.first / 8)) (same_runs c g clusters v s op n stamp a r via x new k h t file) in
       omega (arith, used, apart, same)
@@ -286,11 +286,6 @@ module _ (keeps : PlansKeep) (body : RecordIsBody) (c : Content) (g : Geometry) 
       other u i (inl its) is = no_table (sym is ∙ its.0)
       other u i (inr (inl bits)) is = no_bits (sym is ∙ bits)
       other u i (inr (inr there)) is = file (ap (λ (y : StreamKey). y.file) (sym is ∙ there))
-
-      some_sectors : (y : BlockKind) → 0 < sectors y
-      some_sectors Plain = omega arith
-      some_sectors FileRec = omega arith
-      some_sectors Index = omega arith
 
   off : (b : Block) → IsTouched w n b → IsOffLog v b
   off b touched =
@@ -331,6 +326,11 @@ module _ (keeps : PlansKeep) (body : RecordIsBody) (c : Content) (g : Geometry) 
     off = each_block (IsOffLog v) off;
     others = λ t i own no_table no_bits has. each_block (λ (b : Block). cluster_of b ≢ i) (other_cluster t i own no_table no_bits has);
     second = each_block (λ (b : Block). overlap b (boot_block g 2) ≡ false) (off_second d g clusters w h.draft.stands n (user_is c g clusters v s op n stamp a r via x new k h).user);
+    count = count_after c g clusters v s op n stamp a r via x new k h each lists;
+    files = λ m own. same_file c g clusters v s op n stamp a r via x new k h each lists m (not_user c g clusters v s op n stamp a r via x new k h m own);
+    takes = takes_clear c g clusters v s op n stamp a r via x new k h;
+    aside = still_aside c g clusters v s op n stamp a r via x new k h;
+    spares = λ i below aside. each_block (λ (b : Block). cluster_of b ≢ i) (off_cluster c g clusters v s op n stamp a r via x new k h i below aside);
   }
 
   kept : WriteKeeps c g v s h.bodies changes w

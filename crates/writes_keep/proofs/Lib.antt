@@ -4,4 +4,6 @@ pub mod Putting
 pub mod Behind
 pub mod Second
 pub mod Given
+pub mod Used
+pub mod Aside
 pub mod Keeping

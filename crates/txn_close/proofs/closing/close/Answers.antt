@@ -1,6 +1,6 @@
 use Rattle.txn_state.specs.States.{facts_of}
 use Rattle.txn_close.specs.Rests.{stopped_facts}
-use Rattle.txn_close.proofs.Passing.{goes_joined}
+use Rattle.txn_close.proofs.Passing.{goes_joined, goes_to_end}
 use Rattle.txn_close.proofs.Clean.{leaves_then}
 use Rattle.txn_close.proofs.Whole.{leaves_whole}
 use Rattle.txn_close.proofs.closing.close.Goals as goal
@@ -13,7 +13,7 @@ returns-in-Err-clause-closes g c = record {
   clean = tt;
   leaves = tt;
   unmarked = c.in-Err.ensures.unmarked;
-  goes = c.end_session.ensures.goes;
+  goes = goes_to_end g.D.Device.sector_count g.D.Device.moment_of g.D.Device.changes_of (stopped_facts (facts_of c.args.store.state)) c.args.store c.end_session.new.store c.end_session.ensures.goes;
 }
 
 pub returns-in-Ok-clause-closes : goal.returns-in-Ok-clause-closes

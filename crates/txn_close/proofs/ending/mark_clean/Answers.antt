@@ -1,7 +1,7 @@
 use Rattle.std.proofs.Common.{◌≡◌, true, false, None, Some, sym, ap, subst, refl, ◌∙◌}
 use Rattle.std.specs.Prelude.{IsSome}
 use Rattle.store_model.proofs.Told.{true≢false}
-use Rattle.txn_core.specs.Turns.{HasNext}
+use Rattle.txn_core.specs.Turns.{HasNext, IsLast}
 use Rattle.txn_model.specs.Values.{StoreFacts}
 use Rattle.txn_model.specs.Calls.{noted_facts}
 use Rattle.txn_state.specs.States.{facts_of}
@@ -9,9 +9,9 @@ use Rattle.txn_laws.specs.Windows.{AfterWrite}
 use Rattle.txn_core.specs.Seen.{Seen}
 use Rattle.txn_close.specs.Rests.{IsDrained}
 use Rattle.txn_close.specs.Passing.{Goes}
-use Rattle.txn_close.proofs.Passing.{goes_joined}
-use Rattle.txn_close.proofs.Turning.{fewer_at, spares_written, goes_in_memory}
-use Rattle.txn_close.proofs.Ended.{begun_drained, then_at_rest, at_ok, never_unmarked}
+use Rattle.txn_close.proofs.Passing.{goes_joined, goes_to_end, goes_from}
+use Rattle.txn_close.proofs.Turning.{fewer_at, spares_written, seal_rises, rises_at, goes_in_memory}
+use Rattle.txn_close.proofs.Ended.{begun_drained, begun_last, then_at_rest, at_ok, never_unmarked}
 use Rattle.txn_close.proofs.Clean.{then_ends_clean, then_leaves_clean}
 use Rattle.txn_close.proofs.ending.mark_clean.Goals as goal
 
@@ -28,6 +28,9 @@ end_last-result-requires-clause-next g c =
     let yes : c.has_next.result ≡ true = search in
     subst (λ (s : Seen _). HasNext s.state.log) (sym c.closing-closing.ensures) (c.has_next.ensures.0 yes)
 
+pub end_last-result-requires-clause-last : goal.end_last-result-requires-clause-last
+end_last-result-requires-clause-last g c = subst (λ (s : Seen _). IsLast (facts_of s.state)) (sym c.closing-closing.ensures) (subst IsLast (sym c.begin_checkpoint.ensures.facts) (begun_last (facts_of c.args.store.state) c.requires.drained))
+
 pub returns-then-not-has_next-clause-marks : goal.returns-then-not-has_next-clause-marks
 returns-then-not-has_next-clause-marks g c = let none : c.has_next.result ≡ false = search in record {
   last = c.begin_checkpoint.new.self;
@@ -36,8 +39,10 @@ returns-then-not-has_next-clause-marks g c = let none : c.has_next.result ≡ fa
   clean = tt;
   leaves = tt;
   unmarked = λ e. record { drained = subst IsDrained (sym c.begin_checkpoint.ensures.facts) (begun_drained (facts_of c.args.store.state) c.requires.drained); last = λ next. true≢false (sym (c.has_next.ensures.1 next) ∙ none) };
-  goes = goes_in_memory g.D.Device.gives g.D.Device.sector_count g.D.Device.moment_of g.D.Device.changes_of c.args.store c.begin_checkpoint.new.self (facts_of c.args.store.state) AfterWrite c.begin_checkpoint.ensures.device
-      (fewer_at (facts_of c.args.store.state) (facts_of c.begin_checkpoint.new.self.state) _ c.begin_checkpoint.ensures.facts (record { dirty = λ b is. is; dead = λ b is. is })) (spares_written (facts_of c.args.store.state)) c.begin_checkpoint.ensures.step;
+  goes = goes_to_end g.D.Device.sector_count g.D.Device.moment_of g.D.Device.changes_of (facts_of c.args.store.state) c.args.store c.begin_checkpoint.new.self
+      (goes_in_memory g.D.Device.gives g.D.Device.sector_count g.D.Device.moment_of g.D.Device.changes_of c.args.store c.begin_checkpoint.new.self (facts_of c.args.store.state) AfterWrite c.begin_checkpoint.ensures.device
+      (fewer_at (facts_of c.args.store.state) (facts_of c.begin_checkpoint.new.self.state) _ c.begin_checkpoint.ensures.facts (record { dirty = λ b is. is; dead = λ b is. is })) (spares_written (facts_of c.args.store.state))
+      (rises_at (facts_of c.args.store.state) (facts_of c.begin_checkpoint.new.self.state) _ c.begin_checkpoint.ensures.facts (seal_rises c.args.store.state.log)) c.begin_checkpoint.ensures.step);
 }
 
 pub returns-clause-marks : goal.returns-clause-marks
@@ -52,7 +57,8 @@ returns-clause-marks g c =
     let noted = subst (λ (x : StoreFacts). x.noted ≡ Some x.log.sealed) (sym begun) refl in
     let first = subst (λ (s : Seen _). Goes g.D.Device.sector_count g.D.Device.moment_of g.D.Device.changes_of (facts_of old.state) old s) (sym same)
     (goes_in_memory g.D.Device.gives g.D.Device.sector_count g.D.Device.moment_of g.D.Device.changes_of old c.begin_checkpoint.new.self (facts_of old.state) AfterWrite c.begin_checkpoint.ensures.device
-    (fewer_at (facts_of old.state) (facts_of c.begin_checkpoint.new.self.state) _ c.begin_checkpoint.ensures.facts (record { dirty = λ b is. is; dead = λ b is. is })) (spares_written (facts_of old.state)) c.begin_checkpoint.ensures.step) in
+    (fewer_at (facts_of old.state) (facts_of c.begin_checkpoint.new.self.state) _ c.begin_checkpoint.ensures.facts (record { dirty = λ b is. is; dead = λ b is. is })) (spares_written (facts_of old.state))
+    (rises_at (facts_of old.state) (facts_of c.begin_checkpoint.new.self.state) _ c.begin_checkpoint.ensures.facts (seal_rises old.state.log)) c.begin_checkpoint.ensures.step) in
     record {
       last = last;
       gave = search;
@@ -61,5 +67,5 @@ returns-clause-marks g c =
       leaves = then_leaves_clean g.D.Device.gives g.D.Device.sector_count g.D.Device.moment_of g.D.Device.changes_of old mid last drained noted unsent (facts_of old.state) c.end_last-result.result (g.met.D.Device.seen mid.device) first c.end_last-result.ensures.ends
           (at_ok c.end_last-result.result (let yes : c.has_next.result ≡ true = search in subst (λ (s : Seen _). HasNext s.state.log) (sym same) (c.has_next.ensures.0 yes)));
       unmarked = never_unmarked c.end_last-result.result (facts_of last.state) c.end_last-result.ensures.fault;
-      goes = goes_joined g.D.Device.sector_count g.D.Device.moment_of g.D.Device.changes_of (facts_of old.state) old mid last first c.end_last-result.ensures.goes;
+      goes = goes_joined g.D.Device.sector_count g.D.Device.moment_of g.D.Device.changes_of (facts_of old.state) old mid last first (goes_from g.D.Device.sector_count g.D.Device.moment_of g.D.Device.changes_of (facts_of mid.state) mid last c.end_last-result.ensures.goes);
     }

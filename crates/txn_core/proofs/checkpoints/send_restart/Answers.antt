@@ -8,12 +8,12 @@ use Rattle.log_area.specs.Calls.{IsSentOrNot}
 use Rattle.txn_model.specs.Values.{StoreFacts}
 use Rattle.txn_model.specs.Calls.{front_lsn}
 use Rattle.txn_state.specs.States.{facts_of}
-use Rattle.txn_laws.specs.Windows.{Simulates, AfterWrite}
+use Rattle.txn_laws.specs.Windows.{SimulatesAs, AfterWrite}
 use Rattle.txn_core.specs.Tells.{TellsFront}
 use Rattle.txn_core.specs.Turns.{restart_facts}
 use Rattle.txn_core.proofs.Keeping.{stands_after}
 use Rattle.txn_core.proofs.AfterCalls.{restart_kept, restart_worded}
-use Rattle.txn_core.proofs.Restarting.{page_is, noted_number, front_oldest, front_is, may_end, may_send, front_named, page_sent, restart_result, restart_step, restart_front}
+use Rattle.txn_core.proofs.Restarting.{page_is, noted_number, front_oldest, front_is, may_close, may_end, may_send, front_named, page_sent, restart_result, restart_step, restart_front}
 use Rattle.txn_core.proofs.checkpoints.send_restart.Goals as goal
 
 pub write_restart-requires-clause-synced : goal.write_restart-requires-clause-synced
@@ -66,8 +66,9 @@ returns-clause-step g c =
     let made = subst (λ (r : Restart). OnErr c.write_restart.result (IfSome c.write_restart.new.self.log.sent (λ x. x.page ≡ r))) goes c.write_restart.ensures.page in
     let sent = subst (λ (r : Restart). IsSentOrNot g.D.Device.gives g.D.Device.changes_of g.D.Device.moment_of (sent_word f.log.sent) (sent_word c.write_restart.new.self.log.sent) (restart_sector f.log) (protected_bytes (restart_spelling r)) c.write_restart.result c.args.device.now c.write_restart.new.device) goes c.write_restart.ensures.sent in
     let end = may_end f c.requires.kept c.known.ensures may c.args.front c.requires.front in
-    let step = restart_step g.D.Device.gives g.D.Device.changes_of g.D.Device.moment_of (g.D.Device.sector_count c.args.device.now) may.0.0 c.args.clean f c.write_restart.result c.write_restart.new.self.log.sent c.args.device.now c.write_restart.new.device (g.met.D.Device.seen c.args.device.now) (g.met.D.Device.values c.write_restart.new.device) end page made sent in
-    subst (λ (h : StoreFacts). Simulates (g.D.Device.sector_count c.args.device.now) (g.D.Device.moment_of c.args.device.now) (g.D.Device.changes_of c.args.device.now) (g.D.Device.changes_of c.write_restart.new.device) f h AfterWrite) (sym facts) step
+    let close = may_close f c.requires.kept c.known.ensures may c.args.clean c.requires.last in
+    let step = restart_step g.D.Device.gives g.D.Device.changes_of g.D.Device.moment_of (g.D.Device.sector_count c.args.device.now) may.0.0 c.args.clean c.args.clean f c.write_restart.result c.write_restart.new.self.log.sent c.args.device.now c.write_restart.new.device (g.met.D.Device.seen c.args.device.now) (g.met.D.Device.values c.write_restart.new.device) end close page made sent in
+    subst (λ (h : StoreFacts). SimulatesAs c.args.clean (g.D.Device.sector_count c.args.device.now) (g.D.Device.moment_of c.args.device.now) (g.D.Device.changes_of c.args.device.now) (g.D.Device.changes_of c.write_restart.new.device) f h AfterWrite) (sym facts) step
 
 pub returns-clause-stands : goal.returns-clause-stands
 returns-clause-stands g c words stands =
@@ -81,7 +82,8 @@ returns-clause-stands g c words stands =
     let made = subst (λ (r : Restart). OnErr c.write_restart.result (IfSome c.write_restart.new.self.log.sent (λ x. x.page ≡ r))) goes c.write_restart.ensures.page in
     let sent = subst (λ (r : Restart). IsSentOrNot g.D.Device.gives g.D.Device.changes_of g.D.Device.moment_of (sent_word f.log.sent) (sent_word c.write_restart.new.self.log.sent) (restart_sector f.log) (protected_bytes (restart_spelling r)) c.write_restart.result c.args.device.now c.write_restart.new.device) goes c.write_restart.ensures.sent in
     let end = may_end f c.requires.kept c.known.ensures may c.args.front c.requires.front in
-    let step = restart_step g.D.Device.gives g.D.Device.changes_of g.D.Device.moment_of (g.D.Device.sector_count c.args.device.now) may.0.0 c.args.clean f c.write_restart.result c.write_restart.new.self.log.sent c.args.device.now c.write_restart.new.device (g.met.D.Device.seen c.args.device.now) (g.met.D.Device.values c.write_restart.new.device) end page made sent in
+    let close = may_close f c.requires.kept c.known.ensures may c.args.clean c.requires.last in
+    let step = restart_step g.D.Device.gives g.D.Device.changes_of g.D.Device.moment_of (g.D.Device.sector_count c.args.device.now) may.0.0 c.args.clean c.args.clean f c.write_restart.result c.write_restart.new.self.log.sent c.args.device.now c.write_restart.new.device (g.met.D.Device.seen c.args.device.now) (g.met.D.Device.values c.write_restart.new.device) end close page made sent in
     stands_after (g.D.Device.sector_count c.args.device.now) (g.D.Device.sector_count c.write_restart.new.device) (g.D.Device.moment_of c.args.device.now) (g.D.Device.changes_of c.args.device.now) (g.D.Device.changes_of c.write_restart.new.device)
     c.args.state.now c.write_restart.new.self words words (restart_facts c.write_restart.result c.write_restart.new.self.log.sent f) AfterWrite c.write_restart.ensures.sectors stands facts step
     (restart_kept c.write_restart.result c.write_restart.new.self.log.sent f c.requires.kept (subst (λ (n : ℕ). IsOldest f.log (front_lsn f.log n)) (sym page) (front_oldest f c.requires.kept c.known.ensures may))

@@ -4,9 +4,9 @@ use Rattle.txn_laws.proofs.laws.checkpoint_steps.Goals as goal
 
 pub returns : goal.returns
 returns g c = record {
-  renames = may_rename;
-  front = front_is_oldest;
-  name = λ count page word clean f old new sees sized may sent. names_page _ g.D.Device.changes_of g.D.Device.moment_of count page word clean f old new sees sized may sent;
-  name_fails = λ count page word clean f old new sees sized may fault sent. fails_to_name _ g.D.Device.changes_of g.D.Device.moment_of count page word clean f old new sees sized may fault sent;
-  sync = λ count f old new sized syncs. is_synced g.D.Device.changes_of g.D.Device.moment_of count f old new sized syncs;
+  renames = λ ends f page disk m h may. may_rename f page disk m h may;
+  front = λ ends f page disk m h may. front_is_oldest f page disk m h may;
+  name = λ ends count page word clean f old new sees sized may close sent. names_page _ g.D.Device.changes_of g.D.Device.moment_of count page word ends clean f old new sees sized may close sent;
+  name_fails = λ ends count page word clean f old new sees sized may close fault sent. fails_to_name _ g.D.Device.changes_of g.D.Device.moment_of count page word ends clean f old new sees sized may close fault sent;
+  sync = λ ends count f old new sized syncs. is_synced g.D.Device.changes_of g.D.Device.moment_of count f old new sized syncs;
 }

@@ -8,4 +8,4 @@ returns-in_err-loaded-clause-answer g c =
     rw (p.1, p.2) (opening_fails _ c.args.opening _ c.in_err-loaded.ensures.answer)
 
 pub returns-clause-answer : goal.returns-clause-answer
-returns-clause-answer g c = opening_is _ _ c.in_ok-loaded.ensures.answer c.in_ok-loaded.ensures.upper
+returns-clause-answer g c = opening_is _ _ c.in_ok-loaded.ensures.answer c.in_ok-loaded.ensures.upper c.in_ok-loaded.ensures.parts

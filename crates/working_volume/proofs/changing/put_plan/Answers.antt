@@ -4,7 +4,7 @@ use Rattle.std.proofs.lemmas.List.{nil_from_length}
 use Rattle.disk_model.specs.declared.block.Change.{Change}
 use Rattle.map_change.specs.Parts.{live_parts}
 use Rattle.txn_state.specs.States.{StateOf, facts_of, IsStore}
-use Rattle.volume_core.proofs.Sparing.{some_length}
+use Rattle.state_store.proofs.Sparing.{some_length}
 use Rattle.working_volume.proofs.Putting.{none_to_put}
 use Rattle.working_volume.proofs.changing.put_plan.Goals as goal
 

@@ -3,7 +3,7 @@ use Rattle.std.specs.Prelude.{IfSome, OnErr}
 use Rattle.txn_state.specs.States.{facts_of}
 use Rattle.txn_laws.specs.Windows.{AfterWrite}
 use Rattle.txn_core.specs.Seen.{Seen}
-use Rattle.txn_core.specs.Turns.{MayRestart, restart_page, restart_facts, SendsRestartPage}
+use Rattle.txn_core.specs.Turns.{MayRestart, IsLast, restart_page, restart_facts, SendsRestartPage}
 use Rattle.txn_core.proofs.Keeping.{step_of}
 use Rattle.txn_core.proofs.closing.Closing.write_restart.Goals as goal
 
@@ -13,6 +13,7 @@ send_restart-requires g c = record {
   kept = c.self.invariant.0.kept;
   front = c.self.invariant.1;
   may = subst (λ (s : Seen _). MayRestart (facts_of s.state)) (sym c.self.view_is) c.requires.may;
+  last = λ is. subst (λ (s : Seen _). IsLast (facts_of s.state)) (sym c.self.view_is) c.requires.last;
 }
 
 pub returns-clause-facts : goal.returns-clause-facts

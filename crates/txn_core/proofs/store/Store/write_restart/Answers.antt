@@ -14,6 +14,7 @@ send_restart-requires g c = record {
   kept = c.self.invariant.0.kept;
   front = c.self.invariant.1.front;
   may = subst (λ (s : Seen _). MayRestart (facts_of s.state)) (sym c.self.view_is) c.requires.may;
+  last = λ is. absurd cc;
 }
 
 pub returns-clause-facts : goal.returns-clause-facts

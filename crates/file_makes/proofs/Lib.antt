@@ -1,0 +1,3 @@
+pub mod Lsns
+pub mod Fitting
+pub mod Joins

@@ -1,0 +1,23 @@
+//! A file that is made in a plan while that is made: its record, the bit of its number, its entry in
+//! the index of its directory, and the directory's record.
+//!
+//! The contract: what is put are the definitions' bodies, one after the other, and a refusal is the
+//! room that the directory's record lacks. The layouts are those of the Linux-NTFS documentation,
+//! "FILE Record", "$INDEX_ROOT", "Index Record" and "$Bitmap".
+#![tactic(auto)]
+
+mod lsn;
+mod making;
+mod newfile;
+mod nodes;
+mod puts;
+
+pub use block_view::View;
+pub use draft_records::DraftFault;
+pub use file_puts::VolumeStreams;
+pub use file_record::FileRec;
+pub use index_change::{DirPlace, NodesPlan};
+pub use making::make_file;
+pub use newfile::NewFile;
+pub use plan_draft::Draft;
+pub use state_model::{ClusterSize, Extents};

@@ -1,0 +1,4 @@
+pub mod Roots
+pub mod Nodes
+pub mod Bits
+pub mod Making

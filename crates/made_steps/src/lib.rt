@@ -1,0 +1,8 @@
+//! From a file that a draft has put behind its directory's times to the step of its content.
+//!
+//! The contract: the laws of these definitions, as functions with no body.
+#![tactic(auto)]
+
+mod laws;
+
+pub use laws::made_files_are_steps;

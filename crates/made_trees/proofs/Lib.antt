@@ -1,0 +1,3 @@
+pub mod Infos
+pub mod Going
+pub mod Leaving

@@ -1,0 +1,9 @@
+//! A file that a draft has put behind its directory's times: the draft stands for the next state, of
+//! which the tree has the file.
+//!
+//! The contract: the laws of these definitions, as functions with no body.
+#![tactic(auto)]
+
+mod laws;
+
+pub use laws::{made_files_are_left, made_files_are_trees};

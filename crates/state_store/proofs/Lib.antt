@@ -1,0 +1,13 @@
+pub mod Claiming
+pub mod Lists
+pub mod Contents
+pub mod Logged
+pub mod Windowed
+pub mod Going
+pub mod Roomy
+pub mod Reading
+pub mod Following
+pub mod Marking
+pub mod Sparing
+pub mod Outcomes
+pub mod Turned

@@ -1,0 +1,10 @@
+pub mod Volumes
+pub mod Changes
+pub mod Rooms
+pub mod Claims
+pub mod Windows
+pub mod Logging
+pub mod Preparing
+pub mod Puts
+pub mod Turns
+pub mod Spared

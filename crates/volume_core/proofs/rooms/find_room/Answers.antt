@@ -1,7 +1,0 @@
-use Rattle.txn_state.specs.States.{facts_of}
-use Rattle.volume_core.proofs.Roomy.{is_short}
-use Rattle.volume_core.proofs.rooms.find_room.Goals as goal
-
-pub returns-clause-answer : goal.returns-clause-answer
-returns-clause-answer g c =
-    is_short (facts_of c.args.store.now.state) c.args.changes.now c.in_ok-pages.pages c.free_pages.result c.in_ok-pages.ensures c.free_pages.ensures c.known.ensures.order.pages_some c.requires.number (c.has_room.ensures.lacks c.if-has_room.false)

@@ -1,0 +1,67 @@
+//! Operations that write, fill or cut a file of a volume.
+ghost use Rattle.std.specs.Prelude.{◌≡◌, true, None, Err, Ok};
+ghost use Rattle.host_base.specs.Causes.{HasFailed};
+ghost use Rattle.tree_model.specs.declared.reply.Reply.TheVariants as replies;
+ghost use Rattle.tree_model.specs.Steps.{IsWithinBounds};
+ghost use Rattle.change_plan.specs.States.{is_data_change};
+ghost use Rattle.txn_state.specs.States.{facts_of};
+ghost use Rattle.state_store.specs.Rooms.{MayNumber};
+ghost use Rattle.working_volume.specs.declared.fault.DoFault.TheVariants as do_faults;
+ghost use Rattle.working_volume.specs.Doing.{Does};
+ghost use Rattle.volume_core.specs.Volumes.{volume_tree};
+ghost use Rattle.volume_core.specs.Trees.{StepsTree};
+ghost use Rattle.volume_core.specs.Calls.{GoesOn};
+
+use crate::volume::Volume;
+use change_plan::{Op, Reply};
+use crash_trees::{trees_mount, trees_put};
+use sector_device::Device;
+use std::alloc::Global;
+use step_model::{steps_of_trees, steps_stay};
+use working_volume::{DoFault, change_over};
+
+impl<D: Device> Volume<D> {
+    /// Does an operation that writes, fills or cuts a file. `stamp` is the time of the change, in
+    /// units of 100 ns since 1601-01-01. The device is only read: the changes are one transaction of
+    /// the store, which its steps make durable.
+    ///
+    /// From a state the reply and the content are those of the operation's step, and so is the tree. A failure of the
+    /// device and want of memory are replies, and leave the content as it is.
+    ///
+    /// - [`DoFault::NeedsRoom`]: the log has no room for the changes.
+    /// - [`DoFault::Unknown`]: what was read is part of no state of the volume; only where what the
+    ///   device gives isn't known.
+    ///
+    /// After each of them content and map are as before. Where the operation is done with changes, the
+    /// volume has one tree more that a crash may bring back. The costs are those of
+    /// [`working_volume::change_over`].
+    pub fn change(&mut self, alloc: Global, op: &Op, stamp: u64) -> Result<Reply, DoFault>
+        requires number { MayNumber (facts_of self.old.store.state) }
+        requires changes { is_data_change op.now ≡ true }
+        requires bounds { IsWithinBounds op.now }
+        ensures does { Does op.now stamp self.old.table self.old.streams result (D.gives self.old.store.device) (D.gives self.new.store.device) self.old.store.state self.new.store.state (D.changes_of self.old.store.device) (D.changes_of self.new.store.device) self.old.map self.new.map }
+        ensures tree { StepsTree self.old.table op.now stamp result (volume_tree D.gives self.old) (volume_tree D.gives self.new) }
+        ensures table { self.new.table ≡ self.old.table }
+        ensures streams { self.new.streams ≡ self.old.streams }
+        ensures unknown { result ≡ Err do_faults.Unknown → D.gives self.old.store.device ≡ None }
+        ensures fault { result ≡ Ok replies.Fault → HasFailed (D.fault_count self.old.store.device) (D.fault_count self.new.store.device) (D.moment_of self.new.store.device) }
+        ensures history { GoesOn D.gives D.sector_count D.changes_of self.old self.new }
+        ensures sectors { D.sector_count self.new.store.device ≡ D.sector_count self.old.store.device }
+    {
+        steps_of_trees();
+        steps_stay();
+        trees_mount();
+        trees_put();
+        change_over(
+            &mut self.store,
+            &mut self.live,
+            &mut self.room,
+            alloc,
+            &self.names,
+            &self.upper,
+            &self.streams,
+            op,
+            stamp,
+        )
+    }
+}

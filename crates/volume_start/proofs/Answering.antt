@@ -1,0 +1,136 @@
+-- What a start answers, by what both mounts do.
+use Rattle.std.proofs.Common.{◌≡◌, ℕ, List, length, Option, Some, None, Result, Ok, Err, refl, sym, ap, subst, ◌∙◌, inl, inr}
+use Rattle.std.specs.Prelude.{IfSome, IfOk}
+use Rattle.host_base.specs.Answers.{ExplainsOrFails}
+use Rattle.disk_model.specs.Sectors.{sector_of}
+use Rattle.disk_model.specs.Content.{content_of}
+use Rattle.sector_device.specs.Disks.{IsSettled}
+use Rattle.sector_device.specs.Moments.{Changes}
+use Rattle.device_view.specs.Devices.{KeepsDevice}
+use Rattle.map_change.specs.Parts.{MapParts, parts_in, geometry_in}
+use Rattle.log_page.specs.declared.places.LogPlace.{LogPlace}
+use Rattle.log_area.specs.Areas.{new_area}
+use Rattle.log_recovery.specs.Writing.{to_write_in}
+use Rattle.file_puts.specs.declared.streams.VolumeStreams.{VolumeStreams}
+use Rattle.image_open.specs.declared.refusal.Refusal.{Refusal}
+use Rattle.image_open.specs.declared.refusal.MountFault.{MountFault}
+use Rattle.image_open.specs.declared.refusal.MountFault.TheVariants as mounts
+use Rattle.image_open.specs.Errors.{scan_cause}
+use Rattle.image_open.specs.LogPlaces.{LieAlike}
+use Rattle.image_open.specs.Writing.{found_by}
+use Rattle.image_open.proofs.Alike.{to_write_alike}
+use Rattle.volume_mount.specs.declared.mounted.Mounted.{Mounted}
+use Rattle.volume_mount.specs.Answers.{MountsAs}
+use Rattle.volume_mount.specs.Mounts.{mounted_of}
+use Rattle.txn_model.specs.Values.{StoreFacts}
+use Rattle.txn_model.specs.Calls.{first_facts}
+use Rattle.txn_state.specs.States.{StateOf}
+use Rattle.txn_mount.specs.declared.fault.StoreFault.{StoreFault}
+use Rattle.txn_mount.specs.declared.fault.StoreFault.TheVariants as stores
+use Rattle.txn_mount.specs.Faults.{store_cause}
+use Rattle.safe_blocks.specs.Safe.{MountsHoldStates}
+use Rattle.mounted_states.proofs.Opened.{mounted_parts, on_sectors}
+use Rattle.volume_start.specs.declared.fault.StartFault.{StartFault}
+use Rattle.volume_start.specs.declared.fault.StartFault.TheVariants.{Refused, Device}
+use Rattle.volume_start.specs.declared.plan.StartPlan.{StartPlan}
+use Rattle.volume_start.specs.Faults.{start_fault, fault_of_store}
+use Rattle.volume_start.specs.Fitting.{FitsStart}
+use Rattle.volume_start.specs.Plans.{PlansFrom, PlansOn}
+use Rattle.volume_start.specs.Starts.{StartsOn, BeginsAnywhere, RefusesAs, IsInMemory}
+use Rattle.volume_start.proofs.Beginning.{Meant, meant_by, map_of_meant}
+
+-- ---- refusals
+
+same_refusal : (r s : Refusal) → Refused r ≡ Refused s → r ≡ s
+same_refusal r s is = cc
+
+not_ok : {A F : Type 0} (r : Result A F) (x : A) (e : F) → r ≡ Ok x → r ≡ Err e → ⊥
+not_ok r x e is other = cc
+
+-- a refusal of the volume's mount is the one that is meant
+pub mount_refuses : (first : List (List ℕ)) (fault : MountFault) → ExplainsOrFails (scan_cause fault) (mounted_of first) → RefusesAs first (start_fault fault)
+mount_refuses first (mounts.Refused r) is refusal same = is ∙ ap (λ (x : Refusal). Err x) (same_refusal r refusal same)
+mount_refuses first mounts.Device is refusal same = absurd cc
+mount_refuses first mounts.Memory is refusal same = absurd cc
+
+-- what is taken in memory is never refused
+pub memory_refuses : (first : List (List ℕ)) (fault : StartFault) → IsInMemory fault → RefusesAs first fault
+memory_refuses first fault (inl memory) refusal same = absurd cc
+memory_refuses first fault (inr (inl unfit)) refusal same = absurd cc
+memory_refuses first fault (inr (inr unknown)) refusal same = absurd cc
+
+-- and never a failure of the device
+pub memory_fails : (fault : StartFault) → IsInMemory fault → fault ≡ Device → ⊥
+memory_fails fault (inl memory) same = cc
+memory_fails fault (inr (inl unfit)) same = cc
+memory_fails fault (inr (inr unknown)) same = cc
+
+module _ (law : MountsHoldStates) (first : List (List ℕ)) (plan : StartPlan) (count : ℕ) (fits : FitsStart count plan.place) (on : PlansOn first plan) where
+  found : Meant first on.mounted
+  found = meant_by first on.mounted (mounted_of first) refl on.mounts
+
+  alike : LieAlike plan.place found.meant.opened.place
+  alike = subst (λ (p : LogPlace). LieAlike p found.meant.opened.place) (sym on.of.place) found.mounts.opened.place
+
+  abbrev as_meant : StoreFacts
+  as_meant = first_facts plan.place (new_area plan.place 0 0 0) (found_by found.meant.opened.geometry)
+
+  volume_is : parts_in plan.live.map ≡ parts_in on.mounted.map
+  volume_is = ap parts_in on.of.live
+
+  geometry_is : geometry_in plan.live.map ≡ found.meant.opened.geometry
+  geometry_is =
+      let map = volume_is ∙ map_of_meant (content_of (sector_of first)) found.meant on.mounted found.mounts in
+      (law.geometry (content_of (sector_of first)) (length first) found.meant as_meant (parts_in plan.live.map) (on_sectors first found.meant found.is) (record { place = alike; found = refl; small = fits.ring.small }) (ap (λ (q : MapParts). q.volume) map)).0
+
+  kept_is : plan.kept.items ≡ found_by found.meant.opened.geometry
+  kept_is = on.of.kept ∙ ap (λ x. found_by (geometry_in x)) (sym on.of.live) ∙ ap found_by geometry_is
+
+  reads : to_write_in (content_of (sector_of first)) plan.place plan.kept.items ≡ Ok found.meant.opened.state
+  reads =
+      ap (to_write_in (content_of (sector_of first)) plan.place) kept_is
+      ∙ to_write_alike (content_of (sector_of first)) plan.place found.meant.opened.place alike (found_by found.meant.opened.geometry)
+      ∙ (mounted_parts (content_of (sector_of first)) (length first) found.meant (on_sectors first found.meant found.is)).read
+
+  -- the store's mount refuses nothing that the volume's took
+  pub store_refuses : (fault : StoreFault) → ExplainsOrFails (store_cause fault) (to_write_in (content_of (sector_of first)) plan.place plan.kept.items) → RefusesAs first (fault_of_store fault)
+  store_refuses (stores.Refused r) is refusal same = absurd (not_ok (to_write_in (content_of (sector_of first)) plan.place plan.kept.items) found.meant.opened.state r reads is)
+  store_refuses stores.Fault is refusal same = absurd cc
+  store_refuses stores.Memory is refusal same = absurd cc
+  store_refuses stores.Broken is refusal same = absurd cc
+
+-- ---- failures
+
+-- a failure of the device is one of the store's mount
+pub store_fails : (fault : StoreFault) → fault_of_store fault ≡ Device → fault ≡ stores.Fault
+store_fails stores.Fault is = refl
+store_fails (stores.Refused r) is = absurd cc
+store_fails stores.Memory is = absurd cc
+store_fails stores.Broken is = absurd cc
+
+pub mount_fails : (fault : MountFault) → start_fault fault ≡ Device → fault ≡ mounts.Device
+mount_fails mounts.Device is = refl
+mount_fails (mounts.Refused r) is = absurd cc
+mount_fails mounts.Memory is = absurd cc
+
+-- ---- behind a device that was only read
+
+pub starts_behind : {D : Type 0} (gives : D → Option (List (List ℕ))) (count : D → ℕ) (changes : D → Changes) (faults : D → ℕ) (old mid new : D) (state : StateOf) (p : MapParts) (table : List ℕ) (s : VolumeStreams) → KeepsDevice gives count changes faults old mid
+    → StartsOn gives count changes mid new state p table s → StartsOn gives count changes old new state p table s
+starts_behind gives count changes faults old mid new state p table s kept starts first known settled = starts first (kept.same ∙ known) (subst (λ (x : Changes). IfSome x.disk IsSettled) (sym kept.unchanged) settled)
+
+pub anywhere_behind : {D : Type 0} (gives : D → Option (List (List ℕ))) (count : D → ℕ) (changes : D → Changes) (faults : D → ℕ) (old mid new : D) (state : StateOf) → KeepsDevice gives count changes faults old mid → BeginsAnywhere (gives mid) (gives new) state
+    → BeginsAnywhere (gives old) (gives new) state
+anywhere_behind gives count changes faults old mid new state kept begins = subst (λ (o : Option (List (List ℕ))). BeginsAnywhere o (gives new) state) kept.same begins
+
+-- ---- answers
+
+pub ok_more : {A E : Type 0} (r : Result A E) (P Q : A → Type 0) → ((x : A) → P x → Q x) → IfOk r P → IfOk r Q
+ok_more (Ok x) P Q more is = more x is
+ok_more (Err e) P Q more is = tt
+
+-- what is in memory is of what was mounted
+pub plans_on : (known : Option (List (List ℕ))) (mounted : Mounted) (r : Result StartPlan StartFault) → IfSome known (λ first. MountsAs (content_of (sector_of first)) (mounted_of first) (Ok mounted)) → IfOk r (PlansFrom mounted) → IfSome known (λ first. IfOk r (PlansOn first))
+plans_on None mounted r mounts plan = tt
+plans_on (Some first) mounted (Ok p) mounts plan = record { mounted = mounted; mounts = mounts; of = plan }
+plans_on (Some first) mounted (Err e) mounts plan = tt

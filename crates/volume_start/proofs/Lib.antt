@@ -1,0 +1,5 @@
+mod Sums
+mod Fitted
+mod Beginning
+mod Anywhere
+mod Answering

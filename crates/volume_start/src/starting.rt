@@ -1,0 +1,121 @@
+//! A volume is started.
+ghost use Rattle.std.specs.Prelude.{◌≡◌, length, IfOk, IfErr, IfSome};
+ghost use Rattle.host_base.specs.Causes.{HasFailed};
+ghost use Rattle.map_change.specs.Parts.{live_parts};
+ghost use Rattle.volume_tree.specs.Named.{AreNamesOf};
+ghost use Rattle.volume_start.specs.Faults.{device_behind};
+ghost use Rattle.volume_start.specs.Plans.{PlansOn, FitsPlan};
+ghost use Rattle.volume_start.specs.Starts.{StartsOn, BeginsAnywhere, RefusesAs};
+ghost use Rattle.volume_start.specs.declared.fault.StartFault.TheVariants as faults;
+
+use crate::fault::StartFault;
+use crate::plan::{StartPlan, prepare};
+use file_puts::VolumeStreams;
+use map_change::LiveMap;
+use mounted_states::{
+    all_put_out, found_lie_off, stores_begin, stores_keep_found, stores_may_be_changed,
+    stores_show_mounted,
+};
+use plan_edits::state_has_bitmap;
+use safe_blocks::mounts_hold_states;
+use sector_device::Device;
+use std::alloc::Global;
+use txn_core::Store;
+use upcase_order::Upcase;
+use volume_tree::Names;
+
+/// A volume that takes changes.
+#[derive(Drop)]
+pub struct Started<D: Device> {
+    /// The store, at its start, on the device.
+    pub store: Store<D>,
+    /// The volume as it is loaded, which follows its changes.
+    pub live: LiveMap,
+    /// Its table of upper-case units.
+    pub upper: Upcase,
+    /// The names of its files.
+    pub names: Names,
+    /// The streams of its file table, of the table's mirror and of the bits of its clusters.
+    pub streams: VolumeStreams,
+    /// Room for a piece of the device.
+    pub room: Vec<u8>,
+}
+
+// Mounts the store of a volume of which all else is in memory.
+fn begin<D: Device>(
+    alloc: Global,
+    device: D,
+    plan: StartPlan,
+) -> Result<Started<D>, (StartFault, D)>
+    requires fits { FitsPlan (D.sector_count device) plan }
+    requires on { IfSome (D.gives device) (λ first. PlansOn first plan) }
+    ensures starts { IfOk result (λ s. StartsOn D.gives D.sector_count D.changes_of device s.store.device s.store.state (live_parts s.live) s.upper s.streams) }
+    ensures anywhere { IfOk result (λ s. BeginsAnywhere (D.gives device) (D.gives s.store.device) s.store.state) }
+    ensures named { IfOk result (λ s. AreNamesOf s.names s.live.map.files.items) }
+    ensures sized { IfOk result (λ s. length s.room.items ≡ 65536) }
+    ensures sectors { D.sector_count (device_behind result (λ s. s.store.device)) ≡ D.sector_count device }
+    ensures fault { IfErr result (λ e. e.0 ≡ faults.Device → HasFailed (D.fault_count device) (D.fault_count e.1) (D.moment_of e.1)) }
+    ensures refused { IfSome (D.gives device) (λ first. IfErr result (λ e. RefusesAs first e.0)) }
+{
+    all_put_out();
+    found_lie_off();
+    mounts_hold_states();
+    state_has_bitmap();
+    stores_begin();
+    stores_keep_found(&device);
+    stores_may_be_changed();
+    stores_show_mounted();
+    let StartPlan {
+        place,
+        kept,
+        live,
+        upper,
+        names,
+        streams,
+        room,
+    } = plan;
+    match txn_mount::mount(alloc, device, place, kept) {
+        Ok(mounted) => {
+            let store = mounted.store;
+            store.state().known();
+            Ok(Started {
+                store,
+                live,
+                upper,
+                names,
+                streams,
+                room,
+            })
+        }
+        Err((fault, device)) => Err((StartFault::from(fault), device)),
+    }
+}
+
+/// Starts the volume on the device: mounts it ([`volume_mount::mount`]), takes all memory that
+/// operations need, and then mounts a store where it lies ([`txn_mount::mount`]), which recovers it
+/// by its log and opens a session there.
+///
+/// It costs what both mounts do. Each error gives the device back.
+/// - [`StartFault::Refused`]: the volume isn't mounted, with the mount's first refusal; the device
+///   was only read.
+/// - [`StartFault::Device`]: the device failed.
+/// - [`StartFault::Memory`]: want of memory, before anything was written.
+/// - [`StartFault::Unfit`]: the bits of the volume's clusters don't all lie in clusters below their
+///   initialised size, or the log has a torn block that has its recovered bytes already, for which
+///   no bytes of a disk stand untorn; nothing was written.
+/// - [`StartFault::Unknown`]: no session may be written where the log was found; nothing was
+///   written.
+pub fn start<D: Device>(alloc: Global, mut device: D) -> Result<Started<D>, (StartFault, D)>
+    ensures starts { IfOk result (λ s. StartsOn D.gives D.sector_count D.changes_of device s.store.device s.store.state (live_parts s.live) s.upper s.streams) }
+    ensures anywhere { IfOk result (λ s. BeginsAnywhere (D.gives device) (D.gives s.store.device) s.store.state) }
+    ensures named { IfOk result (λ s. AreNamesOf s.names s.live.map.files.items) }
+    ensures sized { IfOk result (λ s. length s.room.items ≡ 65536) }
+    ensures sectors { D.sector_count (device_behind result (λ s. s.store.device)) ≡ D.sector_count device }
+    ensures fault { IfErr result (λ e. e.0 ≡ faults.Device → HasFailed (D.fault_count device) (D.fault_count e.1) (D.moment_of e.1)) }
+    ensures refused { IfSome (D.gives device) (λ first. IfErr result (λ e. RefusesAs first e.0)) }
+{
+    match prepare(alloc, &mut device) {
+        Ok(plan) => begin(alloc, device, plan),
+        Err(fault) => Err((fault, device)),
+    }
+}

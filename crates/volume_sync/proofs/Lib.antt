@@ -1,0 +1,4 @@
+pub mod Laps
+pub mod Runs
+pub mod Syncs
+pub mod Rooms
